@@ -1,0 +1,108 @@
+// Big-endian numbers in byte slices.
+ghost use mathlib.Core.Path.{_≡_};
+ghost use Rattle.big_endian.specs.Fields.{field, bytes, placed};
+
+fn wide(x: u8) -> u16
+    ensures { λ r. ⌜ r ≡ x ⌝ }
+{
+    x as u16
+}
+
+// The byte at a place; 0 past the end.
+pub fn get1(s: &[u8], at: usize) -> u8
+    ensures { λ r. ⌜ r ≡ field (now (s .entry)) at 1 ⌝ }
+{
+    if at < s.len() { s[at] } else { 0 }
+}
+
+// The number that two bytes spell; those past the end count as 0.
+pub fn get2(s: &[u8], at: usize) -> u16
+    ensures { λ r. ⌜ r ≡ field (now (s .entry)) at 2 ⌝ }
+{
+    if s.len() <= at {
+        return 0;
+    }
+    wide(get1(s, at)) * 256 + wide(get1(s, at + 1))
+}
+
+// The number that four bytes spell; those past the end count as 0.
+pub fn get4(s: &[u8], at: usize) -> u32
+    ensures { λ r. ⌜ r ≡ field (now (s .entry)) at 4 ⌝ }
+{
+    if s.len() <= at {
+        return 0;
+    }
+    let high = get2(s, at) as u32 * 65536;
+    if s.len() - at <= 2 {
+        return high;
+    }
+    high + get2(s, at + 2) as u32
+}
+
+// The number that eight bytes spell; those past the end count as 0.
+pub fn get8(s: &[u8], at: usize) -> u64
+    ensures { λ r. ⌜ r ≡ field (now (s .entry)) at 8 ⌝ }
+{
+    if s.len() <= at {
+        return 0;
+    }
+    let high = get4(s, at) as u64 * 0x1_0000_0000;
+    if s.len() - at <= 4 {
+        return high;
+    }
+    high + get4(s, at + 4) as u64
+}
+
+// Writes the low byte of a number; nothing past the end.
+pub fn put1(buf: &mut [u8], at: usize, v: u64)
+    ensures { λ r. ⌜ now (buf .exit) ≡ placed (now (buf .entry)) at (bytes 1 v) ⌝ }
+{
+    if at < buf.len() {
+        buf[at] = (v % 256) as u8;
+    }
+}
+
+// Writes the two low bytes of a number, the higher first; nothing where they don't fit.
+pub fn put2(buf: &mut [u8], at: usize, v: u64)
+    ensures { λ r. ⌜ now (buf .exit) ≡ placed (now (buf .entry)) at (bytes 2 v) ⌝ }
+{
+    let n = buf.len();
+    if n < 2 {
+        return;
+    }
+    if n - 2 < at {
+        return;
+    }
+    put1(buf, at, v / 256);
+    put1(buf, at + 1, v);
+}
+
+// Writes the four low bytes of a number, the highest first; nothing where they don't fit.
+pub fn put4(buf: &mut [u8], at: usize, v: u64)
+    ensures { λ r. ⌜ now (buf .exit) ≡ placed (now (buf .entry)) at (bytes 4 v) ⌝ }
+{
+    let n = buf.len();
+    if n < 4 {
+        return;
+    }
+    if n - 4 < at {
+        return;
+    }
+    put2(buf, at, v / 65536);
+    put2(buf, at + 2, v);
+}
+
+// Writes the eight bytes of a number, the highest first; nothing where they don't fit.
+pub fn put8(buf: &mut [u8], at: usize, v: u64)
+    ensures { λ r. ⌜ now (buf .exit) ≡ placed (now (buf .entry)) at (bytes 8 v) ⌝ }
+{
+    let n = buf.len();
+    if n < 8 {
+        return;
+    }
+    if n - 8 < at {
+        return;
+    }
+    put4(buf, at, v / 0x1_0000_0000);
+    put4(buf, at + 4, v);
+}

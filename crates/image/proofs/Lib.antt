@@ -1,0 +1,9 @@
+pub mod Tables
+pub mod Floats
+pub mod Points
+pub mod Curves
+pub mod Relations
+pub mod Plain
+pub mod Headers
+pub mod Trips
+pub mod Spelled

@@ -1,0 +1,18 @@
+use borrow.Author.Tests.{lt-leb, le-leb, lt-ltb, le-ltb, eq-eqb, ne-eqb}
+use borrow.Author.Needs.{needs}
+use native.Mathlib.Omega.{arith}
+use Rattle.image.proofs.records.kept_slots.Statement.{statement}
+use Rattle.image.proofs.records.kept_slots.Tie as tie
+use Rattle.image.proofs.records.kept_slots.Reads as reads
+use Rattle.image.proofs.records.kept_slots.Lts as lts
+
+-- src/records.rt:89:9
+returns : tie.Need-returns
+returns c = simp (eq-eqb _ 4 (c .if1 .taken))
+
+-- src/records.rt:85:1
+returns-2 : tie.Need-returns-2
+returns-2 c = simp (ne-eqb _ 4 (c .if1 .left))
+
+pub kept-slots-spec : {M : Type 1} → statement M
+kept-slots-spec = tie.close (tie.spec returns returns-2)

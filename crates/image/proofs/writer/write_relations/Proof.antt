@@ -1,0 +1,94 @@
+use Rattle.sketch.specs.Lists.{spread}
+use Rattle.big_endian.specs.Fields.{over}
+use Rattle.image.proofs.Relations.{length-relation}
+use Rattle.image.specs.Encode.{encodeRelation}
+use Rattle.sketch.specs.Valid.{okRelation}
+use Rattle.sketch.specs.declared.RelationSlot.{RelationSlot}
+use lib.Seq.{take-all}
+use lib.ListN.{length, take, drop, getD}
+use Prim.Native.Nat.{_≤_, _<_, _+_, _*_, _-_}
+use mathlib.Core.List.{List, _∷_, [], map, map-append}
+use Rattle.image.proofs.Tables.{Writing, writing-starts, writing-turns, every-at, every-map}
+use borrow.Author.Tests.{not-true, not-false}
+use mathlib.Core.Path.{_≡_, refl, sym, ap, _∙_, subst}
+use borrow.Author.Needs.{needs}
+use native.Mathlib.Omega.{arith}
+use Rattle.image.proofs.writer.write_relations.Statement.{statement}
+use Rattle.image.proofs.writer.write_relations.Tie as tie
+use Rattle.image.proofs.writer.write_relations.Reads as reads
+use Rattle.image.proofs.writer.write_relations.Lts as lts
+use Rattle.image.proofs.writer.write_relation.Reads as write-relation-reads
+
+abbrev Inv-loop : tie.InvT-loop
+Inv-loop buf₀ from n relations i₀ buf i = (i ≤ n) × (length relations ≡ 256) × Writing encodeRelation 17 (λ (l : List RelationSlot). map (λ t. t .relation) l) (λ t. t .relation) (λ l x. map-append (λ t. t .relation) l (x ∷ [])) buf₀ from relations i buf
+
+abbrev μ-loop : tie.MeasureT-loop
+μ-loop buf₀ from n relations i₀ buf i = n - i
+
+-- src/writer.rt:214:5
+loop-holds : tie.Need-loop-holds Inv-loop μ-loop
+loop-holds c = (omega arith, c .before .good .1 .1 .0 .1 .0 .1, writing-starts encodeRelation 17 (λ (l : List RelationSlot). map (λ t. t .relation) l) (λ t. t .relation) (λ l x. map-append (λ t. t .relation) l (x ∷ [])) refl _ _ _)
+
+-- src/writer.rt:215:20
+mul-slot : tie.Need-mul-slot Inv-loop μ-loop
+mul-slot c = search needs
+
+-- src/writer.rt:215:20
+array-copy-out-slot : tie.Need-array-copy-out-slot Inv-loop μ-loop
+array-copy-out-slot c = search needs
+
+-- src/writer.rt:217:36
+mul-write-relation : tie.Need-mul-write-relation Inv-loop μ-loop
+mul-write-relation c = search needs
+
+-- src/writer.rt:217:29
+add-write-relation : tie.Need-add-write-relation Inv-loop μ-loop
+add-write-relation c = search needs
+
+-- src/writer.rt:217:9
+write-relation-requires : tie.Need-write-relation-requires Inv-loop μ-loop
+write-relation-requires c κs = (omega arith, every-at (λ t. okRelation (t .relation)) (c .before .before .before .before .before .args .t3) (c .before .before .before .before .before .args .n) (c .before .before .before .loop .i) _ (sym (every-map okRelation (λ t. t .relation) (take (c .before .before .before .before .before .args .n) (c .before .before .before .before .before .args .t3))) ∙ c .before .before .before .before .before .pre .2) (omega arith) (omega arith))
+
+-- src/writer.rt:218:9
+add-i : tie.Need-add-i Inv-loop μ-loop
+add-i c = search needs
+
+-- src/writer.rt:214:5
+loop-less : tie.Need-loop-less Inv-loop μ-loop
+loop-less c = search needs
+
+-- src/writer.rt:214:5
+loop-again : tie.Need-loop-again Inv-loop μ-loop
+loop-again c =
+    let l = c .before .before .before .before .before .before .loop in
+    (omega arith, l .inv .1, writing-turns encodeRelation 17 (λ (l : List RelationSlot). map (λ t. t .relation) l) (λ t. t .relation) (λ l x. map-append (λ t. t .relation) l (x ∷ [])) _ _ _ (l .i) _ _ _ (omega arith) (omega arith) (length-relation _) (c .before .before .write-relation .ensures) (l .inv .2))
+
+-- src/writer.rt:209:1
+same-length : tie.Need-same-length Inv-loop μ-loop
+same-length c = c .before .loop .inv .2 .same-long
+
+-- src/writer.rt:209:1
+returns : tie.Need-returns Inv-loop μ-loop
+returns c =
+    let a = c .before .before .before .args in
+    let l = c .before .loop in
+    let e : l .i ≡ a .n = omega arith in
+    l .inv .2 .written ∙ ap (λ k. over (a .buf .now) (a .from) (spread encodeRelation (map (λ t. t .relation) (take k (a .t3))))) e
+
+pub write-relations-spec : {M : Type 1} → statement M
+write-relations-spec =
+    tie.close
+    (tie.spec
+    Inv-loop
+    μ-loop
+    loop-holds
+    mul-slot
+    array-copy-out-slot
+    mul-write-relation
+    add-write-relation
+    write-relation-requires
+    add-i
+    loop-less
+    loop-again
+    same-length
+    returns)

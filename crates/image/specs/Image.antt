@@ -1,0 +1,103 @@
+-- The image of a drawing: which bytes are refused, by which number, and which drawing the others give.
+use Prim.Native.Nat.{ℕ, zero, suc, _+_, _*_}
+use mathlib.Core.Bool.{Bool, true, false, _&&_}
+use mathlib.Core.List.{List, [], _∷_, map}
+use lib.ListN.{length}
+use lib.Dec.{leb, eqb}
+use Rattle.big_endian.specs.Fields.{field, part}
+use Rattle.sketch.specs.Lists.{pick, rule}
+use Rattle.sketch.specs.Drawing.{Drawing, limits}
+use Rattle.sketch.specs.Valid.{okPoint, okCurve, okRelation, soundCurve, soundRelation, hasPoint, sortIn, tableFault, listFault}
+use Rattle.image.specs.Records.{pointForm, pointOf, curveForm, curveOf, relationForm, relationOf}
+
+abbrev pub version : ℕ
+version = 1
+
+-- ---- the header, 15 bytes: length of all that follows 4, version, next id 4, counts of points, curves, relations 2 each
+
+abbrev pub nextAt : List ℕ → ℕ
+nextAt s = field s 5 4
+
+abbrev pub pointCount : List ℕ → ℕ
+pointCount s = field s 9 2
+
+abbrev pub curveCount : List ℕ → ℕ
+curveCount s = field s 11 2
+
+abbrev pub relationCount : List ℕ → ℕ
+relationCount s = field s 13 2
+
+-- where each table starts, and how long an image is, by its counts
+abbrev pub curvesFrom : ℕ → ℕ
+curvesFrom np = 15 + np * 21
+
+abbrev pub relationsFrom : ℕ → ℕ → ℕ
+relationsFrom np nc = curvesFrom np + nc * 47
+
+abbrev pub sizeOf : ℕ → ℕ → ℕ → ℕ
+sizeOf np nc nr = relationsFrom np nc + nr * 17
+
+-- too short for a version, the version, the rest of the length, the counts, the next id; then what the records give
+unfoldable pub headFault : List ℕ → ℕ → ℕ
+headFault s rest =
+    rule (leb 5 (length s)) 1
+    (rule (eqb (field s 4 1) version) 2
+    (rule (leb 15 (length s) && eqb (field s 0 4 + 4) (length s)) 1
+    (rule (leb (pointCount s) (limits .points) && leb (curveCount s) (limits .curves) && leb (relationCount s) (limits .relations)
+    && eqb (sizeOf (pointCount s) (curveCount s) (relationCount s)) (length s)) 3
+    (rule (leb 1 (nextAt s)) 4 rest))))
+
+-- ---- the tables
+
+-- n records of one size
+unfoldable pub rowsAt : ℕ → ℕ → List ℕ → ℕ → List (List ℕ)
+rowsAt size zero s at = []
+rowsAt size (suc n) s at = part s at size ∷ rowsAt size n s (at + size)
+
+abbrev pub pointRows : List ℕ → List (List ℕ)
+pointRows s = rowsAt 21 (pointCount s) s 15
+
+abbrev pub curveRows : List ℕ → List (List ℕ)
+curveRows s = rowsAt 47 (curveCount s) s (curvesFrom (pointCount s))
+
+abbrev pub relationRows : List ℕ → List (List ℕ)
+relationRows s = rowsAt 17 (relationCount s) s (relationsFrom (pointCount s) (curveCount s))
+
+-- what the bytes spell
+abbrev pub drawingOf : List ℕ → Drawing
+drawingOf s =
+    record {
+      next = nextAt s;
+      points = map pointOf (pointRows s);
+      curves = map curveOf (curveRows s);
+      relations = map relationOf (relationRows s);
+    }
+
+abbrev pub rowId : List ℕ → ℕ
+rowId r = field r 0 4
+
+-- the records in order: of each first that it spells something and its values, then its id and its references
+abbrev pub recordsFault : List ℕ → ℕ
+recordsFault s =
+    let d = drawingOf s in
+    tableFault rowId (λ r. pointForm r && okPoint (pointOf r)) (λ r. true) (d .next) 0 (pointRows s)
+    (tableFault rowId (λ r. curveForm r && okCurve (curveOf r)) (λ r. soundCurve (hasPoint (d .points)) (curveOf r)) (d .next) 0 (curveRows s)
+    (listFault (λ r. relationForm r && okRelation (relationOf r)) (λ r. soundRelation (hasPoint (d .points)) (sortIn (d .curves)) (relationOf r)) (relationRows s)))
+
+-- the number of the first rule that an image breaks, 0 where it breaks none
+abbrev pub imageFault : List ℕ → ℕ
+imageFault s = headFault s (recordsFault s)
+
+-- ---- reading
+
+pub data Outcome : Type 0 where
+  refused : ℕ → Outcome
+  accepted : Drawing → Outcome
+
+-- a refusal by a number above 0
+unfoldable pub verdict : ℕ → Drawing → Outcome
+verdict zero d = accepted d
+verdict (suc n) d = refused (suc n)
+
+abbrev pub parse : List ℕ → Outcome
+parse s = verdict (imageFault s) (drawingOf s)

@@ -1,0 +1,6 @@
+pub mod Records
+pub mod Image
+pub mod Stored
+pub mod Encode
+pub mod Message
+pub mod Decode

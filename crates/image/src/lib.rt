@@ -1,0 +1,61 @@
+// Images of sketches and edit messages: bytes read and written.
+mod messages;
+mod reader;
+mod records;
+mod writer;
+
+ghost use mathlib.Core.Path.{_≡_};
+ghost use Rattle.image.specs.Image as I;
+ghost use Rattle.image.specs.Message as M;
+use sketch::Sketch;
+
+pub use messages::read_message;
+pub use messages::write_message;
+pub use reader::read;
+pub use writer::write;
+
+// The versions of the two formats.
+pub const IMAGE_VERSION: u8 = 1;
+pub const MESSAGE_VERSION: u8 = 1;
+
+// What a person does to a curve.
+pub enum Operation {
+    Trim,
+    Split,
+    Extend,
+}
+
+// One edit. The pick's coordinates are patterns of bits: a NaN's are carried on, so that they can be refused later.
+pub struct Message {
+    pub number: u32,
+    pub operation: Operation,
+    pub curve: u32,
+    pub x: u64,
+    pub y: u64,
+}
+
+pub enum MessageRead {
+    Accepted(Message),
+    Refused(u8),
+}
+
+// What reading an image answers: the number of a refusal, or 0 and the sketch.
+pub struct Read {
+    pub sketch: Sketch,
+    pub refusal: u8,
+}
+
+pub struct FormatVersions {
+    pub image: u8,
+    pub message: u8,
+}
+
+// The versions that this build reads and writes.
+pub fn versions() -> FormatVersions
+    ensures { λ r. ⌜ (r .image ≡ I.version) × (r .message ≡ M.version) ⌝ }
+{
+    FormatVersions {
+        image: IMAGE_VERSION,
+        message: MESSAGE_VERSION,
+    }
+}

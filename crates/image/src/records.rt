@@ -1,0 +1,152 @@
+// One record of an image: whether its bytes spell a value, and which.
+use big_endian::get1;
+use big_endian::get4;
+use big_endian::get8;
+use sketch::Curve;
+use sketch::CurveKind;
+use sketch::Point;
+use sketch::Relation;
+ghost use mathlib.Core.Path.{_≡_};
+ghost use mathlib.Core.Bool.{true, not};
+ghost use lib.Ieee.{nanBits, binary64};
+ghost use lib.Dec.{eqb};
+ghost use Rattle.sketch.specs.Lists.{pick};
+ghost use Rattle.image.specs.Records.{slotsOf, usedSlots, kindOf, noSlots, single, valued, relationBy, pointOf, curveOf, relationOf};
+ghost use Rattle.image.specs.Decode.{plainPoint, plainCurve, plainRelation};
+
+// Whether bits are no NaN's: only such may become a float.
+fn is_number(bits: u64) -> bool
+    ensures { λ r. ⌜ r ≡ not (nanBits binary64 bits) ⌝ }
+{
+    bits % 0x8000_0000_0000_0000 <= 0x7ff0_0000_0000_0000
+}
+
+pub(crate) fn point_plain(r: &[u8]) -> bool
+    ensures { λ v. ⌜ v ≡ plainPoint (now (r .entry)) ⌝ }
+{
+    (get1(r, 20) <= 1) & is_number(get8(r, 4)) & is_number(get8(r, 12))
+}
+
+pub(crate) fn point_at(r: &[u8]) -> Point
+    requires { ⌜ plainPoint (now r) ≡ true ⌝ }
+    ensures { λ v. ⌜ v ≡ pointOf (now (r .entry)) ⌝ }
+{
+    Point {
+        id: get4(r, 0),
+        fixed: get1(r, 20) == 1,
+        x: f64::from_bits(get8(r, 4)),
+        y: f64::from_bits(get8(r, 12)),
+    }
+}
+
+fn used_slots(kind: u8, degree: u8) -> usize
+    ensures { λ r. ⌜ r ≡ usedSlots kind degree ⌝ }
+{
+    match kind {
+        1 => 2,
+        2 => 3,
+        3 => 1,
+        4 => degree as usize + 1,
+        _ => 3,
+    }
+}
+
+fn slots_at(r: &[u8]) -> [u32; 8]
+    ensures { λ v. ⌜ v ≡ slotsOf (now (r .entry)) ⌝ }
+{
+    [get4(r, 7), get4(r, 11), get4(r, 15), get4(r, 19), get4(r, 23), get4(r, 27), get4(r, 31), get4(r, 35)]
+}
+
+pub(crate) fn curve_plain(r: &[u8]) -> bool
+    ensures { λ v. ⌜ v ≡ plainCurve (now (r .entry)) ⌝ }
+{
+    let kind = get1(r, 4);
+    let degree = get1(r, 6);
+    let number = get8(r, 39);
+    let known = (1 <= kind) & (kind <= 5) & (get1(r, 5) <= 7);
+    let bare = ((kind == 4) | (degree == 0)) & ((kind == 3) | (kind == 5) | (number == 0));
+    known & bare & sketch::clear_from(slots_at(r), used_slots(kind, degree)) & is_number(number)
+}
+
+// The kind by its byte.
+fn kind_of(kind: u8, degree: u8, s: [u32; 8], v: f64) -> CurveKind
+    ensures { λ r. ⌜ r ≡ kindOf kind degree s v ⌝ }
+{
+    match kind {
+        1 => CurveKind::Line(s[0], s[1]),
+        2 => CurveKind::Arc(s[0], s[1], s[2]),
+        3 => CurveKind::Circle(s[0], v),
+        4 => CurveKind::Bezier(degree),
+        _ => CurveKind::Conic(s[0], s[1], s[2], v),
+    }
+}
+
+// Only a Bézier curve keeps the slots beside its kind.
+fn kept_slots(kind: u8, s: [u32; 8]) -> [u32; 8]
+    ensures { λ r. ⌜ r ≡ pick (eqb kind 4) s noSlots ⌝ }
+{
+    if kind == 4 {
+        return s;
+    }
+    [0, 0, 0, 0, 0, 0, 0, 0]
+}
+
+pub(crate) fn curve_at(r: &[u8]) -> Curve
+    requires { ⌜ plainCurve (now r) ≡ true ⌝ }
+    ensures { λ v. ⌜ v ≡ curveOf (now (r .entry)) ⌝ }
+{
+    let byte = get1(r, 4);
+    let flags = get1(r, 5);
+    let s = slots_at(r);
+    let kind = kind_of(byte, get1(r, 6), s, f64::from_bits(get8(r, 39)));
+    let slots = kept_slots(byte, s);
+    Curve {
+        id: get4(r, 0),
+        construction: flags % 2 == 1,
+        centerline: flags / 2 % 2 == 1,
+        infinite: flags / 4 % 2 == 1,
+        kind,
+        slots,
+    }
+}
+
+// Kinds of relations with one id only.
+fn is_single(kind: u8) -> bool
+    ensures { λ r. ⌜ r ≡ single kind ⌝ }
+{
+    (kind == 5) | (kind == 8) | (kind == 9)
+}
+
+pub(crate) fn relation_plain(r: &[u8]) -> bool
+    ensures { λ v. ⌜ v ≡ plainRelation (now (r .entry)) ⌝ }
+{
+    let kind = get1(r, 0);
+    let value = get8(r, 9);
+    let lone = is_single(kind);
+    let known = (1 <= kind) & (kind <= 9);
+    known & (!lone | (get4(r, 5) == 0)) & (lone | (kind == 6) | (value == 0)) & is_number(value)
+}
+
+// The relation by its kind's byte.
+fn relation_by(kind: u8, a: u32, b: u32, v: f64) -> Relation
+    ensures { λ r. ⌜ r ≡ relationBy kind a b v ⌝ }
+{
+    match kind {
+        1 => Relation::Coincident(a, b),
+        2 => Relation::PointOnCurve(a, b),
+        3 => Relation::Collinear(a, b),
+        4 => Relation::Equal(a, b),
+        5 => Relation::Length(a, v),
+        6 => Relation::Distance(a, b, v),
+        7 => Relation::Midpoint(a, b),
+        8 => Relation::ArcLength(a, v),
+        _ => Relation::ArcSweep(a, v),
+    }
+}
+
+pub(crate) fn relation_at(r: &[u8]) -> Relation
+    requires { ⌜ plainRelation (now r) ≡ true ⌝ }
+    ensures { λ v. ⌜ v ≡ relationOf (now (r .entry)) ⌝ }
+{
+    relation_by(get1(r, 0), get4(r, 1), get4(r, 5), f64::from_bits(get8(r, 9)))
+}

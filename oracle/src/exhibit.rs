@@ -1,0 +1,56 @@
+//! The desk, where edits are made, and the wall, which follows by their messages.
+
+use crate::drawing::Drawing;
+use crate::edit::{self, Refused, Report};
+use crate::message::{self, Edit, Message};
+use crate::refusal::Refusal;
+use crate::validity;
+
+/// A drawing and how many edits it has taken: the state of a desk as of a wall.
+#[derive(Clone, Debug, PartialEq)]
+pub struct Screen {
+    pub drawing: Drawing,
+    pub count: u32,
+}
+
+/// What a delivery did to a wall.
+#[derive(Clone, Copy, Debug, PartialEq, Eq)]
+pub enum Delivery {
+    /// The message's edit was done before; nothing changed.
+    Old,
+    Done(Report),
+}
+
+impl Screen {
+    pub fn new(drawing: Drawing) -> Self {
+        Screen { drawing, count: 0 }
+    }
+
+    /// The desk's call: does an edit and writes its message to the buffer's front.
+    pub fn edit(&mut self, edit: &Edit, out: &mut [u8]) -> Result<Report, Refused> {
+        validity::check(&self.drawing)?;
+        if out.len() < message::SIZE {
+            return Err(Refusal::Buffer.into());
+        }
+        let number = self.count.checked_add(1).ok_or(Refusal::Numbers)?;
+        let (drawing, report) = edit::apply_tested(&self.drawing, edit)?;
+        *self = Screen { drawing, count: number };
+        message::write(&Message { number, edit: *edit }, out)?;
+        Ok(report)
+    }
+
+    /// The wall's call: does the edit of a message if it is the next one.
+    pub fn deliver(&mut self, bytes: &[u8]) -> Result<Delivery, Refused> {
+        validity::check(&self.drawing)?;
+        let message = message::read(bytes)?;
+        if message.number <= self.count {
+            return Ok(Delivery::Old);
+        }
+        if message.number - self.count > 1 {
+            return Err(Refusal::Ahead.into());
+        }
+        let (drawing, report) = edit::apply_tested(&self.drawing, &message.edit)?;
+        *self = Screen { drawing, count: message.number };
+        Ok(Delivery::Done(report))
+    }
+}

@@ -1,0 +1,19 @@
+//! The judge of the engine: images and messages read by plain Rust, edits done by the upstream
+//! source over stand-ins for the two crates that it uses.
+
+pub mod arguments;
+pub mod bytes;
+pub mod convert;
+pub mod drawing;
+pub mod edit;
+pub mod examples;
+pub mod exhibit;
+pub mod generate;
+pub mod image;
+pub mod message;
+pub mod program;
+pub mod recording;
+pub mod refusal;
+pub mod roots;
+pub mod upstream;
+pub mod validity;

@@ -1,0 +1,38 @@
+//! The wall's program: an image and messages in, the last image out.
+
+use crate::exhibit::Screen;
+use crate::image::{self, LENGTH_SIZE};
+use crate::message;
+use crate::refusal::Refusal;
+
+/// More input than this is not looked at.
+pub const MAX_INPUT: usize = 65_536;
+
+/// The bytes that the program writes for its input.
+pub fn run(input: &[u8]) -> Vec<u8> {
+    let input = &input[..input.len().min(MAX_INPUT)];
+    let (image, messages) = input.split_at(image_end(input));
+    match image::read(image) {
+        Err(refusal) => refused(refusal),
+        Ok(drawing) => {
+            let mut wall = Screen::new(drawing);
+            for bytes in messages.chunks(message::SIZE) {
+                // A refused message is passed over.
+                let _ = wall.deliver(bytes);
+            }
+            image::to_bytes(&wall.drawing)
+        }
+    }
+}
+
+/// Where the image ends by its length field, or the input does if that comes first.
+fn image_end(input: &[u8]) -> usize {
+    let Some(length) = input.first_chunk::<LENGTH_SIZE>() else {
+        return input.len();
+    };
+    (LENGTH_SIZE + u32::from_be_bytes(*length) as usize).min(input.len())
+}
+
+fn refused(refusal: Refusal) -> Vec<u8> {
+    vec![0, 0, 0, 2, image::VERSION, refusal.number()]
+}

@@ -1,0 +1,76 @@
+//! Recorded answers: lists of inputs with their outcomes, for replay where no Rust is at hand.
+//!
+//! A list is a run of entries, each an outcome byte (a refusal's number, 0 for acceptance), the
+//! input's length in four big-endian bytes, and the input.
+
+mod faults;
+mod images;
+mod messages;
+
+use crate::refusal::{number_of, Refusal};
+use std::collections::BTreeSet;
+
+pub use images::images;
+pub use messages::messages;
+
+/// The seed of the recorded lists: the same seed gives the same bytes.
+pub const SEED: u64 = 1;
+
+/// A list under construction; an input stands in it once.
+pub struct List<T> {
+    judge: fn(&[u8]) -> Result<T, Refusal>,
+    seen: BTreeSet<Vec<u8>>,
+    bytes: Vec<u8>,
+    outcomes: Vec<u8>,
+}
+
+impl<T> List<T> {
+    fn new(judge: fn(&[u8]) -> Result<T, Refusal>) -> Self {
+        List { judge, seen: BTreeSet::new(), bytes: Vec::new(), outcomes: Vec::new() }
+    }
+
+    fn outcome(&self, input: &[u8]) -> u8 {
+        number_of(&(self.judge)(input))
+    }
+
+    fn add(&mut self, input: Vec<u8>) {
+        if self.seen.contains(&input) {
+            return;
+        }
+        let outcome = self.outcome(&input);
+        self.outcomes.push(outcome);
+        self.bytes.push(outcome);
+        self.bytes.extend((input.len() as u32).to_be_bytes());
+        self.bytes.extend(&input);
+        self.seen.insert(input);
+    }
+
+    /// Adds variants until each outcome among them stands `each` times or they run out.
+    fn add_by_outcome(&mut self, each: usize, variants: impl Iterator<Item = Vec<u8>>) {
+        let mut taken = [0; 256];
+        for variant in variants {
+            let outcome = usize::from(self.outcome(&variant));
+            if taken[outcome] < each && !self.seen.contains(&variant) {
+                taken[outcome] += 1;
+                self.add(variant);
+            }
+        }
+    }
+
+    pub fn len(&self) -> usize {
+        self.outcomes.len()
+    }
+
+    pub fn is_empty(&self) -> bool {
+        self.outcomes.is_empty()
+    }
+
+    pub fn bytes(&self) -> &[u8] {
+        &self.bytes
+    }
+
+    /// The outcome of each entry, in order.
+    pub fn outcomes(&self) -> &[u8] {
+        &self.outcomes
+    }
+}

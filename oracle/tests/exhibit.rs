@@ -1,0 +1,87 @@
+//! Desk, wall and the wall's program over generated edits.
+#![cfg(upstream)]
+
+use oracle::examples::{l, t};
+use oracle::exhibit::{Delivery, Screen};
+use oracle::generate::{bridges, edits, random::Random};
+use oracle::image;
+use oracle::message::{self, Edit, Operation};
+use oracle::program;
+
+const SPLIT: Edit = Edit { operation: Operation::Split, curve: 3, x: 1.0, y: 3.0 };
+
+#[test]
+fn a_wall_follows_its_desk() {
+    let mut random = Random::new(21);
+    for _ in 0..500 {
+        let start = bridges::any_drawing(&mut random);
+        let mut desk = Screen::new(start.clone());
+        let (mut wall, mut out) = (desk.clone(), [0; message::SIZE]);
+        let mut input = image::to_bytes(&start);
+        for _ in 0..8 {
+            let edit = edits::edit(&mut random, &desk.drawing);
+            let before = desk.clone();
+            match desk.edit(&edit, &mut out) {
+                Ok(report) => {
+                    assert_eq!(wall.deliver(&out), Ok(Delivery::Done(report)));
+                    input.extend(out);
+                }
+                Err(_) => {
+                    assert_eq!(image::to_bytes(&desk.drawing), image::to_bytes(&before.drawing))
+                }
+            }
+            assert_eq!(wall.count, desk.count);
+        }
+        let last = image::to_bytes(&desk.drawing);
+        assert_eq!(image::to_bytes(&wall.drawing), last);
+        assert_eq!(program::run(&input), last);
+    }
+}
+
+#[test]
+fn a_refused_edit_writes_no_message() {
+    let mut desk = Screen::new(l());
+    let mut out = [0x55; 40];
+    assert!(desk.edit(&Edit { curve: 9, ..SPLIT }, &mut out).is_err());
+    assert_eq!(out, [0x55; 40]);
+    assert!(desk.edit(&SPLIT, &mut out).is_ok());
+    assert_eq!(out[..10], [0, 0, 0, 26, 1, 0, 0, 0, 1, 2]);
+    assert_eq!(out[30..], [0x55; 10]);
+}
+
+#[test]
+fn the_program_answers_a_refused_image_with_its_number() {
+    assert_eq!(program::run(&[]), [0, 0, 0, 2, 1, 1]);
+    assert_eq!(program::run(&[0, 0, 0, 0, 1]), [0, 0, 0, 2, 1, 1]);
+    assert_eq!(program::run(&[0, 0, 0, 1, 2]), [0, 0, 0, 2, 1, 2]);
+    let mut bytes = image::to_bytes(&t());
+    bytes.pop();
+    assert_eq!(program::run(&bytes), [0, 0, 0, 2, 1, 1]);
+}
+
+#[test]
+fn the_program_passes_over_refused_messages_and_a_shorter_rest() {
+    let mut desk = Screen::new(l());
+    let mut out = [0; message::SIZE];
+    desk.edit(&SPLIT, &mut out).expect("the example is accepted");
+    let mut damaged = out;
+    damaged[9] = 9;
+    let input = [&image::to_bytes(&l())[..], &damaged, &out, &out, &out[..7]].concat();
+    assert_eq!(program::run(&input), image::to_bytes(&desk.drawing));
+}
+
+#[test]
+fn the_program_reads_no_further_than_its_limit() {
+    let mut desk = Screen::new(l());
+    let mut out = [0; message::SIZE];
+    desk.edit(&SPLIT, &mut out).expect("the example is accepted");
+    let image = image::to_bytes(&l());
+    let fill = (program::MAX_INPUT - image.len()) / message::SIZE;
+    let refused = [7; message::SIZE];
+    let run = |before: usize| {
+        let messages = std::iter::repeat_n(refused, before).chain([out]).flatten();
+        program::run(&image.iter().copied().chain(messages).collect::<Vec<u8>>())
+    };
+    assert_eq!(run(fill - 1), image::to_bytes(&desk.drawing));
+    assert_eq!(run(fill), image);
+}

@@ -1,0 +1,93 @@
+//! Images and messages: layout, round trips, and the order of their tests.
+
+use oracle::drawing::*;
+use oracle::examples::{l, t};
+use oracle::generate::bridges::{self, Size};
+use oracle::generate::random::Random;
+use oracle::message::{self, Edit, Message, Operation};
+use oracle::recording::{self, SEED};
+use oracle::refusal::{number_of, Refusal};
+use oracle::{generate, image, validity};
+
+#[test]
+fn sizes_follow_the_counts() {
+    assert_eq!(image::size(&Drawing::empty()), 15);
+    assert_eq!(image::size(&l()), 15 + 2 * 21 + 47);
+    assert_eq!(image::MAX_SIZE, 21_135);
+    let largest = bridges::drawing(&mut Random::new(7), Size::Largest);
+    assert_eq!(image::size(&largest), image::MAX_SIZE);
+    assert_eq!(validity::check(&largest), Ok(()));
+}
+
+#[test]
+fn the_image_of_l_byte_by_byte() {
+    let bytes = image::to_bytes(&l());
+    assert_eq!(bytes[..15], [0, 0, 0, 100, 1, 0, 0, 0, 4, 0, 2, 0, 1, 0, 0]);
+    let second_point = [0, 0, 0, 2, 0x40, 0x10, 0, 0, 0, 0, 0, 0, 0, 0, 0, 0, 0, 0, 0, 0, 0];
+    assert_eq!(bytes[36..57], second_point);
+    assert_eq!(bytes[57..72], [0, 0, 0, 3, 1, 0, 0, 0, 0, 0, 1, 0, 0, 0, 2]);
+    assert!(bytes[72..].iter().all(|byte| *byte == 0));
+}
+
+#[test]
+fn generated_images_come_back_as_they_were() {
+    let mut random = Random::new(11);
+    for _ in 0..2000 {
+        let drawing = bridges::any_drawing(&mut random);
+        assert_eq!(validity::check(&drawing), Ok(()));
+        let bytes = image::to_bytes(&drawing);
+        let read = image::read(&bytes).expect("a good image");
+        assert_eq!(image::to_bytes(&read), bytes);
+    }
+}
+
+#[test]
+fn reader_and_tester_agree_on_what_a_drawing_can_hold() {
+    let mut random = Random::new(12);
+    for _ in 0..5000 {
+        let bytes = generate::image_bytes(&mut random);
+        if let Ok(mut drawing) = image::read(&bytes) {
+            drawing.next_id = drawing.next_id.wrapping_sub(random.below(3) as Id);
+            let changed = image::to_bytes(&drawing);
+            let read = number_of(&image::read(&changed));
+            assert_eq!(read, number_of(&validity::check(&drawing)));
+        }
+    }
+}
+
+#[test]
+fn a_written_image_leaves_the_rest_of_the_buffer() {
+    let mut out = vec![0xaa; image::size(&t()) + 9];
+    assert_eq!(image::write(&t(), &mut out), Ok(out.len() - 9));
+    assert!(out.ends_with(&[0xaa; 9]));
+    let mut short = vec![0xaa; image::size(&t()) - 1];
+    assert_eq!(image::write(&t(), &mut short), Err(Refusal::Buffer));
+    assert!(short.iter().all(|byte| *byte == 0xaa));
+}
+
+#[test]
+fn a_message_keeps_any_pick() {
+    for bits in [0x7ff0_0000_0000_0001, 0xffff_ffff_ffff_ffff, 1 << 63] {
+        let (x, y) = (f64::from_bits(bits), f64::from_bits(!bits));
+        let edit = Edit { operation: Operation::Extend, curve: 0, x, y };
+        let bytes = message::to_bytes(&Message { number: u32::MAX, edit });
+        let read = message::read(&bytes).expect("a good message");
+        assert_eq!(message::to_bytes(&read), bytes);
+    }
+}
+
+#[test]
+fn recorded_lists_are_the_same_each_time_and_hold_every_outcome() {
+    let (images, messages) = (recording::images(SEED), recording::messages(SEED));
+    assert_eq!(images.bytes(), recording::images(SEED).bytes());
+    assert!(images.bytes().len() < 500_000);
+    for outcome in 0..=5 {
+        assert!(images.outcomes().contains(&outcome), "no image with outcome {outcome}");
+    }
+    for outcome in [0, 1, 2, 6] {
+        assert!(messages.outcomes().contains(&outcome), "no message with outcome {outcome}");
+    }
+    let largest = (image::MAX_SIZE as u32).to_be_bytes();
+    let accepted_largest = [0, largest[0], largest[1], largest[2], largest[3]];
+    assert!(images.bytes().windows(5).any(|window| window == accepted_largest));
+}
