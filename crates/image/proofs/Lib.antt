@@ -7,3 +7,5 @@ pub mod Plain
 pub mod Headers
 pub mod Trips
 pub mod Spelled
+pub mod Written
+pub mod Answers

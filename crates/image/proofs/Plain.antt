@@ -5,13 +5,13 @@ use mathlib.Core.List.{List}
 use Prim.Native.Nat.{ℕ, zero, suc, _≤_}
 use native.Mathlib.Omega.{arith}
 use lib.ListN.{drop}
-use lib.Dec.{eqb}
+use lib.Dec.{eqb, leb}
 use lib.Ieee.{Float, ofBits, nanBits, binary64}
 use borrow.Author.Tests.{eqb-true, le-leb, lt-leb}
 use Rattle.big_endian.specs.Fields.{field}
 use Rattle.sketch.specs.Lists.{pick, every}
 use Rattle.sketch.specs.Valid.{okPoint, okCurve, okRelation, okCoordinate, okNumber, okRadius, okRho, okMeasure, inSlots, sortOf, isLine}
-use Rattle.image.specs.Records.{pointForm, pointOf, curveForm, curveOf, relationForm, relationOf, slotsOf, kindOf, relationBy, curveFields, relationFields, noSlots}
+use Rattle.image.specs.Records.{pointForm, pointOf, curveForm, curveOf, relationForm, relationOf, slotsOf, kindOf, relationBy, usedSlots, curveFields, relationFields, noSlots}
 use Rattle.image.specs.Decode.{numberAt, plainPoint, plainCurve, plainRelation}
 use Rattle.image.proofs.Floats.{nan-fails, number-test, coordinate-rejects, radius-rejects, rho-rejects, measure-rejects}
 use Rattle.image.proofs.Tables.{both}
@@ -82,13 +82,13 @@ range-last p t q z e = and-right p (t && q && z) (and-left (t && q) z (and-right
 
 curve-nan : (k f g : ℕ) (s : List ℕ) (n : ℕ) (t z : Bool) → not (nanBits binary64 n) ≡ false
     → (curveFields k f g s n && (t && okNumber (kindOf k g s (ofBits binary64 n)) && z)) ≡ false
-unfolding curveFields kindOf okNumber
+unfolding curveFields usedSlots kindOf okNumber
 curve-nan zero f g s n t z h = refl
-curve-nan (suc zero) f g s n t z h = bare-first _ (eqb n 0) _ _ (not-zero n h)
-curve-nan (suc (suc zero)) f g s n t z h = bare-first _ (eqb n 0) _ _ (not-zero n h)
-curve-nan (suc (suc (suc zero))) f g s n t z h = range-last _ t (okRadius (ofBits binary64 n)) z (nan-fails okRadius radius-rejects n h)
-curve-nan (suc (suc (suc (suc zero)))) f g s n t z h = bare-first _ (eqb n 0) _ _ (not-zero n h)
-curve-nan (suc (suc (suc (suc (suc zero))))) f g s n t z h = range-last _ t (okRho (ofBits binary64 n)) z (nan-fails okRho rho-rejects n h)
+curve-nan (suc zero) f g s n t z h = bare-first (leb f 7 && eqb g 0) (eqb n 0) (every (λ i. eqb i 0) (drop 2 s)) (t && true && z) (not-zero n h)
+curve-nan (suc (suc zero)) f g s n t z h = bare-first (leb f 7 && eqb g 0) (eqb n 0) (every (λ i. eqb i 0) (drop 3 s)) (t && true && z) (not-zero n h)
+curve-nan (suc (suc (suc zero))) f g s n t z h = range-last (curveFields 3 f g s n) t (okRadius (ofBits binary64 n)) z (nan-fails okRadius radius-rejects n h)
+curve-nan (suc (suc (suc (suc zero)))) f g s n t z h = bare-first (leb f 7 && true) (eqb n 0) (every (λ i. eqb i 0) (drop (suc g) s)) (t && (leb 1 g && leb g 7) && z) (not-zero n h)
+curve-nan (suc (suc (suc (suc (suc zero))))) f g s n t z h = range-last (curveFields 5 f g s n) t (okRho (ofBits binary64 n)) z (nan-fails okRho rho-rejects n h)
 curve-nan (suc (suc (suc (suc (suc (suc k)))))) f g s n t z h = rw (le-leb 1 (suc (suc (suc (suc (suc (suc k)))))) (omega arith), lt-leb (suc (suc (suc (suc (suc (suc k)))))) 5 (omega arith))
 
 relation-nan : (k a b n : ℕ) → not (nanBits binary64 n) ≡ false → (relationFields k b n && okRelation (relationBy k a b (ofBits binary64 n))) ≡ false
@@ -98,18 +98,19 @@ relation-nan (suc zero) a b n h = and-left _ _ (not-zero n h)
 relation-nan (suc (suc zero)) a b n h = and-left _ _ (not-zero n h)
 relation-nan (suc (suc (suc zero))) a b n h = and-left _ _ (not-zero n h)
 relation-nan (suc (suc (suc (suc zero)))) a b n h = and-left _ _ (not-zero n h)
-relation-nan (suc (suc (suc (suc (suc zero))))) a b n h = and-right _ (okMeasure (ofBits binary64 n)) (nan-fails okMeasure measure-rejects n h)
+relation-nan (suc (suc (suc (suc (suc zero))))) a b n h = and-right (relationFields 5 b n) (okMeasure (ofBits binary64 n)) (nan-fails okMeasure measure-rejects n h)
 relation-nan (suc (suc (suc (suc (suc (suc zero)))))) a b n h = nan-fails okMeasure measure-rejects n h
 relation-nan (suc (suc (suc (suc (suc (suc (suc zero))))))) a b n h = and-left _ _ (not-zero n h)
-relation-nan (suc (suc (suc (suc (suc (suc (suc (suc zero)))))))) a b n h = and-right _ (okMeasure (ofBits binary64 n)) (nan-fails okMeasure measure-rejects n h)
-relation-nan (suc (suc (suc (suc (suc (suc (suc (suc (suc zero))))))))) a b n h = and-right _ (okMeasure (ofBits binary64 n)) (nan-fails okMeasure measure-rejects n h)
+relation-nan (suc (suc (suc (suc (suc (suc (suc (suc zero)))))))) a b n h = and-right (relationFields 8 b n) (okMeasure (ofBits binary64 n)) (nan-fails okMeasure measure-rejects n h)
+relation-nan (suc (suc (suc (suc (suc (suc (suc (suc (suc zero))))))))) a b n h = and-right (relationFields 9 b n) (okMeasure (ofBits binary64 n)) (nan-fails okMeasure measure-rejects n h)
 relation-nan (suc (suc (suc (suc (suc (suc (suc (suc (suc (suc k)))))))))) a b n h = rw (le-leb 1 (suc (suc (suc (suc (suc (suc (suc (suc (suc (suc k)))))))))) (omega arith), lt-leb (suc (suc (suc (suc (suc (suc (suc (suc (suc (suc k)))))))))) 9 (omega arith))
 
 module _ (r : List ℕ) where
   pub curve-lost : plainCurve r ≡ false → (curveForm r && okCurve (curveOf r)) ≡ false
   curve-lost h =
       either (curveForm r) (numberAt r 39) (curveForm r && okCurve (curveOf r)) h (and-left (curveForm r) (okCurve (curveOf r)))
-      (curve-nan (field r 4 1) (field r 5 1) (field r 6 1) (slotsOf r) (field r 39 8) _ _)
+      (curve-nan (field r 4 1) (field r 5 1) (field r 6 1) (slotsOf r) (field r 39 8) (not (curveOf r .infinite) || isLine (sortOf (curveOf r .kind)))
+      (every (λ i. eqb i 0) (drop (inSlots (curveOf r .kind)) (curveOf r .slots))))
 
   pub relation-lost : plainRelation r ≡ false → (relationForm r && okRelation (relationOf r)) ≡ false
   relation-lost h =

@@ -10,7 +10,7 @@ use Rattle.sketch.specs.Lists.{every}
 use Rattle.sketch.specs.Drawing.{limits, view}
 use Rattle.sketch.specs.Valid.{sketchFault}
 use Rattle.sketch.specs.declared.Sketch.{Sketch}
-use Rattle.image.specs.declared.Read.{Read}
+use Rattle.image.specs.declared.ImageRead.{ImageRead}
 use Rattle.image.specs.Records.{pointForm, curveForm, relationForm}
 use Rattle.image.specs.Image.{drawingOf, recordsFault, Outcome, verdict}
 
@@ -45,5 +45,5 @@ pub record Partial (s : List ℕ) (sk : Sketch) (whole : Bool) : Type 0 where
   pub some-there : whole ≡ false → recordsFault s ≡ orElse (sketchFault sk) 4
 
 -- what the reader's answer stands for
-abbrev pub outcome : Read → Outcome
+abbrev pub outcome : ImageRead → Outcome
 outcome r = verdict (r .refusal) (view (r .sketch))

@@ -40,7 +40,7 @@ pub enum MessageRead {
 }
 
 // What reading an image answers: the number of a refusal, or 0 and the sketch.
-pub struct Read {
+pub struct ImageRead {
     pub sketch: Sketch,
     pub refusal: u8,
 }

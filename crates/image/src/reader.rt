@@ -5,7 +5,7 @@ use crate::records::point_at;
 use crate::records::point_plain;
 use crate::records::relation_at;
 use crate::records::relation_plain;
-use crate::Read;
+use crate::ImageRead;
 use crate::IMAGE_VERSION;
 use big_endian::get1;
 use big_endian::get2;
@@ -178,7 +178,7 @@ fn relations_at(s: &[u8], from: usize, n: usize) -> RelationTable
 
 // A table after one that stopped short is left empty: an earlier record is at fault.
 fn counted(whole: bool, n: usize) -> usize
-    ensures { λ r. ⌜ r ≡ pick whole n 0 ⌝ }
+    ensures { λ r. ⌜ (r ≡ pick whole n 0) × (r ≤ n) ⌝ }
 {
     if whole { n } else { 0 }
 }
@@ -216,7 +216,7 @@ fn spell(s: &[u8]) -> Spelled
     }
 }
 
-fn refuse(number: u8) -> Read
+fn refuse(number: u8) -> ImageRead
     ensures { λ r. ⌜ r .refusal ≡ number ⌝ }
 {
     let points = no_points();
@@ -231,14 +231,14 @@ fn refuse(number: u8) -> Read
         curves,
         relations,
     };
-    Read {
+    ImageRead {
         sketch,
         refusal: number,
     }
 }
 
 // Reads an image: its sketch, or the number of the first rule that it breaks, with an empty sketch.
-pub fn read(s: &[u8]) -> Read
+pub fn read(s: &[u8]) -> ImageRead
     ensures { λ r. ⌜ outcome r ≡ parse (now (s .entry)) ⌝ }
 {
     let head = head_fault(s);
@@ -254,5 +254,5 @@ pub fn read(s: &[u8]) -> Read
     if !spelled.whole {
         return refuse(4);
     }
-    Read { sketch, refusal: 0 }
+    ImageRead { sketch, refusal: 0 }
 }

@@ -206,7 +206,7 @@ fn write_points(buf: &mut [u8], from: usize, points: [Point; 512], n: usize)
 
 fn write_curves(buf: &mut [u8], from: usize, curves: [Curve; 128], n: usize)
     requires { ⌜ (n ≤ 128) × (from + n * 47 ≤ length (now buf)) × (every okCurve (take n curves) ≡ true) ⌝ }
-    ensures { λ r. ⌜ now (buf .exit) ≡ over (now (buf .entry)) from (spread encodeCurve (take n curves)) ⌝ }
+    ensures { λ r. ⌜ (now (buf .exit) ≡ over (now (buf .entry)) from (spread encodeCurve (take n curves))) × (length (spread encodeCurve (take n curves)) ≡ n * 47) ⌝ }
 {
     let mut i: usize = 0;
     while i < n {

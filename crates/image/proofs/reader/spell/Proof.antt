@@ -1,3 +1,6 @@
+use Rattle.image.proofs.Spelled.{partial}
+use Rattle.image.proofs.Headers.{head-kept}
+use mathlib.Core.Path.{_≡_, refl, sym, ap, _∙_, subst}
 use native.Mathlib.Omega.{arith}
 use borrow.Author.Needs.{needs}
 use Rattle.image.proofs.reader.spell.Statement.{statement}
@@ -41,7 +44,7 @@ cast-nr c = search needs
 
 -- src/reader.rt:194:9
 points-at-requires : tie.Need-points-at-requires
-points-at-requires c κs = search needs
+points-at-requires c κs = let h = head-kept (c .before .before .before .before .before .args .s .now) 0 (c .before .before .before .before .before .pre) .0 in (omega (arith, h .few-points, c .before .before .get2 .ensures), omega (arith, h .size, c .before .before .get2 .ensures))
 
 -- src/reader.rt:196:31
 mul-curves-at : tie.Need-mul-curves-at
@@ -57,7 +60,7 @@ counted-requires c κs = search needs
 
 -- src/reader.rt:196:9
 curves-at-requires : tie.Need-curves-at-requires
-curves-at-requires c κs = search needs
+curves-at-requires c κs = let h = head-kept (c .before .before .before .before .before .before .before .args .s .now) 0 (c .before .before .before .before .before .before .before .pre) .0 in (omega (arith, h .few-curves, c .before .before .before .get22 .ensures), omega (arith, h .size, c .before .before .before .before .get2 .ensures, c .before .before .before .get22 .ensures))
 
 -- src/reader.rt:199:34
 mul-relations-at : tie.Need-mul-relations-at
@@ -81,11 +84,20 @@ counted-requires-2 c κs = search needs
 
 -- src/reader.rt:199:9
 relations-at-requires : tie.Need-relations-at-requires
-relations-at-requires c κs = search needs
+relations-at-requires c κs = let h = head-kept (c .before .before .before .before .before .before .before .before .before .args .s .now) 0 (c .before .before .before .before .before .before .before .before .before .pre) .0 in (omega (arith, h .few-relations, c .before .before .before .before .get23 .ensures), omega (arith, h .size, c .before .before .before .before .before .before .get2 .ensures, c .before .before .before .before .before .get22 .ensures, c .before .before .before .before .get23 .ensures))
 
 -- src/reader.rt:186:1
 returns : tie.Need-returns
-returns c = ?
+returns c =
+    let s = c .before .before .before .before .before .before .before .before .before .before .before .before .before .args .s .now in
+    let e = c .before .before .before .before .before .before .before .before .before .before .get2 .ensures in
+    let f = c .before .before .before .before .before .before .before .before .before .get22 .ensures in
+    let g = c .before .before .before .before .before .before .before .before .get23 .ensures in
+    let p = rw e at (c .before .before .before .before .before .before .before .points-at .ensures) in
+    let q = rw (c .before .before .before .before .before .before .counted .ensures .0, e, f) at (c .before .before .before .before .before .curves-at .ensures) in
+    let r = rw (c .before .before .before .before .counted2 .ensures .0, e, f, g) at (c .before .before .before .relations-at .ensures) in
+    rw (e, f, g)
+    (partial s _ _ _ _ _ _ p q r (λ k. c .before .before .before .before .before .before .before .before .before .before .before .before .shared-slice-known .given k .fits) (head-kept s 0 (c .before .before .before .before .before .before .before .before .before .before .before .before .before .pre) .0) _ (rw (c .before .before .before .before .before .before .before .before .before .before .before .get4 .ensures)) refl refl refl)
 
 pub spell-spec : {M : Type 1} → statement M
 spell-spec =
