@@ -9,7 +9,7 @@ fn main() {
         PathBuf::from(std::env::var("CARGO_MANIFEST_DIR").expect("set by cargo")).join("..");
     let named = std::env::var("MULKEFI_STATICLIB").unwrap_or("../target/staticlib".into());
     let folder = oracle.join(named);
-    let library = folder.join("libkiosk.a");
+    let library = folder.join("libprobe.a");
     println!("cargo::rerun-if-changed={}", library.display());
     if !library.is_file() {
         println!(
@@ -19,5 +19,5 @@ fn main() {
         return;
     }
     println!("cargo::rustc-link-search=native={}", folder.display());
-    println!("cargo::rustc-link-lib=static=kiosk");
+    println!("cargo::rustc-link-lib=static=probe");
 }

@@ -8,4 +8,5 @@ pub mod Headers
 pub mod Trips
 pub mod Spelled
 pub mod Written
+pub mod MessageTrips
 pub mod Answers

@@ -15,7 +15,7 @@ use Rattle.sketch.specs.Drawing.{Drawing, limits}
 use Rattle.sketch.specs.Valid.{okPoint, okCurve, okRelation, soundCurve, soundRelation, hasPoint, sortIn, tableFault, listFault, faultOf}
 use Rattle.image.specs.Records.{pointForm, pointOf, curveForm, curveOf, relationForm, relationOf}
 use Rattle.image.specs.Image.{version, nextAt, pointCount, curveCount, relationCount, sizeOf, curvesFrom, relationsFrom, headFault, rowsAt, pointRows, curveRows, relationRows, drawingOf, rowId, recordsFault, imageFault, Outcome, refused, accepted, verdict, parse}
-use Rattle.image.specs.Encode.{encodePoint, encodeCurve, encodeRelation, header, encode}
+use Rattle.image.specs.Encode.{encodePoint, encodeCurve, encodeRelation, header, drawingSize, encode}
 use Rattle.image.specs.Stored.{Each, Stored, StoredPoint, StoredCurve, StoredRelation}
 use Rattle.image.proofs.Tables.{length-rows, rows-join, rows-proper, spread-back, Sized, sized-all, length-spread, rows-spread, Spells, of-rows, table-there, list-there, both, table-kept, list-kept, table-whole, list-whole}
 use Rattle.image.proofs.Points.{length-point, point-there, point-back}
@@ -204,7 +204,7 @@ image-kept s e =
     let t3 = list-kept (λ r. relationForm r && okRelation (relationOf r)) (λ r. soundRelation (hasPoint (d .points)) (sortIn (d .curves)) (relationOf r)) (relationRows s) (t2 .1) in
     record { head = h .0; points-pass = t1 .0; curves-pass = t2 .0; relations-pass = t3; records-pass = h .1 }
 
-encode-back : (s : List ℕ) → Bytes s → Sound s → encode (drawingOf s) ≡ s
+pub encode-back : (s : List ℕ) → Bytes s → Sound s → encode (drawingOf s) ≡ s
 unfolding encode
 encode-back s b w =
     let h = w .head in
@@ -235,6 +235,14 @@ encode-back s b w =
       part-join s 0 15 (np * 21 + (nc * 47 + nr * 17)),
     )
     (take-all (15 + (np * 21 + (nc * 47 + nr * 17))) s (omega arith))
+
+-- a drawing's image is as long as the bytes that it was read from
+pub size-back : (s : List ℕ) → Sound s → drawingSize (drawingOf s) ≡ length s
+size-back s w =
+    let lp = length-map (pointRows s) pointOf ∙ length-rows 21 (pointCount s) s 15 in
+    let lc = length-map (curveRows s) curveOf ∙ length-rows 47 (curveCount s) s (curvesFrom (pointCount s)) in
+    let lr = length-map (relationRows s) relationOf ∙ length-rows 17 (relationCount s) s (relationsFrom (pointCount s) (curveCount s)) in
+    rw (lp, lc, lr) (w .head .size)
 
 -- an accepted image, written again, is the same bytes
 pub back : (s : List ℕ) (d : Drawing) → Bytes s → parse s ≡ accepted d → encode d ≡ s

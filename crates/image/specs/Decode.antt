@@ -12,7 +12,7 @@ use Rattle.sketch.specs.Valid.{sketchFault}
 use Rattle.sketch.specs.declared.Sketch.{Sketch}
 use Rattle.image.specs.declared.ImageRead.{ImageRead}
 use Rattle.image.specs.Records.{pointForm, curveForm, relationForm}
-use Rattle.image.specs.Image.{drawingOf, recordsFault, Outcome, verdict}
+use Rattle.image.specs.Image.{drawingOf, recordsFault, Outcome, verdict, parse}
 
 -- eight bytes that are no NaN's
 abbrev pub numberAt : List ℕ → ℕ → Bool
@@ -47,3 +47,8 @@ pub record Partial (s : List ℕ) (sk : Sketch) (whole : Bool) : Type 0 where
 -- what the reader's answer stands for
 abbrev pub outcome : ImageRead → Outcome
 outcome r = verdict (r .refusal) (view (r .sketch))
+
+-- the answer is what the bytes are read as, with a sketch that passes the test: an empty one where they are refused
+pub record Answered (s : List ℕ) (r : ImageRead) : Type 0 where
+  pub told : outcome r ≡ parse s
+  pub sound : sketchFault (r .sketch) ≡ 0

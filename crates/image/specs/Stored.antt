@@ -13,6 +13,7 @@ use Rattle.sketch.specs.declared.CurveKind.{CurveKind}
 use Rattle.sketch.specs.declared.CurveKind.the-variants.{Line, Arc, Circle, Bezier, Conic}
 use Rattle.sketch.specs.declared.Relation.{Relation}
 use Rattle.sketch.specs.declared.Relation.the-variants.{Coincident, PointOnCurve, Collinear, Equal, Length, Distance, Midpoint, ArcLength, ArcSweep}
+use Rattle.image.specs.declared.Message.{Message}
 use Rattle.image.specs.Records.{noSlots}
 
 abbrev pub Each : {A : Type 0} → (A → Type 0) → List A → Type 0
@@ -64,3 +65,9 @@ pub record Stored (d : Drawing) : Type 0 where
   pub points-fit : Each StoredPoint (d .points)
   pub curves-fit : Each StoredCurve (d .curves)
   pub relations-fit : Each StoredRelation (d .relations)
+
+pub record StoredMessage (m : Message) : Type 0 where
+  pub number-fits : Id (m .number)
+  pub curve-fits : Id (m .curve)
+  pub x-fits : m .x < 2 ^ 64
+  pub y-fits : m .y < 2 ^ 64

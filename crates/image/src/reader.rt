@@ -22,8 +22,9 @@ ghost use Prim.Native.Nat.{_+_, _*_, _≤_};
 ghost use lib.ListN.{length, take};
 ghost use Rattle.image.specs.Records.{pointOf, curveOf, relationOf};
 ghost use Rattle.sketch.specs.Lists.{pick};
-ghost use Rattle.image.specs.Image.{headFault, rowsAt, parse};
-ghost use Rattle.image.specs.Decode.{plainPoint, plainCurve, plainRelation, Decoded, Partial, outcome};
+ghost use Rattle.sketch.specs.Valid.{sketchFault};
+ghost use Rattle.image.specs.Image.{headFault, rowsAt};
+ghost use Rattle.image.specs.Decode.{plainPoint, plainCurve, plainRelation, Decoded, Partial, Answered};
 
 struct PointTable {
     slots: [Point; 512],
@@ -217,7 +218,7 @@ fn spell(s: &[u8]) -> Spelled
 }
 
 fn refuse(number: u8) -> ImageRead
-    ensures { λ r. ⌜ r .refusal ≡ number ⌝ }
+    ensures { λ r. ⌜ (r .refusal ≡ number) × (sketchFault (r .sketch) ≡ 0) ⌝ }
 {
     let points = no_points();
     let curves = no_curves();
@@ -239,7 +240,7 @@ fn refuse(number: u8) -> ImageRead
 
 // Reads an image: its sketch, or the number of the first rule that it breaks, with an empty sketch.
 pub fn read(s: &[u8]) -> ImageRead
-    ensures { λ r. ⌜ outcome r ≡ parse (now (s .entry)) ⌝ }
+    ensures { λ r. ⌜ Answered (now (s .entry)) r ⌝ }
 {
     let head = head_fault(s);
     if head != 0 {

@@ -22,7 +22,7 @@ refuse-requires c κs = search needs
 
 -- src/reader.rt:246:9
 returns : tie.Need-returns
-returns c = by-header (c .before .before .before .before .args .s .now) (c .before .before .head-fault .ensures) (c .before .if1 .taken) (c .refuse .result) (c .refuse .ensures)
+returns c = record { told = by-header (c .before .before .before .before .args .s .now) (c .before .before .head-fault .ensures) (c .before .if1 .taken) (c .refuse .result) (c .refuse .ensures .0); sound = c .refuse .ensures .1 }
 
 -- src/reader.rt:248:9
 spell-requires : tie.Need-spell-requires
@@ -38,7 +38,7 @@ refuse-requires-2 c κs = search needs
 
 -- src/reader.rt:252:9
 returns-2 : tie.Need-returns-2
-returns-2 c = by-record (c .before .before .before .before .before .before .before .before .args .s .now) (c .before .before .before .before .before .before .head-fault .ensures) (c .before .before .before .before .before .if1 .left) _ _ (c .before .before .before .before .spell .ensures) (c .before .before .fault .ensures) (c .before .if2 .taken) (c .refuse2 .result) (c .refuse2 .ensures)
+returns-2 c = record { told = by-record (c .before .before .before .before .before .before .before .before .args .s .now) (c .before .before .before .before .before .before .head-fault .ensures) (c .before .before .before .before .before .if1 .left) _ _ (c .before .before .before .before .spell .ensures) (c .before .before .fault .ensures) (c .before .if2 .taken) (c .refuse2 .result) (c .refuse2 .ensures .0); sound = c .refuse2 .ensures .1 }
 
 -- src/reader.rt:255:9
 refuse-requires-3 : tie.Need-refuse-requires-3
@@ -46,11 +46,11 @@ refuse-requires-3 c κs = search needs
 
 -- src/reader.rt:255:9
 returns-3 : tie.Need-returns-3
-returns-3 c = by-form (c .before .before .before .before .before .before .before .before .before .before .args .s .now) (c .before .before .before .before .before .before .before .before .head-fault .ensures) (c .before .before .before .before .before .before .before .if1 .left) _ _ (c .before .before .before .before .before .before .spell .ensures) (c .before .before .before .before .fault .ensures) (c .before .before .before .if2 .left) (not-true _ (c .before .if3 .taken)) (c .refuse3 .result) (c .refuse3 .ensures)
+returns-3 c = record { told = by-form (c .before .before .before .before .before .before .before .before .before .before .args .s .now) (c .before .before .before .before .before .before .before .before .head-fault .ensures) (c .before .before .before .before .before .before .before .if1 .left) _ _ (c .before .before .before .before .before .before .spell .ensures) (c .before .before .before .before .fault .ensures) (c .before .before .before .if2 .left) (not-true _ (c .before .if3 .taken)) (c .refuse3 .result) (c .refuse3 .ensures .0); sound = c .refuse3 .ensures .1 }
 
 -- src/reader.rt:241:1
 returns-4 : tie.Need-returns-4
-returns-4 c = accepts (c .before .before .before .before .before .before .before .before .before .args .s .now) (c .before .before .before .before .before .before .before .head-fault .ensures) (c .before .before .before .before .before .before .if1 .left) _ _ (c .before .before .before .before .before .spell .ensures) (c .before .before .before .fault .ensures) (c .before .before .if2 .left) (not-false _ (c .if3 .left))
+returns-4 c = record { told = accepts (c .before .before .before .before .before .before .before .before .before .args .s .now) (c .before .before .before .before .before .before .before .head-fault .ensures) (c .before .before .before .before .before .before .if1 .left) _ _ (c .before .before .before .before .before .spell .ensures) (c .before .before .before .fault .ensures) (c .before .before .if2 .left) (not-false _ (c .if3 .left)); sound = sym (c .before .before .before .fault .ensures) ∙ c .before .before .if2 .left }
 
 pub read-spec : {M : Type 1} → statement M
 read-spec =

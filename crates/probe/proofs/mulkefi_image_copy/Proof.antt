@@ -1,0 +1,41 @@
+use native.Mathlib.Omega.{arith}
+use borrow.Author.Needs.{needs}
+use Rattle.probe.proofs.mulkefi_image_copy.Statement.{statement}
+use Rattle.probe.proofs.mulkefi_image_copy.Tie as tie
+use Rattle.probe.proofs.mulkefi_image_copy.Reads as reads
+use Rattle.probe.proofs.mulkefi_image_copy.Lts as lts
+use Rattle.image.proofs.read.Reads as read-reads
+use Rattle.image.proofs.write.Reads as write-reads
+
+-- src/lib.rt:32:9
+read-requires : tie.Need-read-requires
+read-requires c κs = search needs
+
+-- src/lib.rt:34:16
+cast-result : tie.Need-cast-result
+cast-result c = search needs
+
+-- src/lib.rt:34:9
+returns : tie.Need-returns
+returns c = search needs
+
+-- src/lib.rt:37:5
+write-requires : tie.Need-write-requires
+write-requires c κs = search needs
+
+-- src/lib.rt:37:5
+cast-result-2 : tie.Need-cast-result-2
+cast-result-2 c = search needs
+
+-- src/lib.rt:28:1
+same-length : tie.Need-same-length
+same-length c = search needs
+
+-- src/lib.rt:28:1
+returns-2 : tie.Need-returns-2
+returns-2 c = search needs
+
+pub mulkefi-image-copy-spec : {M : Type 1} → statement M
+mulkefi-image-copy-spec =
+    tie.close
+    (tie.spec read-requires cast-result returns write-requires cast-result-2 same-length returns-2)

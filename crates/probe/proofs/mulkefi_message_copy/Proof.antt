@@ -1,0 +1,58 @@
+use native.Mathlib.Omega.{arith}
+use borrow.Author.Needs.{needs}
+use Rattle.probe.proofs.mulkefi_message_copy.Statement.{statement}
+use Rattle.probe.proofs.mulkefi_message_copy.Tie as tie
+use Rattle.probe.proofs.mulkefi_message_copy.Reads as reads
+use Rattle.probe.proofs.mulkefi_message_copy.Lts as lts
+use Rattle.image.proofs.read_message.Reads as read-message-reads
+use Rattle.image.proofs.write_message.Reads as write-message-reads
+
+-- src/lib.rt:45:11
+read-message-requires : tie.Need-read-message-requires
+read-message-requires c κs = search needs
+
+-- src/lib.rt:46:30
+enum-known-number : tie.Need-enum-known-number
+enum-known-number c = search needs
+
+-- src/lib.rt:46:41
+cast-result : tie.Need-cast-result
+cast-result c = search needs
+
+-- src/lib.rt:47:31
+enum-known-m : tie.Need-enum-known-m
+enum-known-m c = search needs
+
+-- src/lib.rt:47:37
+write-message-requires : tie.Need-write-message-requires
+write-message-requires c κs = search needs
+
+-- src/lib.rt:47:37
+cast-result-2 : tie.Need-cast-result-2
+cast-result-2 c = search needs
+
+-- src/lib.rt:41:1
+returns : tie.Need-returns
+returns c = search needs
+
+-- src/lib.rt:41:1
+same-length : tie.Need-same-length
+same-length c = search needs
+
+-- src/lib.rt:41:1
+returns-2 : tie.Need-returns-2
+returns-2 c = search needs
+
+pub mulkefi-message-copy-spec : {M : Type 1} → statement M
+mulkefi-message-copy-spec =
+    tie.close
+    (tie.spec
+    read-message-requires
+    enum-known-number
+    cast-result
+    enum-known-m
+    write-message-requires
+    cast-result-2
+    returns
+    same-length
+    returns-2)

@@ -1,0 +1,36 @@
+use native.Mathlib.Omega.{arith}
+use borrow.Author.Needs.{needs}
+use Rattle.probe.proofs.mulkefi_sketch_test.Statement.{statement}
+use Rattle.probe.proofs.mulkefi_sketch_test.Tie as tie
+use Rattle.probe.proofs.mulkefi_sketch_test.Reads as reads
+use Rattle.probe.proofs.mulkefi_sketch_test.Lts as lts
+use Rattle.image.proofs.read.Reads as read-reads
+use Rattle.sketch.proofs.fault.Reads as fault-reads
+
+-- src/lib.rt:56:9
+read-requires : tie.Need-read-requires
+read-requires c κs = search needs
+
+-- src/lib.rt:58:16
+cast-result : tie.Need-cast-result
+cast-result c = search needs
+
+-- src/lib.rt:58:9
+returns : tie.Need-returns
+returns c = search needs
+
+-- src/lib.rt:65:5
+fault-requires : tie.Need-fault-requires
+fault-requires c κs = search needs
+
+-- src/lib.rt:65:5
+cast-result-2 : tie.Need-cast-result-2
+cast-result-2 c = search needs
+
+-- src/lib.rt:52:1
+returns-2 : tie.Need-returns-2
+returns-2 c = search needs
+
+pub mulkefi-sketch-test-spec : {M : Type 1} → statement M
+mulkefi-sketch-test-spec =
+    tie.close (tie.spec read-requires cast-result returns fault-requires cast-result-2 returns-2)
