@@ -1,3 +1,5 @@
+use Rattle.probe.proofs.Answers.{read-number, not-copied, image-copied, message-copied}
+use mathlib.Core.Path.{_≡_, refl, sym, ap, _∙_}
 use native.Mathlib.Omega.{arith}
 use borrow.Author.Needs.{needs}
 use Rattle.probe.proofs.mulkefi_image_copy.Statement.{statement}
@@ -17,7 +19,7 @@ cast-result c = search needs
 
 -- src/lib.rt:34:9
 returns : tie.Need-returns
-returns c = search needs
+returns c = not-copied _ _ _ _ (read-number (c .before .before .before .read .result) (c .before .before .before .before .before .before .args .bytes .now) (c .before .before .before .read .ensures .told)) (c .before .if1 .taken)
 
 -- src/lib.rt:37:5
 write-requires : tie.Need-write-requires
@@ -33,7 +35,7 @@ same-length c = search needs
 
 -- src/lib.rt:28:1
 returns-2 : tie.Need-returns-2
-returns-2 c = search needs
+returns-2 c = image-copied (c .before .before .before .before .before .before .before .before .before .before .args .bytes .now) (c .before .before .before .before .before .before .before .before .before .before .args .out .now) _ _ (c .before .before .before .before .before .before .before .read .result) _ (λ k. c .before .before .before .before .before .before .before .before .before .shared-slice-known .given k .fits) (c .before .before .before .before .before .before .before .read .ensures) (c .before .before .before .before .before .if1 .left) refl (c .before .before .write .ensures)
 
 pub mulkefi-image-copy-spec : {M : Type 1} → statement M
 mulkefi-image-copy-spec =

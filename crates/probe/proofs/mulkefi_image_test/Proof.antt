@@ -1,3 +1,5 @@
+use Rattle.probe.proofs.Answers.{read-number, not-copied, image-copied, message-copied}
+use mathlib.Core.Path.{_≡_, refl, sym, ap, _∙_}
 use native.Mathlib.Omega.{arith}
 use borrow.Author.Needs.{needs}
 use Rattle.probe.proofs.mulkefi_image_test.Statement.{statement}
@@ -16,7 +18,7 @@ cast-result c = search needs
 
 -- src/lib.rt:19:1
 returns : tie.Need-returns
-returns c = search needs
+returns c = read-number (c .before .read .result) (c .before .before .before .args .bytes .now) (c .before .read .ensures .told)
 
 pub mulkefi-image-test-spec : {M : Type 1} → statement M
 mulkefi-image-test-spec = tie.close (tie.spec read-requires cast-result returns)

@@ -1,3 +1,6 @@
+use Rattle.image.proofs.MessageTrips.{verdict-refused}
+use Rattle.probe.proofs.Answers.{read-number, not-copied, image-copied, message-copied}
+use mathlib.Core.Path.{_≡_, refl, sym, ap, _∙_}
 use native.Mathlib.Omega.{arith}
 use borrow.Author.Needs.{needs}
 use Rattle.probe.proofs.mulkefi_message_copy.Statement.{statement}
@@ -33,7 +36,9 @@ cast-result-2 c = search needs
 
 -- src/lib.rt:41:1
 returns : tie.Need-returns
-returns c = search needs
+returns c =
+    let v = verdict-refused _ _ _ (sym (c .before .before .before .read-message .ensures) ∙ c .before .number .given .1) in
+    not-copied _ _ _ _ (v .0) (v .1)
 
 -- src/lib.rt:41:1
 same-length : tie.Need-same-length
@@ -41,7 +46,7 @@ same-length c = search needs
 
 -- src/lib.rt:41:1
 returns-2 : tie.Need-returns-2
-returns-2 c = search needs
+returns-2 c = message-copied (c .before .before .before .before .before .before .before .before .before .before .args .bytes .now) (c .before .before .before .before .before .before .before .before .before .before .args .out .now) _ _ _ (λ k. c .before .before .before .before .before .before .before .before .before .shared-slice-known .given k .fits) (sym (c .before .before .before .before .before .before .before .read-message .ensures) ∙ c .before .before .before .before .before .m .given .1) (c .before .before .write-message .ensures)
 
 pub mulkefi-message-copy-spec : {M : Type 1} → statement M
 mulkefi-message-copy-spec =

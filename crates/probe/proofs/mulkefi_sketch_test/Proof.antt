@@ -1,3 +1,6 @@
+use Rattle.probe.proofs.Answers.{read-number, read-drawing, not-copied, image-copied, message-copied}
+use Rattle.probe.specs.Probe.{unread, tested}
+use mathlib.Core.Path.{_≡_, refl, sym, ap, _∙_}
 use native.Mathlib.Omega.{arith}
 use borrow.Author.Needs.{needs}
 use Rattle.probe.proofs.mulkefi_sketch_test.Statement.{statement}
@@ -17,7 +20,7 @@ cast-result c = search needs
 
 -- src/lib.rt:58:9
 returns : tie.Need-returns
-returns c = search needs
+returns c = unread (read-number (c .before .before .before .read .result) (c .before .before .before .before .before .args .bytes .now) (c .before .before .before .read .ensures .told))
 
 -- src/lib.rt:65:5
 fault-requires : tie.Need-fault-requires
@@ -29,7 +32,11 @@ cast-result-2 c = search needs
 
 -- src/lib.rt:52:1
 returns-2 : tie.Need-returns-2
-returns-2 c = search needs
+returns-2 c =
+    let r = c .before .before .before .before .read in
+    let z = c .before .before .if1 .left in
+    let s = c .before .before .before .before .before .before .args .bytes .now in
+    tested (r .result .sketch) (sym (read-number (r .result) s (r .ensures .told)) ∙ z) (read-drawing (r .result) s (r .ensures .told) z) (c .fault .ensures)
 
 pub mulkefi-sketch-test-spec : {M : Type 1} → statement M
 mulkefi-sketch-test-spec =
