@@ -178,19 +178,43 @@ run-puts l at k n v a now then h w f =
     let q : length (bytes n v) ≡ n = length-bytes n v in
     run-over l at k n a (bytes n v) now then h q w (f ∙ placed-fits now (at + k) (bytes n v) (omega arith))
 
--- ---- a number written: its low byte, nothing where it does not fit, one half after the other
+-- ---- a number written: its low byte, its low bytes, or nothing where they don't fit
 
 pub put-byte : (l : List ℕ) (at v : ℕ) → at < length l → set l at (v % 256) ≡ placed l at (bytes 1 v)
 unfolding bytes
 put-byte l at v h = rw (over-one l at (v % 256) h) (sym (placed-fits l at (v % 256 ∷ []) (omega arith)))
 
+pub put-bytes : (l : List ℕ) (at n v : ℕ) {then : List ℕ} → at + n ≤ length l → then ≡ over l at (bytes n v) → then ≡ placed l at (bytes n v)
+put-bytes l at n v h e = e ∙ sym (placed-fits l at (bytes n v) (rw length-bytes h))
+
 pub put-nothing : (l : List ℕ) (at n v : ℕ) → length l < at + n → l ≡ placed l at (bytes n v)
 put-nothing l at n v h = sym (placed-not l at (bytes n v) (rw length-bytes h))
 
-pub put-halves : (l : List ℕ) (at h v : ℕ) {now then : List ℕ} → at + (h + h) ≤ length l → now ≡ placed l at (bytes h (v / 256 ^ h)) → then ≡ placed now (at + h) (bytes h v)
-    → then ≡ placed l at (bytes (h + h) v)
-put-halves l at h v {now} {then} fit first second =
-    let a = run-starts l at h (v / 256 ^ h) (omega arith) first in
-    let b = run-puts l at h h v (bytes h (v / 256 ^ h)) now then fit a second in
-    let n : length (bytes (h + h) v) ≡ h + h = length-bytes (h + h) v in
-    b .is ∙ rw (← bytes-split h h v) (sym (placed-fits l at (bytes (h + h) v) (omega arith)))
+-- one half after the other
+pub store-halves : (l : List ℕ) (at h v : ℕ) {now then : List ℕ} → at + (h + h) ≤ length l → now ≡ over l at (bytes h (v / 256 ^ h)) → then ≡ over now (at + h) (bytes h v)
+    → then ≡ over l at (bytes (h + h) v)
+store-halves l at h v {now} {then} fit first second =
+    let a : Run l at h (bytes h (v / 256 ^ h)) now = record { is = first; long = length-bytes h (v / 256 ^ h) } in
+    let b = run-over l at h h (bytes h (v / 256 ^ h)) (bytes h v) now then fit (length-bytes h v) a second in
+    b .is ∙ rw (← bytes-split h h v)
+
+-- two bytes
+pub store-two : (l : List ℕ) (at v : ℕ) → at + 2 ≤ length l → set (set l at (v / 256 % 256)) (at + 1) (v % 256) ≡ over l at (bytes 2 v)
+unfolding bytes
+store-two l at v h =
+    let m = set l at (v / 256 % 256) in
+    let n : length m ≡ length l = length-set l at (v / 256 % 256) in
+    let e : v / 256 ^ 1 ≡ v / 256 = refl in
+    store-halves l at 1 v {now = m} (omega arith) (rw e (over-one l at (v / 256 % 256) (omega arith))) (over-one m (at + 1) (v % 256) (omega arith))
+
+-- eight bytes, each with its weight
+pub field-flat : (s : List ℕ) (at a b c d e f g h : ℕ) → a ≡ getD s at 0 → b ≡ getD s (at + 1) 0 → c ≡ getD s (at + 2) 0 → d ≡ getD s (at + 3) 0
+    → e ≡ getD s (at + 4) 0 → f ≡ getD s (at + 5) 0 → g ≡ getD s (at + 6) 0 → h ≡ getD s (at + 7) 0
+    → a * 0x0100_0000_0000_0000 + b * 0x0001_0000_0000_0000 + c * 0x0000_0100_0000_0000 + d * 0x0000_0001_0000_0000
+    + e * 0x0000_0000_0100_0000 + f * 0x0000_0000_0001_0000 + g * 0x0000_0000_0000_0100 + h
+    ≡ field s at 8
+unfolding field
+field-flat s at a b c d e f g h ea eb ec ed ee ef eg eh =
+    let z : at + 0 ≡ at = omega arith in
+    let y : getD s (at + 0) 0 ≡ getD s at 0 = ap (λ (k : ℕ). getD s k 0) z in
+    omega arith

@@ -1,39 +1,48 @@
-// Big-endian numbers in byte slices.
+// Big-endian numbers in byte slices. Where all bytes are there they are read or written at once.
+mod load;
+mod store;
+
 ghost use mathlib.Core.Path.{_≡_};
 ghost use Rattle.big_endian.specs.Fields.{field, bytes, placed};
-
-fn wide(x: u8) -> u16
-    ensures { λ r. ⌜ r ≡ x ⌝ }
-{
-    x as u16
-}
 
 // The byte at a place; 0 past the end.
 pub fn get1(s: &[u8], at: usize) -> u8
     ensures { λ r. ⌜ r ≡ field (now (s .entry)) at 1 ⌝ }
 {
-    if at < s.len() { s[at] } else { 0 }
+    if at < s.len() {
+        s[at]
+    } else {
+        0
+    }
 }
 
 // The number that two bytes spell; those past the end count as 0.
 pub fn get2(s: &[u8], at: usize) -> u16
     ensures { λ r. ⌜ r ≡ field (now (s .entry)) at 2 ⌝ }
 {
-    if s.len() <= at {
+    let n = s.len();
+    if n <= at {
         return 0;
     }
-    wide(get1(s, at)) * 256 + wide(get1(s, at + 1))
+    if 2 <= n - at {
+        return load::load2(s, at);
+    }
+    get1(s, at) as u16 * 256
 }
 
 // The number that four bytes spell; those past the end count as 0.
 pub fn get4(s: &[u8], at: usize) -> u32
     ensures { λ r. ⌜ r ≡ field (now (s .entry)) at 4 ⌝ }
 {
-    if s.len() <= at {
+    let n = s.len();
+    if n <= at {
         return 0;
     }
+    if 4 <= n - at {
+        return load::load4(s, at);
+    }
     let high = get2(s, at) as u32 * 65536;
-    if s.len() - at <= 2 {
+    if n - at <= 2 {
         return high;
     }
     high + get2(s, at + 2) as u32
@@ -43,11 +52,15 @@ pub fn get4(s: &[u8], at: usize) -> u32
 pub fn get8(s: &[u8], at: usize) -> u64
     ensures { λ r. ⌜ r ≡ field (now (s .entry)) at 8 ⌝ }
 {
-    if s.len() <= at {
+    let n = s.len();
+    if n <= at {
         return 0;
     }
+    if 8 <= n - at {
+        return load::load8(s, at);
+    }
     let high = get4(s, at) as u64 * 0x1_0000_0000;
-    if s.len() - at <= 4 {
+    if n - at <= 4 {
         return high;
     }
     high + get4(s, at + 4) as u64
@@ -73,8 +86,7 @@ pub fn put2(buf: &mut [u8], at: usize, v: u64)
     if n - 2 < at {
         return;
     }
-    put1(buf, at, v / 256);
-    put1(buf, at + 1, v);
+    store::store2(buf, at, v);
 }
 
 // Writes the four low bytes of a number, the highest first; nothing where they don't fit.
@@ -88,8 +100,7 @@ pub fn put4(buf: &mut [u8], at: usize, v: u64)
     if n - 4 < at {
         return;
     }
-    put2(buf, at, v / 65536);
-    put2(buf, at + 2, v);
+    store::store4(buf, at, v);
 }
 
 // Writes the eight bytes of a number, the highest first; nothing where they don't fit.
@@ -103,6 +114,5 @@ pub fn put8(buf: &mut [u8], at: usize, v: u64)
     if n - 8 < at {
         return;
     }
-    put4(buf, at, v / 0x1_0000_0000);
-    put4(buf, at + 4, v);
+    store::store8(buf, at, v);
 }

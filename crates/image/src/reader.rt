@@ -5,6 +5,7 @@ use crate::records::point_at;
 use crate::records::point_plain;
 use crate::records::relation_at;
 use crate::records::relation_plain;
+use crate::records::slots_at;
 use crate::ImageRead;
 use crate::IMAGE_VERSION;
 use big_endian::get1;
@@ -148,10 +149,11 @@ fn curves_at(s: &[u8], from: usize, n: usize) -> CurveTable
         let at = from + i * 47;
         let end = at + 47;
         let r = &s[at..end];
-        if !curve_plain(r) {
+        let ids = slots_at(r);
+        if !curve_plain(r, ids) {
             return CurveTable { slots, count: i };
         }
-        slots[i] = curve_at(r);
+        slots[i] = curve_at(r, ids);
         i += 1;
     }
     CurveTable { slots, count: n }

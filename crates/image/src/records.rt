@@ -51,13 +51,15 @@ fn used_slots(kind: u8, degree: u8) -> usize
     }
 }
 
-fn slots_at(r: &[u8]) -> [u32; 8]
+pub(crate) fn slots_at(r: &[u8]) -> [u32; 8]
     ensures { λ v. ⌜ v ≡ slotsOf (now (r .entry)) ⌝ }
 {
     [get4(r, 7), get4(r, 11), get4(r, 15), get4(r, 19), get4(r, 23), get4(r, 27), get4(r, 31), get4(r, 35)]
 }
 
-pub(crate) fn curve_plain(r: &[u8]) -> bool
+// The record's slots come with it: they are read once.
+pub(crate) fn curve_plain(r: &[u8], s: [u32; 8]) -> bool
+    requires { ⌜ s ≡ slotsOf (now r) ⌝ }
     ensures { λ v. ⌜ v ≡ plainCurve (now (r .entry)) ⌝ }
 {
     let kind = get1(r, 4);
@@ -65,7 +67,7 @@ pub(crate) fn curve_plain(r: &[u8]) -> bool
     let number = get8(r, 39);
     let known = (1 <= kind) & (kind <= 5) & (get1(r, 5) <= 7);
     let bare = ((kind == 4) | (degree == 0)) & ((kind == 3) | (kind == 5) | (number == 0));
-    known & bare & sketch::clear_from(slots_at(r), used_slots(kind, degree)) & is_number(number)
+    known & bare & sketch::clear_from(s, used_slots(kind, degree)) & is_number(number)
 }
 
 // The kind by its byte.
@@ -91,13 +93,12 @@ fn kept_slots(kind: u8, s: [u32; 8]) -> [u32; 8]
     [0, 0, 0, 0, 0, 0, 0, 0]
 }
 
-pub(crate) fn curve_at(r: &[u8]) -> Curve
-    requires { ⌜ plainCurve (now r) ≡ true ⌝ }
+pub(crate) fn curve_at(r: &[u8], s: [u32; 8]) -> Curve
+    requires { ⌜ (plainCurve (now r) ≡ true) × (s ≡ slotsOf (now r)) ⌝ }
     ensures { λ v. ⌜ v ≡ curveOf (now (r .entry)) ⌝ }
 {
     let byte = get1(r, 4);
     let flags = get1(r, 5);
-    let s = slots_at(r);
     let kind = kind_of(byte, get1(r, 6), s, f64::from_bits(get8(r, 39)));
     let slots = kept_slots(byte, s);
     Curve {

@@ -68,13 +68,13 @@ impl Subject for Sketches {
     fn case(random: &mut Random) -> Case {
         let drawing = bridges::any_drawing(random);
         let mut bytes = image::to_bytes(&drawing);
-        let held = [drawing.points.len(), drawing.curves.len(), drawing.relations.len()];
         let last = drawing.points.last().map_or(0, |point| point.id);
         let next = drawing.next_id;
         let nexts = [(12, next), (1, next - 1), (1, 0), (1, 1), (1, last), (1, u32::MAX)];
         if random.one_in(50) {
             damage::damage(random, &mut bytes);
         }
+        let held = Tables::of(&bytes).map_or([0; 3], |tables| tables.counts);
         Case { image: Hex(bytes), next: random.weighted(&nexts), counts: some_counts(random, held) }
     }
 

@@ -1,0 +1,7 @@
+-- What the contracts of `float` cite.
+pub mod Root
+pub mod Numbers
+pub mod Sign
+pub mod Order
+pub mod Thresholds
+pub mod Rooted

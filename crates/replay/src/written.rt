@@ -1,0 +1,23 @@
+// Buffers that a writer was lent: filled with a pattern before, so that bytes it should leave alone can be told.
+
+pub(crate) const PATTERN: u8 = 0xa5;
+
+// Whether a buffer of the pattern was overwritten with some bytes at its front, and only there.
+pub(crate) fn holds_just(buf: &[u8], bytes: &[u8]) -> bool {
+    let n = buf.len();
+    if n < bytes.len() {
+        return false;
+    }
+    let mut i: usize = 0;
+    while i < n {
+        if buf[i] != byte_or_pattern(bytes, i) {
+            return false;
+        }
+        i += 1;
+    }
+    true
+}
+
+fn byte_or_pattern(bytes: &[u8], at: usize) -> u8 {
+    if at < bytes.len() { bytes[at] } else { PATTERN }
+}

@@ -1,0 +1,7 @@
+-- ---- what other crates cite
+pub mod Offsets
+pub mod Opened
+-- ---- what the proofs of the functions rest on
+pub mod Headings
+-- ---- values that are worked out
+pub mod Samples
