@@ -9,11 +9,7 @@ ghost use Rattle.big_endian.specs.Fields.{field, bytes, placed};
 pub fn get1(s: &[u8], at: usize) -> u8
     ensures { λ r. ⌜ r ≡ field (now (s .entry)) at 1 ⌝ }
 {
-    if at < s.len() {
-        s[at]
-    } else {
-        0
-    }
+    if at < s.len() { s[at] } else { 0 }
 }
 
 // The number that two bytes spell; those past the end count as 0.

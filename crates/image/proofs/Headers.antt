@@ -41,17 +41,19 @@ head-kept s rest e =
     let a = both _ _ (k3 .0) in
     let b3 = both _ _ (k4 .0) in
     let b2 = both _ _ (b3 .0) in
-    let b1 = both _ _ (b2 .0) in
-    (record {
-      long = leb-true _ _ (a .0);
-      version-is = eqb-true _ _ (k2 .0);
-      told = eqb-true _ _ (a .1);
-      few-points = leb-true _ _ (b1 .0);
-      few-curves = leb-true _ _ (b1 .1);
-      few-relations = leb-true _ _ (b2 .1);
-      size = eqb-true _ _ (b3 .1);
-      next-low = leb-true _ _ (k5 .0);
-    }, k5 .1)
+    let b1 = both _ _ (b2 .0) in (
+      record {
+        long = leb-true _ _ (a .0);
+        version-is = eqb-true _ _ (k2 .0);
+        told = eqb-true _ _ (a .1);
+        few-points = leb-true _ _ (b1 .0);
+        few-curves = leb-true _ _ (b1 .1);
+        few-relations = leb-true _ _ (b2 .1);
+        size = eqb-true _ _ (b3 .1);
+        next-low = leb-true _ _ (k5 .0);
+      },
+      k5 .1,
+    )
 
 pub head-passes : (s : List ℕ) (rest : ℕ) → Head s → headFault s rest ≡ rest
 unfolding headFault rule

@@ -186,4 +186,3 @@ module _ (s : List ℕ) (ps : List Point) (cs : List Curve) (rs : List Relation)
       at-most : (t : Bool) (k n m : ℕ) → k ≤ pick t n 0 → n ≤ m → k ≤ m
       at-most true k n m h l = omega arith
       at-most false k n m h l = omega arith
-

@@ -94,8 +94,6 @@ pub record Spells {A : Type 0} (enc : A → List ℕ) (of : List ℕ → A) (for
   pub tested : (form (enc a) && ok (of (enc a))) ≡ ok a
   pub spelled : of (enc a) ≡ a
 
-
-
 module _ {A : Type 0} (enc : A → List ℕ) (of : List ℕ → A) (form : List ℕ → Bool) (ok sound : A → Bool) where
   pub of-rows : (l : List A) → Each (Spells enc of form ok) l → map of (map enc l) ≡ l
   of-rows [] w = refl
@@ -188,7 +186,6 @@ module _ {A : Type 0} (ok sound : A → Bool) where
 module _ {A : Type 0} (of : List ℕ → A) (form plain : List ℕ → Bool) (id : A → ℕ) (ok sound : A → Bool)
     (kept : (r : List ℕ) → plain r ≡ true → form r ≡ true)
     (lost : (r : List ℕ) → plain r ≡ false → (form r && ok (of r)) ≡ false) where
-
   pub list-whole : (rows : List (List ℕ)) → every plain rows ≡ true
       → listFault (λ r. form r && ok (of r)) (λ r. sound (of r)) rows ≡ listFault ok sound (map of rows)
   list-whole [] h = refl

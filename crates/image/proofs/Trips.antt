@@ -142,12 +142,12 @@ module _ (s : List ℕ) (d : Drawing) (w : Stored d)
         curve-rows,
         relation-rows,
         table-there encodePoint pointOf pointForm okPoint (λ p. true) (λ p. p .id) (λ r. refl) (d .next) 0
-        (tableFault rowId (λ r. curveForm r && okCurve (curveOf r)) (λ r. soundCurve (hasPoint (d .points)) (curveOf r)) (d .next) 0 (map encodeCurve (d .curves))
-        (listFault (λ r. relationForm r && okRelation (relationOf r)) (λ r. soundRelation (hasPoint (d .points)) (sortIn (d .curves)) (relationOf r)) (map encodeRelation (d .relations))))
-        (d .points) (each-map point-there (d .points) (w .points-fit)),
+            (tableFault rowId (λ r. curveForm r && okCurve (curveOf r)) (λ r. soundCurve (hasPoint (d .points)) (curveOf r)) (d .next) 0 (map encodeCurve (d .curves))
+            (listFault (λ r. relationForm r && okRelation (relationOf r)) (λ r. soundRelation (hasPoint (d .points)) (sortIn (d .curves)) (relationOf r)) (map encodeRelation (d .relations))))
+            (d .points) (each-map point-there (d .points) (w .points-fit)),
         table-there encodeCurve curveOf curveForm okCurve (soundCurve (hasPoint (d .points))) (λ c. c .id) (λ r. refl) (d .next) 0
-        (listFault (λ r. relationForm r && okRelation (relationOf r)) (λ r. soundRelation (hasPoint (d .points)) (sortIn (d .curves)) (relationOf r)) (map encodeRelation (d .relations)))
-        (d .curves) (each-map curve-there (d .curves) (w .curves-fit)),
+            (listFault (λ r. relationForm r && okRelation (relationOf r)) (λ r. soundRelation (hasPoint (d .points)) (sortIn (d .curves)) (relationOf r)) (map encodeRelation (d .relations)))
+            (d .curves) (each-map curve-there (d .curves) (w .curves-fit)),
         list-there encodeRelation relationOf relationForm okRelation (soundRelation (hasPoint (d .points)) (sortIn (d .curves))) (d .relations) (each-map relation-there (d .relations) (w .relations-fit)),
       )
 

@@ -7,15 +7,15 @@ mod writer;
 ghost use mathlib.Core.Path.{_≡_};
 ghost use Rattle.image.specs.Image as I;
 ghost use Rattle.image.specs.Message as M;
-use sketch::Sketch;
-
 pub use messages::read_message;
 pub use messages::write_message;
 pub use reader::read;
+use sketch::Sketch;
 pub use writer::write;
 
 // The versions of the two formats.
 pub const IMAGE_VERSION: u8 = 1;
+
 pub const MESSAGE_VERSION: u8 = 1;
 
 // What a person does to a curve.

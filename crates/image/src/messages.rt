@@ -1,8 +1,8 @@
 // Edit messages: read and written.
+use crate::MESSAGE_VERSION;
 use crate::Message;
 use crate::MessageRead;
 use crate::Operation;
-use crate::MESSAGE_VERSION;
 use big_endian::get1;
 use big_endian::get4;
 use big_endian::get8;

@@ -1,4 +1,6 @@
 // The reader of images: the header's tests, the records up to the first that spells nothing, then the test of the sketch.
+use crate::IMAGE_VERSION;
+use crate::ImageRead;
 use crate::records::curve_at;
 use crate::records::curve_plain;
 use crate::records::point_at;
@@ -6,8 +8,6 @@ use crate::records::point_plain;
 use crate::records::relation_at;
 use crate::records::relation_plain;
 use crate::records::slots_at;
-use crate::ImageRead;
-use crate::IMAGE_VERSION;
 use big_endian::get1;
 use big_endian::get2;
 use big_endian::get4;
@@ -116,7 +116,9 @@ fn no_curves() -> [Curve; 128]
 fn no_relations() -> [RelationSlot; 256]
     ensures { λ r. ⌜ length r ≡ 256 ⌝ }
 {
-    let none = RelationSlot { relation: Relation::Coincident(0, 0) };
+    let none = RelationSlot {
+        relation: Relation::Coincident(0, 0),
+    };
     [none; 256]
 }
 

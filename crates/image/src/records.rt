@@ -54,7 +54,16 @@ fn used_slots(kind: u8, degree: u8) -> usize
 pub(crate) fn slots_at(r: &[u8]) -> [u32; 8]
     ensures { λ v. ⌜ v ≡ slotsOf (now (r .entry)) ⌝ }
 {
-    [get4(r, 7), get4(r, 11), get4(r, 15), get4(r, 19), get4(r, 23), get4(r, 27), get4(r, 31), get4(r, 35)]
+    [
+        get4(r, 7),
+        get4(r, 11),
+        get4(r, 15),
+        get4(r, 19),
+        get4(r, 23),
+        get4(r, 27),
+        get4(r, 31),
+        get4(r, 35),
+    ]
 }
 
 // The record's slots come with it: they are read once.
@@ -149,5 +158,10 @@ pub(crate) fn relation_at(r: &[u8]) -> Relation
     requires { ⌜ plainRelation (now r) ≡ true ⌝ }
     ensures { λ v. ⌜ v ≡ relationOf (now (r .entry)) ⌝ }
 {
-    relation_by(get1(r, 0), get4(r, 1), get4(r, 5), f64::from_bits(get8(r, 9)))
+    relation_by(
+        get1(r, 0),
+        get4(r, 1),
+        get4(r, 5),
+        f64::from_bits(get8(r, 9)),
+    )
 }

@@ -50,7 +50,13 @@ pub extern "C" fn mulkefi_message_copy(bytes: &[u8], out: &mut [u8]) -> u32
 
 // Reads an image and tests its sketch with another next id and other counts.
 #[no_mangle]
-pub extern "C" fn mulkefi_sketch_test(bytes: &[u8], next: u32, points: u32, curves: u32, relations: u32) -> u32
+pub extern "C" fn mulkefi_sketch_test(
+    bytes: &[u8],
+    next: u32,
+    points: u32,
+    curves: u32,
+    relations: u32,
+) -> u32
     ensures { λ r. ⌜ SketchTested (now (bytes .entry)) next points curves relations r ⌝ }
 {
     let r = image::read(bytes);

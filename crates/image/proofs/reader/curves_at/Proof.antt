@@ -104,8 +104,7 @@ loop-again c =
     let rows = rowsAt 47 (a .n) (a .s .now) (a .from) in
     let n : length rows ≡ a .n = length-rows 47 (a .n) (a .s .now) (a .from) in
     let row = row-part 47 (a .n) (a .s .now) (a .from) (l .i) (omega arith) in
-    let h : l .i < length (l .slots) = omega arith in
-    (
+    let h : l .i < length (l .slots) = omega arith in (
       simp length-set (l .inv .0),
       omega arith,
       decoding-turns plainCurve curveOf (λ (l : List Curve). l) (λ x. x) (λ l x. refl) rows (l .slots) (l .i) _ (omega arith) h (sym (ap plainCurve row) ∙ sym (c .before .before .curve-plain .ensures) ∙ not-false _ (c .before .if1 .left)) (c .curve-at .ensures ∙ ap curveOf row) (l .inv .2),

@@ -99,8 +99,7 @@ loop-again c =
     let rows = rowsAt 21 (a .n) (a .s .now) (a .from) in
     let n : length rows ≡ a .n = length-rows 21 (a .n) (a .s .now) (a .from) in
     let row = row-part 21 (a .n) (a .s .now) (a .from) (l .i) (omega arith) in
-    let h : l .i < length (l .slots) = omega arith in
-    (
+    let h : l .i < length (l .slots) = omega arith in (
       simp length-set (l .inv .0),
       omega arith,
       decoding-turns plainPoint pointOf (λ (l : List Point). l) (λ x. x) (λ l x. refl) rows (l .slots) (l .i) _ (omega arith) h (sym (ap plainPoint row) ∙ sym (c .before .before .point-plain .ensures) ∙ not-false _ (c .before .if1 .left)) (c .point-at .ensures ∙ ap pointOf row) (l .inv .2),

@@ -100,8 +100,7 @@ loop-again c =
     let rows = rowsAt 17 (a .n) (a .s .now) (a .from) in
     let n : length rows ≡ a .n = length-rows 17 (a .n) (a .s .now) (a .from) in
     let row = row-part 17 (a .n) (a .s .now) (a .from) (l .i) (omega arith) in
-    let h : l .i < length (l .slots) = omega arith in
-    (
+    let h : l .i < length (l .slots) = omega arith in (
       simp length-set (l .inv .0),
       omega arith,
       decoding-turns plainRelation relationOf (λ (l : List RelationSlot). map (λ t. t .relation) l) (λ t. t .relation) (λ l x. map-append (λ t. t .relation) l (x ∷ [])) rows (l .slots) (l .i) _ (omega arith) h (sym (ap plainRelation row) ∙ sym (c .before .before .relation-plain .ensures) ∙ not-false _ (c .before .if1 .left)) (c .relation-at .ensures ∙ ap relationOf row) (l .inv .2),

@@ -71,8 +71,7 @@ returns : tie.Need-returns Inv-loop μ-loop
 returns c =
     let a = c .before .before .before .args in
     let l = c .before .loop in
-    let e : l .i ≡ a .n = omega arith in
-    (
+    let e : l .i ≡ a .n = omega arith in (
       l .inv .2 .written ∙ ap (λ k. over (a .buf .now) (a .from) (spread encodeCurve (take k (a .t3)))) e,
       ap (λ k. length (spread encodeCurve (take k (a .t3)))) (sym e) ∙ l .inv .2 .so-long ∙ ap (λ k. k * 47) e,
     )
