@@ -1,5 +1,6 @@
 // Big-endian numbers in byte slices. Where all bytes are there they are read or written at once.
 mod load;
+mod short;
 mod store;
 
 ghost use mathlib.Core.Path.{_≡_};
@@ -37,11 +38,7 @@ pub fn get4(s: &[u8], at: usize) -> u32
     if 4 <= n - at {
         return load::load4(s, at);
     }
-    let high = get2(s, at) as u32 * 65536;
-    if n - at <= 2 {
-        return high;
-    }
-    high + get2(s, at + 2) as u32
+    short::short4(s, at)
 }
 
 // The number that eight bytes spell; those past the end count as 0.
@@ -55,11 +52,7 @@ pub fn get8(s: &[u8], at: usize) -> u64
     if 8 <= n - at {
         return load::load8(s, at);
     }
-    let high = get4(s, at) as u64 * 0x1_0000_0000;
-    if n - at <= 4 {
-        return high;
-    }
-    high + get4(s, at + 4) as u64
+    short::short8(s, at)
 }
 
 // Writes the low byte of a number; nothing past the end.

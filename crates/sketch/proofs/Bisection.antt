@@ -48,9 +48,6 @@ module _ (ids : List ℕ) (id n : ℕ) where
         from j k a e q r = at-most-or-above k j (λ u. let z : k ≡ j = omega arith in rw z e) (λ u. let v = order ids j k a u (omega arith) in omega arith)
 
   module _ (low left : ℕ) (w : Narrowed ids id n low left) where
-    pub found-here : low < n → getD ids low 0 ≡ id → Found id ids low
-    found-here q e = record { within = omega arith; here = λ r. e; nowhere = λ a r. absurd (omega arith) }
-
     pub found-nowhere : left ≤ 1 → (low < n → getD ids low 0 ≡ id → ⊥) → Found id ids n
     found-nowhere q e =
         record {
@@ -66,6 +63,10 @@ module _ (ids : List ℕ) (id n : ℕ) where
             (λ x. let y : k ≡ low = omega arith in e (omega arith) (rw y at z))
             (λ x. let y = w .more a k (omega arith) u in omega arith))
             (λ v. let y = w .less a k v in omega arith)
+
+-- a place where the id stands is an answer, however it was come by
+pub found-here : (id : ℕ) (ids : List ℕ) (r : ℕ) → r < length ids → getD ids r 0 ≡ id → Found id ids r
+found-here id ids r q e = record { within = omega arith; here = λ u. e; nowhere = λ a u. absurd (omega arith) }
 
 module _ (id : ℕ) (ids : List ℕ) (r : ℕ) (f : Found id ids r) (h : Ascends ids) where
   pub found-among : ltb r (length ids) ≡ among id ids

@@ -6,6 +6,7 @@ mod values;
 pub use lookup::place;
 pub use validity::clear_from;
 pub use validity::fault;
+pub use values::coordinate_ok;
 
 // Ids of points and curves.
 pub type Id = u32;

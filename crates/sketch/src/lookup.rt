@@ -25,17 +25,40 @@ pub fn place(ids: &[u32], id: u32) -> usize
     n
 }
 
+// Notes the place of an id in a direct-mapped table of guesses. Ids that share an entry overwrite each other, and
+// nothing is promised of the table: a guess is tried before it is believed.
+pub fn note(near: &mut [u16], id: u32, place: usize) {
+    let k = (id % 1024) as usize;
+    if k < near.len() {
+        near[k] = (place % 65536) as u16;
+    }
+}
+
+// As `place`, but it first tries the place that `near` guesses: most look-ups then cost one read of each column.
+pub fn place_near<'a>(ids: &'a [u32], near: &'a [u16], id: u32) -> usize
+    ensures { λ r. ⌜ Found id (now (ids .entry)) r ⌝ }
+{
+    let k = (id % 1024) as usize;
+    let guess = if k < near.len() { near[k] as usize } else { 0 };
+    if guess < ids.len() {
+        if ids[guess] == id {
+            return guess;
+        }
+    }
+    place(ids, id)
+}
+
 // Whether an id is among ids that rise.
-pub fn has(ids: &[u32], id: u32) -> bool
+pub fn has<'a>(ids: &'a [u32], near: &'a [u16], id: u32) -> bool
     ensures { λ r. ⌜ (Ascends (now (ids .entry)) → r ≡ among id (now (ids .entry))) ⌝ }
 {
-    place(ids, id) < ids.len()
+    place_near(ids, near, id) < ids.len()
 }
 
 // The sort of the curve with an id, given the curves' ids, which rise, and their sorts; 0 where there is none.
-pub fn sort_at<'a>(ids: &'a [u32], sorts: &'a [u8], id: u32) -> u8
+pub fn sort_at<'a>(ids: &'a [u32], near: &'a [u16], sorts: &'a [u8], id: u32) -> u8
     ensures { λ r. ⌜ (length (now (ids .entry)) ≡ length (now (sorts .entry)) → Ascends (now (ids .entry)) → r ≡ sortAmong id (now (ids .entry)) (now (sorts .entry))) ⌝ }
 {
-    let k = place(ids, id);
+    let k = place_near(ids, near, id);
     if k < sorts.len() { sorts[k] } else { 0 }
 }

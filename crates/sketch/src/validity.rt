@@ -6,6 +6,7 @@ use crate::Relation;
 use crate::RelationSlot;
 use crate::Sketch;
 use crate::lookup::has;
+use crate::lookup::note;
 use crate::lookup::sort_at;
 use crate::values::coordinate_ok;
 use crate::values::measure_ok;
@@ -21,8 +22,15 @@ ghost use Rattle.sketch.specs.Lookup.{among, Ascends, sortAmong};
 ghost use Rattle.sketch.specs.Valid.{okCurve, okRelation, soundCurve, soundRelation, sortOf, sketchFault};
 ghost use Rattle.sketch.specs.Columns.{PointsTold, CurvesTold, RelationsTold};
 
-// The first broken rule of the first n points, 0 for none: then `ids` holds their ids.
-fn points_fault(points: [Point; 512], n: usize, next: u32, ids: &mut [u32]) -> u8
+// The first broken rule of the first n points, 0 for none: then `ids` holds their ids. `near` gets guesses of their
+// places.
+fn points_fault<'a>(
+    points: [Point; 512],
+    n: usize,
+    next: u32,
+    ids: &'a mut [u32],
+    near: &'a mut [u16],
+) -> u8
     requires { ⌜ (n ≤ 512) × (n ≤ length (now ids)) ⌝ }
     ensures { λ r. ⌜ PointsTold next (take n points) n (now (ids .entry)) (now (ids .exit)) r ⌝ }
 {
@@ -38,6 +46,7 @@ fn points_fault(points: [Point; 512], n: usize, next: u32, ids: &mut [u32]) -> u
             return 5;
         }
         ids[i] = id;
+        note(near, id, i);
         last = id;
         i += 1;
     }
@@ -59,7 +68,7 @@ pub fn clear_from(slots: [u32; 8], from: usize) -> bool
 }
 
 // Whether the first n slots name points, whose ids rise.
-fn all_in(ids: &[u32], slots: [u32; 8], n: usize) -> bool
+fn all_in<'a>(ids: &'a [u32], near: &'a [u16], slots: [u32; 8], n: usize) -> bool
     requires { ⌜ Ascends (now ids) ⌝ }
     ensures { λ r. ⌜ r ≡ every (λ p. among p (now (ids .entry))) (take n slots) ⌝ }
 {
@@ -68,7 +77,7 @@ fn all_in(ids: &[u32], slots: [u32; 8], n: usize) -> bool
         if n <= i {
             return true;
         }
-        if !has(ids, slots[i]) {
+        if !has(ids, near, slots[i]) {
             return false;
         }
         i += 1;
@@ -94,24 +103,24 @@ fn curve_ok(c: Curve) -> bool
     }
 }
 
-// A curve's references, given the ids of the points.
-fn curve_sound(c: Curve, ids: &[u32]) -> bool
+// A curve's references, given the ids of the points and guesses of their places.
+fn curve_sound<'a>(c: Curve, ids: &'a [u32], near: &'a [u16]) -> bool
     requires { ⌜ Ascends (now ids) ⌝ }
     ensures { λ r. ⌜ r ≡ soundCurve (λ p. among p (now (ids .entry))) c ⌝ }
 {
     let slots = c.slots;
     let kind = c.kind;
     match kind {
-        CurveKind::Line(a, b) => has(ids, a) & has(ids, b) & (a != b),
-        CurveKind::Arc(o, a, b) => has(ids, o)
-            & has(ids, a)
-            & has(ids, b)
+        CurveKind::Line(a, b) => has(ids, near, a) & has(ids, near, b) & (a != b),
+        CurveKind::Arc(o, a, b) => has(ids, near, o)
+            & has(ids, near, a)
+            & has(ids, near, b)
             & (o != a)
             & (o != b)
             & (a != b),
-        CurveKind::Circle(o, _) => has(ids, o),
-        CurveKind::Bezier(n) => all_in(ids, slots, n as usize + 1),
-        CurveKind::Conic(a, p, b, _) => has(ids, a) & has(ids, p) & has(ids, b),
+        CurveKind::Circle(o, _) => has(ids, near, o),
+        CurveKind::Bezier(n) => all_in(ids, near, slots, n as usize + 1),
+        CurveKind::Conic(a, p, b, _) => has(ids, near, a) & has(ids, near, p) & has(ids, near, b),
     }
 }
 
@@ -128,14 +137,17 @@ fn sort_of(kind: CurveKind) -> u8
     }
 }
 
-// The first broken rule of the first n curves, 0 for none: then `ids` and `sorts` hold theirs.
-fn curves_fault<'a>(
+// The first broken rule of the first n curves, 0 for none: then `ids` and `sorts` hold theirs. `near` gets guesses of
+// their places, as `near_points` has of the points'.
+fn curves_fault<'a, 'b>(
     curves: [Curve; 128],
     n: usize,
     next: u32,
-    points: &[u32],
-    ids: &'a mut [u32],
-    sorts: &'a mut [u8],
+    points: &'a [u32],
+    near_points: &'a [u16],
+    ids: &'b mut [u32],
+    sorts: &'b mut [u8],
+    near: &'b mut [u16],
 ) -> u8
     requires { ⌜ (n ≤ 128) × (n ≤ length (now ids)) × (n ≤ length (now sorts)) × Ascends (now points) ⌝ }
     ensures { λ r. ⌜ CurvesTold next (now (points .entry)) (take n curves) n (now (ids .entry)) (now (sorts .entry)) (now (ids .exit)) (now (sorts .exit)) r ⌝ }
@@ -149,11 +161,12 @@ fn curves_fault<'a>(
         if !curve_ok(c) {
             return 4;
         }
-        if !((last < id) & (id < next) & curve_sound(c, points)) {
+        if !((last < id) & (id < next) & curve_sound(c, points, near_points)) {
             return 5;
         }
         ids[i] = id;
         sorts[i] = sort_of(kind);
+        note(near, id, i);
         last = id;
         i += 1;
     }
@@ -173,27 +186,40 @@ fn relation_ok(r: Relation) -> bool
     }
 }
 
-// A relation's references, given the ids of the points and the ids and sorts of the curves.
-fn relation_sound<'a>(r: Relation, points: &'a [u32], curves: &'a [u32], sorts: &'a [u8]) -> bool
+// A relation's references, given the ids of the points, the ids and sorts of the curves, and guesses of their places.
+fn relation_sound<'a>(
+    r: Relation,
+    points: &'a [u32],
+    near_points: &'a [u16],
+    curves: &'a [u32],
+    near_curves: &'a [u16],
+    sorts: &'a [u8],
+) -> bool
     requires { ⌜ (length (now curves) ≡ length (now sorts)) × Ascends (now points) × Ascends (now curves) ⌝ }
     ensures { λ v. ⌜ v ≡ soundRelation (λ p. among p (now (points .entry))) (λ i. sortAmong i (now (curves .entry)) (now (sorts .entry))) r ⌝ }
 {
     match r {
-        Relation::Coincident(p, q) => has(points, p) & has(points, q) & (p != q),
-        Relation::PointOnCurve(p, c) => has(points, p) & (0 < sort_at(curves, sorts, c)),
-        Relation::Collinear(a, b) => (sort_at(curves, sorts, a) == 1)
-            & (sort_at(curves, sorts, b) == 1)
+        Relation::Coincident(p, q) => has(points, near_points, p)
+            & has(points, near_points, q)
+            & (p != q),
+        Relation::PointOnCurve(p, c) => has(points, near_points, p)
+            & (0 < sort_at(curves, near_curves, sorts, c)),
+        Relation::Collinear(a, b) => (sort_at(curves, near_curves, sorts, a) == 1)
+            & (sort_at(curves, near_curves, sorts, b) == 1)
             & (a != b),
         Relation::Equal(a, b) => {
-            let s = sort_at(curves, sorts, a);
-            let t = sort_at(curves, sorts, b);
+            let s = sort_at(curves, near_curves, sorts, a);
+            let t = sort_at(curves, near_curves, sorts, b);
             (((s == 1) & (t == 1)) | ((s == 2) & (t == 2))) & (a != b)
         }
-        Relation::Length(l, _) => sort_at(curves, sorts, l) == 1,
-        Relation::Distance(p, q, _) => has(points, p) & has(points, q) & (p != q),
-        Relation::Midpoint(p, l) => has(points, p) & (sort_at(curves, sorts, l) == 1),
-        Relation::ArcLength(c, _) => sort_at(curves, sorts, c) == 2,
-        Relation::ArcSweep(c, _) => sort_at(curves, sorts, c) == 2,
+        Relation::Length(l, _) => sort_at(curves, near_curves, sorts, l) == 1,
+        Relation::Distance(p, q, _) => has(points, near_points, p)
+            & has(points, near_points, q)
+            & (p != q),
+        Relation::Midpoint(p, l) => has(points, near_points, p)
+            & (sort_at(curves, near_curves, sorts, l) == 1),
+        Relation::ArcLength(c, _) => sort_at(curves, near_curves, sorts, c) == 2,
+        Relation::ArcSweep(c, _) => sort_at(curves, near_curves, sorts, c) == 2,
     }
 }
 
@@ -202,7 +228,9 @@ fn relations_fault<'a>(
     relations: [RelationSlot; 256],
     n: usize,
     points: &'a [u32],
+    near_points: &'a [u16],
     curves: &'a [u32],
+    near_curves: &'a [u16],
     sorts: &'a [u8],
 ) -> u8
     requires { ⌜ (n ≤ 256) × (length (now curves) ≡ length (now sorts)) × Ascends (now points) × Ascends (now curves) ⌝ }
@@ -216,7 +244,7 @@ fn relations_fault<'a>(
         if !relation_ok(r) {
             return 4;
         }
-        if !relation_sound(r, points, curves, sorts) {
+        if !relation_sound(r, points, near_points, curves, near_curves, sorts) {
             return 5;
         }
     }
@@ -239,17 +267,36 @@ pub fn fault(sk: Sketch) -> u8
     }
     let points = sk.points;
     let mut ids = [0u32; 512];
-    let p = points_fault(points, np, next, &mut ids);
+    let mut near_points = [0u16; 1024];
+    let p = points_fault(points, np, next, &mut ids, &mut near_points);
     if p != 0 {
         return p;
     }
     let curves = sk.curves;
     let mut curve_ids = [0u32; 128];
     let mut sorts = [0u8; 128];
-    let c = curves_fault(curves, nc, next, &ids[..np], &mut curve_ids, &mut sorts);
+    let mut near_curves = [0u16; 1024];
+    let c = curves_fault(
+        curves,
+        nc,
+        next,
+        &ids[..np],
+        &near_points,
+        &mut curve_ids,
+        &mut sorts,
+        &mut near_curves,
+    );
     if c != 0 {
         return c;
     }
     let relations = sk.relations;
-    relations_fault(relations, nr, &ids[..np], &curve_ids[..nc], &sorts[..nc])
+    relations_fault(
+        relations,
+        nr,
+        &ids[..np],
+        &near_points,
+        &curve_ids[..nc],
+        &near_curves,
+        &sorts[..nc],
+    )
 }

@@ -1,4 +1,4 @@
-use Rattle.big_endian.specs.Laws.{field-past, field-split}
+use Rattle.big_endian.specs.Laws.{field-past}
 use lib.ListN.{length}
 use Prim.Native.Nat.{_≤_, _<_, _+_}
 use native.Mathlib.Omega.{arith}
@@ -7,87 +7,35 @@ use Rattle.big_endian.proofs.get4.Statement.{statement}
 use Rattle.big_endian.proofs.get4.Tie as tie
 use Rattle.big_endian.proofs.get4.Reads as reads
 use Rattle.big_endian.proofs.get4.Lts as lts
-use Rattle.big_endian.proofs.get2.Reads as get2-reads
 use Rattle.big_endian.proofs.load.load4.Reads as load4-reads
+use Rattle.big_endian.proofs.short.short4.Reads as short4-reads
 
--- src/lib.rt:39:9
+-- src/lib.rt:36:9
 returns : tie.Need-returns
 returns c =
     let a = c .before .before .args in
     let h : length (a .s .now) ≤ a .at = omega arith in
     rw field-past
 
--- src/lib.rt:41:13
+-- src/lib.rt:38:13
 sub-if2 : tie.Need-sub-if2
 sub-if2 c = search needs
 
--- src/lib.rt:42:9
+-- src/lib.rt:39:9
 load4-requires : tie.Need-load4-requires
 load4-requires c κs = search needs
 
--- src/lib.rt:42:9
+-- src/lib.rt:39:9
 returns-2 : tie.Need-returns-2
 returns-2 c = search needs
 
--- src/lib.rt:44:16
-get2-requires : tie.Need-get2-requires
-get2-requires c κs = search needs
+-- src/lib.rt:41:5
+short4-requires : tie.Need-short4-requires
+short4-requires c κs = search needs
 
--- src/lib.rt:44:16
-cast-high : tie.Need-cast-high
-cast-high c = search needs
-
--- src/lib.rt:44:16
-mul-high : tie.Need-mul-high
-mul-high c = search needs
-
--- src/lib.rt:45:8
-sub-if3 : tie.Need-sub-if3
-sub-if3 c = search needs
-
--- src/lib.rt:46:9
+-- src/lib.rt:31:1
 returns-3 : tie.Need-returns-3
-returns-3 c =
-    let a = c .before .before .before .before .before .args in
-    omega (arith, field-split (a .s .now) (a .at) 2 2, field-past (a .s .now) (a .at + 2) 2 (omega arith))
-
--- src/lib.rt:48:20
-add-get2 : tie.Need-add-get2
-add-get2 c = search needs
-
--- src/lib.rt:48:12
-get2-requires-2 : tie.Need-get2-requires-2
-get2-requires-2 c κs = search needs
-
--- src/lib.rt:48:12
-cast-result : tie.Need-cast-result
-cast-result c = search needs
-
--- src/lib.rt:48:5
-add-result : tie.Need-add-result
-add-result c = search needs
-
--- src/lib.rt:34:1
-returns-4 : tie.Need-returns-4
-returns-4 c =
-    let a = c .before .before .before .before .before .before .args in
-    omega (arith, field-split (a .s .now) (a .at) 2 2)
+returns-3 c = search needs
 
 pub get4-spec : {M : Type 1} → statement M
-get4-spec =
-    tie.close
-    (tie.spec
-    returns
-    sub-if2
-    load4-requires
-    returns-2
-    get2-requires
-    cast-high
-    mul-high
-    sub-if3
-    returns-3
-    add-get2
-    get2-requires-2
-    cast-result
-    add-result
-    returns-4)
+get4-spec = tie.close (tie.spec returns sub-if2 load4-requires returns-2 short4-requires returns-3)

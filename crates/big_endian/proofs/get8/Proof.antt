@@ -1,4 +1,4 @@
-use Rattle.big_endian.specs.Laws.{field-past, field-split}
+use Rattle.big_endian.specs.Laws.{field-past}
 use lib.ListN.{length}
 use Prim.Native.Nat.{_≤_, _<_, _+_}
 use native.Mathlib.Omega.{arith}
@@ -7,87 +7,35 @@ use Rattle.big_endian.proofs.get8.Statement.{statement}
 use Rattle.big_endian.proofs.get8.Tie as tie
 use Rattle.big_endian.proofs.get8.Reads as reads
 use Rattle.big_endian.proofs.get8.Lts as lts
-use Rattle.big_endian.proofs.get4.Reads as get4-reads
 use Rattle.big_endian.proofs.load.load8.Reads as load8-reads
+use Rattle.big_endian.proofs.short.short8.Reads as short8-reads
 
--- src/lib.rt:57:9
+-- src/lib.rt:50:9
 returns : tie.Need-returns
 returns c =
     let a = c .before .before .args in
     let h : length (a .s .now) ≤ a .at = omega arith in
     rw field-past
 
--- src/lib.rt:59:13
+-- src/lib.rt:52:13
 sub-if2 : tie.Need-sub-if2
 sub-if2 c = search needs
 
--- src/lib.rt:60:9
+-- src/lib.rt:53:9
 load8-requires : tie.Need-load8-requires
 load8-requires c κs = search needs
 
--- src/lib.rt:60:9
+-- src/lib.rt:53:9
 returns-2 : tie.Need-returns-2
 returns-2 c = search needs
 
--- src/lib.rt:62:16
-get4-requires : tie.Need-get4-requires
-get4-requires c κs = search needs
+-- src/lib.rt:55:5
+short8-requires : tie.Need-short8-requires
+short8-requires c κs = search needs
 
--- src/lib.rt:62:16
-cast-high : tie.Need-cast-high
-cast-high c = search needs
-
--- src/lib.rt:62:16
-mul-high : tie.Need-mul-high
-mul-high c = search needs
-
--- src/lib.rt:63:8
-sub-if3 : tie.Need-sub-if3
-sub-if3 c = search needs
-
--- src/lib.rt:64:9
+-- src/lib.rt:45:1
 returns-3 : tie.Need-returns-3
-returns-3 c =
-    let a = c .before .before .before .before .before .args in
-    omega (arith, field-split (a .s .now) (a .at) 4 4, field-past (a .s .now) (a .at + 4) 4 (omega arith))
-
--- src/lib.rt:66:20
-add-get4 : tie.Need-add-get4
-add-get4 c = search needs
-
--- src/lib.rt:66:12
-get4-requires-2 : tie.Need-get4-requires-2
-get4-requires-2 c κs = search needs
-
--- src/lib.rt:66:12
-cast-result : tie.Need-cast-result
-cast-result c = search needs
-
--- src/lib.rt:66:5
-add-result : tie.Need-add-result
-add-result c = search needs
-
--- src/lib.rt:52:1
-returns-4 : tie.Need-returns-4
-returns-4 c =
-    let a = c .before .before .before .before .before .before .args in
-    omega (arith, field-split (a .s .now) (a .at) 4 4)
+returns-3 c = search needs
 
 pub get8-spec : {M : Type 1} → statement M
-get8-spec =
-    tie.close
-    (tie.spec
-    returns
-    sub-if2
-    load8-requires
-    returns-2
-    get4-requires
-    cast-high
-    mul-high
-    sub-if3
-    returns-3
-    add-get4
-    get4-requires-2
-    cast-result
-    add-result
-    returns-4)
+get8-spec = tie.close (tie.spec returns sub-if2 load8-requires returns-2 short8-requires returns-3)

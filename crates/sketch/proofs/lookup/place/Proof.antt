@@ -49,7 +49,7 @@ shared-slice-read-if3 : tie.Need-shared-slice-read-if3 Inv-loop μ-loop
 shared-slice-read-if3 c = search needs
 
 returns : tie.Need-returns Inv-loop μ-loop
-returns c = let l = c .before .before .before .before .loop in found-here _ _ _ _ _ (l .inv) (omega arith) (c .if3 .taken)
+returns c = let l = c .before .before .before .before .loop in found-here _ _ _ (omega arith) (c .if3 .taken)
 
 returns-2 : tie.Need-returns-2 Inv-loop μ-loop
 returns-2 c = let l = c .before .before .before .before .loop in found-nowhere _ _ _ _ _ (l .inv) (omega arith) (λ q. c .if3 .left)

@@ -15,21 +15,21 @@ use Rattle.sketch.proofs.validity.all_in.Statement.{statement}
 use Rattle.sketch.proofs.validity.all_in.Tie as tie
 
 abbrev Inv-loop : tie.InvT-loop
-Inv-loop ids n slots i₀ i =
+Inv-loop ids near n slots i₀ i =
     (length slots ≡ 8) × Ascends ids × (every (λ p. among p ids) (take n slots) ≡ every (λ p. among p ids) (drop i (take n slots)))
 
 abbrev μ-loop : tie.MeasureT-loop
-μ-loop ids n slots i₀ i = 8 - i
+μ-loop ids near n slots i₀ i = 8 - i
 
 loop-holds : tie.Need-loop-holds Inv-loop μ-loop
-loop-holds c = (search needs, c .before .pre, refl)
+loop-holds c = (search needs, c .before .before .pre, refl)
 
 returns : tie.Need-returns Inv-loop μ-loop
 returns c =
     let l = c .before .before in
-    let a = l .before .before .args in
+    let a = l .before .before .before .args in
     let f : ℕ → Bool = λ p. among p (now (a .ids)) in
-    sym (l .loop .inv .2 ∙ every-done f (take (a .n) (a .t2)) (l .loop .i) (rw length-take (omega arith)))
+    sym (l .loop .inv .2 ∙ every-done f (take (a .n) (a .t3)) (l .loop .i) (rw length-take (omega arith)))
 
 mul-has : tie.Need-mul-has Inv-loop μ-loop
 mul-has c = search needs
@@ -43,11 +43,11 @@ has-requires c κs = search needs
 returns-2 : tie.Need-returns-2 Inv-loop μ-loop
 returns-2 c =
     let l = c .before .before .before .before in
-    let a = l .before .before .args in
+    let a = l .before .before .before .args in
     let f : ℕ → Bool = λ p. among p (now (a .ids)) in
-    let e : f (getD (take (a .n) (a .t2)) (l .loop .i) 0) ≡ false =
-    ap f (getD-take (a .n) (a .t2) (l .loop .i) 0 (omega arith)) ∙ sym (c .before .has .ensures (l .loop .inv .1)) ∙ not-true _ (c .if2 .taken) in
-    sym (l .loop .inv .2 ∙ every-fails f (take (a .n) (a .t2)) (l .loop .i) 0 (rw length-take (omega arith)) e)
+    let e : f (getD (take (a .n) (a .t3)) (l .loop .i) 0) ≡ false =
+    ap f (getD-take (a .n) (a .t3) (l .loop .i) 0 (omega arith)) ∙ sym (c .before .has .ensures (l .loop .inv .1)) ∙ not-true _ (c .if2 .taken) in
+    sym (l .loop .inv .2 ∙ every-fails f (take (a .n) (a .t3)) (l .loop .i) 0 (rw length-take (omega arith)) e)
 
 add-i : tie.Need-add-i Inv-loop μ-loop
 add-i c = search needs
@@ -58,18 +58,18 @@ loop-less c = search needs
 loop-again : tie.Need-loop-again Inv-loop μ-loop
 loop-again c =
     let l = c .before .before .before .before in
-    let a = l .before .before .args in
+    let a = l .before .before .before .args in
     let f : ℕ → Bool = λ p. among p (now (a .ids)) in
-    let e : f (getD (take (a .n) (a .t2)) (l .loop .i) 0) ≡ true =
-    ap f (getD-take (a .n) (a .t2) (l .loop .i) 0 (omega arith)) ∙ sym (c .before .has .ensures (l .loop .inv .1)) ∙ not-false _ (c .if2 .left) in
-    (l .loop .inv .0, l .loop .inv .1, l .loop .inv .2 ∙ every-passes f (take (a .n) (a .t2)) (l .loop .i) 0 (rw length-take (omega arith)) e)
+    let e : f (getD (take (a .n) (a .t3)) (l .loop .i) 0) ≡ true =
+    ap f (getD-take (a .n) (a .t3) (l .loop .i) 0 (omega arith)) ∙ sym (c .before .has .ensures (l .loop .inv .1)) ∙ not-false _ (c .if2 .left) in
+    (l .loop .inv .0, l .loop .inv .1, l .loop .inv .2 ∙ every-passes f (take (a .n) (a .t3)) (l .loop .i) 0 (rw length-take (omega arith)) e)
 
 returns-3 : tie.Need-returns-3 Inv-loop μ-loop
 returns-3 c =
     let l = c .before in
-    let a = l .before .before .args in
+    let a = l .before .before .before .args in
     let f : ℕ → Bool = λ p. among p (now (a .ids)) in
-    sym (l .loop .inv .2 ∙ every-done f (take (a .n) (a .t2)) (l .loop .i) (rw length-take (omega arith)))
+    sym (l .loop .inv .2 ∙ every-done f (take (a .n) (a .t3)) (l .loop .i) (rw length-take (omega arith)))
 
 pub all-in-spec : {M : Type 1} → statement M
 all-in-spec =

@@ -65,27 +65,27 @@ has-requires-9 c κs = search needs
 
 returns : tie.Need-returns
 returns c =
-    let s = c .before .before .before .before .before .before .before in
+    let s = c .before .before .before .before .before .before .before .before in
     sound-line (known s) (s .args .c) (c .before .before .before .kind .given .1) (c .before .has .ensures (s .pre)) (c .has2 .ensures (s .pre))
 
 returns-2 : tie.Need-returns-2
 returns-2 c =
-    let s = c .before .before .before .before .before .before .before .before in
+    let s = c .before .before .before .before .before .before .before .before .before in
     sound-arc (known s) (s .args .c) (c .before .before .before .before .kind2 .given .1) (c .before .before .has3 .ensures (s .pre)) (c .before .has4 .ensures (s .pre)) (c .has5 .ensures (s .pre))
 
 returns-3 : tie.Need-returns-3
 returns-3 c =
-    let s = c .before .before .before .before .before .before in
+    let s = c .before .before .before .before .before .before .before in
     sound-circle (known s) (s .args .c) (c .before .before .kind3 .given .1) (c .has6 .ensures (s .pre))
 
 returns-4 : tie.Need-returns-4
 returns-4 c =
-    let s = c .before .before .before .before .before .before in
+    let s = c .before .before .before .before .before .before .before in
     sound-bezier (known s) (s .args .c) (c .before .before .kind4 .given .1) (c .all-in .ensures)
 
 returns-5 : tie.Need-returns-5
 returns-5 c =
-    let s = c .before .before .before .before .before .before .before .before in
+    let s = c .before .before .before .before .before .before .before .before .before in
     sound-conic (known s) (s .args .c) (c .before .before .before .before .kind5 .given .1) (c .before .before .has7 .ensures (s .pre)) (c .before .has8 .ensures (s .pre)) (c .has9 .ensures (s .pre))
 
 pub curve-sound-spec : {M : Type 1} → statement M

@@ -89,47 +89,47 @@ sort-at-requires-9 c κs = search needs
 
 returns : tie.Need-returns
 returns c =
-    let s = c .before .before .before .before .before .before .before .before in
+    let s = c .before .before .before .before .before .before .before .before .before .before in
     sound-coincident (known s) (sortBy s) (s .args .r) (c .before .before .before .r .given .1) (c .before .has .ensures (s .pre .1)) (c .has2 .ensures (s .pre .1))
 
 returns-2 : tie.Need-returns-2
 returns-2 c =
-    let s = c .before .before .before .before .before .before .before .before in
+    let s = c .before .before .before .before .before .before .before .before .before .before in
     sound-on-curve (known s) (sortBy s) (s .args .r) (c .before .before .before .r2 .given .1) (c .before .has3 .ensures (s .pre .1)) (c .sort-at .ensures (s .pre .0) (s .pre .2))
 
 returns-3 : tie.Need-returns-3
 returns-3 c =
-    let s = c .before .before .before .before .before .before .before .before in
+    let s = c .before .before .before .before .before .before .before .before .before .before in
     sound-collinear (known s) (sortBy s) (s .args .r) (c .before .before .before .r3 .given .1) (c .before .sort-at2 .ensures (s .pre .0) (s .pre .2)) (c .sort-at3 .ensures (s .pre .0) (s .pre .2))
 
 returns-4 : tie.Need-returns-4
 returns-4 c =
-    let s = c .before .before .before .before .before .before .before .before in
+    let s = c .before .before .before .before .before .before .before .before .before .before in
     sound-equal (known s) (sortBy s) (s .args .r) (c .before .before .before .r4 .given .1) (c .before .sort-at4 .ensures (s .pre .0) (s .pre .2)) (c .sort-at5 .ensures (s .pre .0) (s .pre .2))
 
 returns-5 : tie.Need-returns-5
 returns-5 c =
-    let s = c .before .before .before .before .before .before .before in
+    let s = c .before .before .before .before .before .before .before .before .before in
     sound-length (known s) (sortBy s) (s .args .r) (c .before .before .r5 .given .1) (c .sort-at6 .ensures (s .pre .0) (s .pre .2))
 
 returns-6 : tie.Need-returns-6
 returns-6 c =
-    let s = c .before .before .before .before .before .before .before .before in
+    let s = c .before .before .before .before .before .before .before .before .before .before in
     sound-distance (known s) (sortBy s) (s .args .r) (c .before .before .before .r6 .given .1) (c .before .has4 .ensures (s .pre .1)) (c .has5 .ensures (s .pre .1))
 
 returns-7 : tie.Need-returns-7
 returns-7 c =
-    let s = c .before .before .before .before .before .before .before .before in
+    let s = c .before .before .before .before .before .before .before .before .before .before in
     sound-midpoint (known s) (sortBy s) (s .args .r) (c .before .before .before .r7 .given .1) (c .before .has6 .ensures (s .pre .1)) (c .sort-at7 .ensures (s .pre .0) (s .pre .2))
 
 returns-8 : tie.Need-returns-8
 returns-8 c =
-    let s = c .before .before .before .before .before .before .before in
+    let s = c .before .before .before .before .before .before .before .before .before in
     sound-arc-length (known s) (sortBy s) (s .args .r) (c .before .before .r8 .given .1) (c .sort-at8 .ensures (s .pre .0) (s .pre .2))
 
 returns-9 : tie.Need-returns-9
 returns-9 c =
-    let s = c .before .before .before .before .before .before .before in
+    let s = c .before .before .before .before .before .before .before .before .before in
     sound-arc-sweep (known s) (sortBy s) (s .args .r) (c .before .before .r9 .given .1) (c .sort-at9 .ensures (s .pre .0) (s .pre .2))
 
 pub relation-sound-spec : {M : Type 1} → statement M

@@ -13,13 +13,13 @@ use Rattle.sketch.proofs.validity.relations_fault.Statement.{statement}
 use Rattle.sketch.proofs.validity.relations_fault.Tie as tie
 
 abbrev Inv-loop : tie.InvT-loop
-Inv-loop n points curves sorts relations i₀ i = RelationsWalk points curves sorts relations n i
+Inv-loop n points near-points curves near-curves sorts relations i₀ i = RelationsWalk points curves sorts relations n i
 
 abbrev μ-loop : tie.MeasureT-loop
-μ-loop n points curves sorts relations i₀ i = n - i
+μ-loop n points near-points curves near-curves sorts relations i₀ i = n - i
 
 -- the relation at hand passed its first test
-sane : (c : tie.Else1 Inv-loop μ-loop) → okRelation (getD (c .before .before .before .before .before .before .before .before .args .t1) (c .before .before .before .before .loop .i) noSlot .relation) ≡ true
+sane : (c : tie.Else1 Inv-loop μ-loop) → okRelation (getD (c .before .before .before .before .before .before .before .before .before .before .args .t1) (c .before .before .before .before .loop .i) noSlot .relation) ≡ true
 sane c = sym (c .before .relation-ok .ensures) ∙ not-false _ (c .if1 .left)
 
 loop-holds : tie.Need-loop-holds Inv-loop μ-loop
