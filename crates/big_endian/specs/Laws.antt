@@ -210,8 +210,8 @@ store-two l at v h =
 -- eight bytes, each with its weight
 pub field-flat : (s : List ℕ) (at a b c d e f g h : ℕ) → a ≡ getD s at 0 → b ≡ getD s (at + 1) 0 → c ≡ getD s (at + 2) 0 → d ≡ getD s (at + 3) 0
     → e ≡ getD s (at + 4) 0 → f ≡ getD s (at + 5) 0 → g ≡ getD s (at + 6) 0 → h ≡ getD s (at + 7) 0
-    → a * 0x0100_0000_0000_0000 + b * 0x0001_0000_0000_0000 + c * 0x0000_0100_0000_0000 + d * 0x0000_0001_0000_0000
-    + e * 0x0000_0000_0100_0000 + f * 0x0000_0000_0001_0000 + g * 0x0000_0000_0000_0100 + h
+    → a * 0x0100_0000_0000_0000 + b * 0x0001_0000_0000_0000 + (c * 0x0000_0100_0000_0000 + d * 0x0000_0001_0000_0000)
+    + (e * 0x0000_0000_0100_0000 + f * 0x0000_0000_0001_0000 + (g * 0x0000_0000_0000_0100 + h))
     ≡ field s at 8
 unfolding field
 field-flat s at a b c d e f g h ea eb ec ed ee ef eg eh =

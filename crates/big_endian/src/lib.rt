@@ -32,13 +32,13 @@ pub fn get4(s: &[u8], at: usize) -> u32
     ensures { λ r. ⌜ r ≡ field (now (s .entry)) at 4 ⌝ }
 {
     let n = s.len();
-    if n <= at {
-        return 0;
+    if n < 4 {
+        return short::short4(s, at);
     }
-    if 4 <= n - at {
-        return load::load4(s, at);
+    if n - 4 < at {
+        return short::short4(s, at);
     }
-    short::short4(s, at)
+    load::load4(s, at)
 }
 
 // The number that eight bytes spell; those past the end count as 0.
@@ -46,13 +46,13 @@ pub fn get8(s: &[u8], at: usize) -> u64
     ensures { λ r. ⌜ r ≡ field (now (s .entry)) at 8 ⌝ }
 {
     let n = s.len();
-    if n <= at {
-        return 0;
+    if n < 8 {
+        return short::short8(s, at);
     }
-    if 8 <= n - at {
-        return load::load8(s, at);
+    if n - 8 < at {
+        return short::short8(s, at);
     }
-    short::short8(s, at)
+    load::load8(s, at)
 }
 
 // Writes the low byte of a number; nothing past the end.

@@ -30,7 +30,7 @@ fn wide8(x: u8) -> u64
     x as u64
 }
 
-// Flat, not in halves: of that the compiler makes one load.
+// Summed in pairs: of that the compiler makes one load.
 pub(crate) fn load8(s: &[u8], at: usize) -> u64
     requires { ⌜ at + 8 ≤ length (now s) ⌝ }
     ensures { λ r. ⌜ r ≡ field (now (s .entry)) at 8 ⌝ }
@@ -42,5 +42,5 @@ pub(crate) fn load8(s: &[u8], at: usize) -> u64
     let e = wide8(s[at + 4]) * 0x0000_0000_0100_0000;
     let f = wide8(s[at + 5]) * 0x0000_0000_0001_0000;
     let g = wide8(s[at + 6]) * 0x0000_0000_0000_0100;
-    a + b + c + d + e + f + g + wide8(s[at + 7])
+    ((a + b) + (c + d)) + ((e + f) + (g + wide8(s[at + 7])))
 }

@@ -15,7 +15,7 @@ use Rattle.sketch.specs.Lookup.{Ascends}
 use Rattle.sketch.specs.Drawing.{view, limits, pointIds, curveIds}
 use Rattle.sketch.specs.Valid.{okPoint, okCurve, soundCurve, hasPoint, pointsFault, curvesFault, relationsFault, sketchFault}
 use Rattle.sketch.specs.Facts.{Sized, Valid}
-use Rattle.sketch.specs.Columns.{sortsOf, PointsTold, CurvesTold, RelationsTold}
+use Rattle.sketch.specs.Columns.{sortsOf, shapesFault, PointsTold, CurvesTold, RelationsTold}
 use Rattle.sketch.proofs.Bools.{all-three, or-left-false, or-right-false, at-most-or-above}
 use Rattle.sketch.proofs.Facts.{rule-none, none-rule, table-first, table-later, table-ascends, curves-by-column, relations-by-columns, fault-valid, valid-fault}
 
@@ -82,11 +82,8 @@ module _ (s : Sketch) where
   abbrev relationsRest : ℕ
   relationsRest = relationsFault (view s .points) (view s .curves) (view s .relations)
 
-  abbrev curvesRest : ℕ
-  curvesRest = curvesFault (s .next) (view s .points) (view s .curves) relationsRest
-
   abbrev pointsRest : ℕ
-  pointsRest = pointsFault (s .next) (view s .points) curvesRest
+  pointsRest = pointsFault (s .next) (view s .points) (shapesFault (view s))
 
   in-order : Sized s → sketchFault s ≡ rule (leb 1 (s .next) && leb (s .next) 4294967295) 4 pointsRest
   unfolding rule
@@ -105,13 +102,13 @@ module _ (s : Sketch) where
 
   -- the points are right, and the later tables decide
   pub record PointsPassed (ids : List ℕ) : Type 0 where
-    pub rest : sketchFault s ≡ curvesRest
+    pub rest : sketchFault s ≡ shapesFault (view s)
     pub column : take (s .npoints) ids ≡ pointIds (view s .points)
     pub rise : Ascends (take (s .npoints) ids)
 
-  -- so are the curves
+  -- of those the curves are right, and the relations decide
   pub record CurvesPassed (ids sorts : List ℕ) : Type 0 where
-    pub rest : sketchFault s ≡ relationsRest
+    pub rest : shapesFault (view s) ≡ relationsRest
     pub column : take (s .ncurves) ids ≡ curveIds (view s .curves)
     pub beside : take (s .ncurves) sorts ≡ sortsOf (view s .curves)
     pub rise : Ascends (take (s .ncurves) ids)
@@ -133,29 +130,29 @@ module _ {s : Sketch} (g : Begun s) {before ids : List ℕ} {p : ℕ} (t : Point
         rise = table-ascends pointId okPoint (λ (x : Point). true) (s .next) 0 (view s .points) _ n (t .column e);
       }
 
-module _ {s : Sketch} {points : List ℕ} (g : PointsPassed s points) where
+module _ (s : Sketch) {points : List ℕ} (g : points ≡ pointIds (view s .points)) where
   module _ {before was ids sorts : List ℕ} {c : ℕ}
-      (t : CurvesTold (s .next) (take (s .npoints) points) (view s .curves) (s .ncurves) before was ids sorts c) where
+      (t : CurvesTold (s .next) points (view s .curves) (s .ncurves) before was ids sorts c) where
     abbrev sound : Curve → Bool
     sound = soundCurve (hasPoint (view s .points))
 
     number : c ≡ curvesFault (s .next) (view s .points) (view s .curves) 0
-    number = t .number ∙ curves-by-column (s .next) (view s .points) (view s .curves) 0 (g .column)
+    number = t .number ∙ curves-by-column (s .next) (view s .points) (view s .curves) 0 g
 
-    pub fault-curves : (c ≡ 0 → ⊥) → c ≡ sketchFault s
-    fault-curves h = sym (g .rest ∙ table-first curveId okCurve sound (s .next) 0 (view s .curves) _ c number h)
+    pub fault-curves : (c ≡ 0 → ⊥) → c ≡ shapesFault (view s)
+    fault-curves h = sym (table-first curveId okCurve sound (s .next) 0 (view s .curves) _ c number h)
 
     pub curves-passed : c ≡ 0 → CurvesPassed s ids sorts
     curves-passed e =
         let n : curvesFault (s .next) (view s .points) (view s .curves) 0 ≡ 0 = sym number ∙ e in
         record {
-          rest = g .rest ∙ table-later curveId okCurve sound (s .next) 0 (view s .curves) _ n;
+          rest = table-later curveId okCurve sound (s .next) 0 (view s .curves) _ n;
           column = t .column e;
           beside = t .beside e;
           rise = table-ascends curveId okCurve sound (s .next) 0 (view s .curves) _ n (t .column e);
         }
 
   pub fault-relations :
-      {ids sorts : List ℕ} {r : ℕ} → CurvesPassed s ids sorts → RelationsTold (take (s .npoints) points) (take (s .ncurves) ids) (take (s .ncurves) sorts) (view s .relations) r → r ≡ sketchFault s
+      {ids sorts : List ℕ} {r : ℕ} → CurvesPassed s ids sorts → RelationsTold points (take (s .ncurves) ids) (take (s .ncurves) sorts) (view s .relations) r → r ≡ shapesFault (view s)
   fault-relations h t =
-      t .number ∙ relations-by-columns (view s .points) (view s .curves) (view s .relations) (g .column) (h .column) (h .beside) ∙ sym (h .rest)
+      t .number ∙ relations-by-columns (view s .points) (view s .curves) (view s .relations) g (h .column) (h .beside) ∙ sym (h .rest)

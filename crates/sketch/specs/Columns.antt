@@ -7,8 +7,8 @@ use Rattle.sketch.specs.declared.Point.{Point}
 use Rattle.sketch.specs.declared.Curve.{Curve}
 use Rattle.sketch.specs.declared.Relation.{Relation}
 use Rattle.sketch.specs.Lookup.{among, sortAmong}
-use Rattle.sketch.specs.Drawing.{pointIds, curveIds}
-use Rattle.sketch.specs.Valid.{sortOf, tableFault, listFault, pointsFault, okCurve, soundCurve, okRelation, soundRelation}
+use Rattle.sketch.specs.Drawing.{Drawing, pointIds, curveIds}
+use Rattle.sketch.specs.Valid.{sortOf, tableFault, listFault, pointsFault, curvesFault, relationsFault, okCurve, soundCurve, okRelation, soundRelation}
 
 abbrev pub sortsOf : List Curve → List ℕ
 sortsOf cs = map (λ c. sortOf (c .kind)) cs
@@ -27,3 +27,7 @@ pub record CurvesTold (next : ℕ) (points : List ℕ) (cs : List Curve) (n : �
 
 pub record RelationsTold (points curves sorts : List ℕ) (rs : List Relation) (r : ℕ) : Type 0 where
   pub number : r ≡ listFault okRelation (soundRelation (λ p. among p points) (λ i. sortAmong i curves sorts)) rs
+
+-- the first broken rule of a drawing whose points are right
+abbrev pub shapesFault : Drawing → ℕ
+shapesFault d = curvesFault (d .next) (d .points) (d .curves) (relationsFault (d .points) (d .curves) (d .relations))

@@ -20,7 +20,9 @@ ghost use lib.Dec.{eqb};
 ghost use Rattle.sketch.specs.Lists.{every};
 ghost use Rattle.sketch.specs.Lookup.{among, Ascends, sortAmong};
 ghost use Rattle.sketch.specs.Valid.{okCurve, okRelation, soundCurve, soundRelation, sortOf, sketchFault};
-ghost use Rattle.sketch.specs.Columns.{PointsTold, CurvesTold, RelationsTold};
+ghost use Rattle.sketch.specs.Drawing.{view, pointIds};
+ghost use Rattle.sketch.specs.Facts.{Sized};
+ghost use Rattle.sketch.specs.Columns.{PointsTold, CurvesTold, RelationsTold, shapesFault};
 
 // The first broken rule of the first n points, 0 for none: then `ids` holds their ids. `near` gets guesses of their
 // places.
@@ -251,6 +253,42 @@ fn relations_fault<'a>(
     0
 }
 
+// The first broken rule of the curves and relations, 0 for none, given the ids of the points.
+fn shapes_fault<'a>(sk: Sketch, points: &'a [u32], near_points: &'a [u16]) -> u8
+    requires { ⌜ Sized sk × Ascends (now points) × (now points ≡ pointIds (view sk .points)) ⌝ }
+    ensures { λ r. ⌜ r ≡ shapesFault (view sk) ⌝ }
+{
+    let nc = sk.ncurves;
+    let curves = sk.curves;
+    let mut ids = [0u32; 128];
+    let mut sorts = [0u8; 128];
+    let mut near = [0u16; 1024];
+    let c = curves_fault(
+        curves,
+        nc,
+        sk.next,
+        points,
+        near_points,
+        &mut ids,
+        &mut sorts,
+        &mut near,
+    );
+    if c != 0 {
+        return c;
+    }
+    let relations = sk.relations;
+    let nr = sk.nrelations;
+    relations_fault(
+        relations,
+        nr,
+        points,
+        near_points,
+        &ids[..nc],
+        &near,
+        &sorts[..nc],
+    )
+}
+
 // 3, 4 or 5 for a sketch that no image gives, 0 for one that an image gives.
 pub fn fault(sk: Sketch) -> u8
     ensures { λ r. ⌜ r ≡ sketchFault sk ⌝ }
@@ -267,36 +305,10 @@ pub fn fault(sk: Sketch) -> u8
     }
     let points = sk.points;
     let mut ids = [0u32; 512];
-    let mut near_points = [0u16; 1024];
-    let p = points_fault(points, np, next, &mut ids, &mut near_points);
+    let mut near = [0u16; 1024];
+    let p = points_fault(points, np, next, &mut ids, &mut near);
     if p != 0 {
         return p;
     }
-    let curves = sk.curves;
-    let mut curve_ids = [0u32; 128];
-    let mut sorts = [0u8; 128];
-    let mut near_curves = [0u16; 1024];
-    let c = curves_fault(
-        curves,
-        nc,
-        next,
-        &ids[..np],
-        &near_points,
-        &mut curve_ids,
-        &mut sorts,
-        &mut near_curves,
-    );
-    if c != 0 {
-        return c;
-    }
-    let relations = sk.relations;
-    relations_fault(
-        relations,
-        nr,
-        &ids[..np],
-        &near_points,
-        &curve_ids[..nc],
-        &near_curves,
-        &sorts[..nc],
-    )
+    shapes_fault(sk, &ids[..np], &near)
 }

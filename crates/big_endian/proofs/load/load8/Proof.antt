@@ -115,41 +115,41 @@ wide8-requires-7 c κs = search needs
 mul-g : tie.Need-mul-g
 mul-g c = search needs
 
--- src/load.rt:45:5
+-- src/load.rt:45:7
 add-result : tie.Need-add-result
 add-result c = search needs
 
--- src/load.rt:45:5
+-- src/load.rt:45:17
 add-result-2 : tie.Need-add-result-2
 add-result-2 c = search needs
 
--- src/load.rt:45:5
+-- src/load.rt:45:6
 add-result-3 : tie.Need-add-result-3
 add-result-3 c = search needs
 
--- src/load.rt:45:5
+-- src/load.rt:45:29
 add-result-4 : tie.Need-add-result-4
 add-result-4 c = search needs
 
--- src/load.rt:45:5
-add-result-5 : tie.Need-add-result-5
-add-result-5 c = search needs
-
--- src/load.rt:45:5
-add-result-6 : tie.Need-add-result-6
-add-result-6 c = search needs
-
--- src/load.rt:45:41
+-- src/load.rt:45:51
 add-wide8-7 : tie.Need-add-wide8-7
 add-wide8-7 c = search needs
 
--- src/load.rt:45:39
+-- src/load.rt:45:49
 shared-slice-read-wide8-8 : tie.Need-shared-slice-read-wide8-8
 shared-slice-read-wide8-8 c = search needs
 
--- src/load.rt:45:33
+-- src/load.rt:45:43
 wide8-requires-8 : tie.Need-wide8-requires-8
 wide8-requires-8 c κs = search needs
+
+-- src/load.rt:45:39
+add-result-5 : tie.Need-add-result-5
+add-result-5 c = search needs
+
+-- src/load.rt:45:28
+add-result-6 : tie.Need-add-result-6
+add-result-6 c = search needs
 
 -- src/load.rt:45:5
 add-result-7 : tie.Need-add-result-7
@@ -196,10 +196,10 @@ load8-spec =
     add-result-2
     add-result-3
     add-result-4
-    add-result-5
-    add-result-6
     add-wide8-7
     shared-slice-read-wide8-8
     wide8-requires-8
+    add-result-5
+    add-result-6
     add-result-7
     returns)
