@@ -2,6 +2,9 @@
 
 mod images;
 mod inputs;
+mod numbers;
+mod samples;
+mod shapes;
 mod sketches;
 mod timing;
 
@@ -13,4 +16,6 @@ fn main() {
     images::run("largest image", Size::Largest);
     sketches::run("sketch of 60 curves", Size::Bridge);
     sketches::run("largest sketch", Size::Largest);
+    numbers::run();
+    shapes::run();
 }

@@ -21,8 +21,18 @@ impl Times {
     }
 
     pub fn print(self, name: &str) {
+        self.print_with(name, 0);
+    }
+
+    /// With tenths, for work of a few nanoseconds.
+    pub fn print_fine(self, name: &str) {
+        self.print_with(name, 1);
+    }
+
+    fn print_with(self, name: &str, digits: usize) {
         let ratio = self.engine / self.oracle;
-        println!("{name:<44} {:>10.0} {:>10.0} {ratio:>7.2}", self.engine, self.oracle);
+        let (engine, oracle) = (self.engine, self.oracle);
+        println!("{name:<44} {engine:>10.digits$} {oracle:>10.digits$} {ratio:>7.2}");
     }
 }
 

@@ -8,6 +8,7 @@ pub mod drawing;
 pub mod edit;
 pub mod examples;
 pub mod exhibit;
+pub mod figure;
 pub mod generate;
 pub mod image;
 pub mod message;

@@ -1,4 +1,7 @@
 // Entry points in C's convention, through which the comparison and the benchmarks reach the engine.
+mod numbers;
+mod shapes;
+
 use image::MessageRead;
 ghost use mathlib.Core.Path.{_≡_};
 ghost use Prim.Native.Nat.{_+_, _*_};

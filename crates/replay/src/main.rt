@@ -3,6 +3,7 @@ mod entries;
 mod images;
 mod messages;
 mod report;
+mod square_roots;
 mod tally;
 mod walk;
 mod written;
@@ -35,4 +36,5 @@ fn replay_file(name: &[u8], path: &[u8], subject: Subject) {
 fn main() {
     replay_file(b"images", b"images.bin", Subject::Images);
     replay_file(b"messages", b"messages.bin", Subject::Messages);
+    replay_file(b"square roots", b"square_roots.bin", Subject::SquareRoots);
 }

@@ -25,10 +25,13 @@ pub(crate) fn result(name: &[u8], tally: Tally) {
     text(b" recorded, ");
     number(tally.alike);
     text(b" alike\n");
-    by_outcome(outcomes);
+    if outcomes[0] != tally.entries {
+        by_outcome(outcomes);
+    }
     difference(tally.prefix, tally.entries);
 }
 
+// Of a list whose inputs are all accepted there is no more to say.
 fn by_outcome(outcomes: [usize; OUTCOMES]) {
     text(b"  accepted ");
     number(outcomes[0]);

@@ -3,6 +3,7 @@ use crate::entries::Entry;
 use crate::entries::entry_at;
 use crate::images;
 use crate::messages;
+use crate::square_roots;
 use crate::tally::Tally;
 use crate::tally::counted;
 use crate::tally::empty;
@@ -14,12 +15,14 @@ ghost use Rattle.replay.specs.Tally.{Kept};
 pub(crate) enum Subject {
     Images,
     Messages,
+    SquareRoots,
 }
 
 fn alike(subject: Subject, outcome: u8, input: &[u8]) -> bool {
     match subject {
         Subject::Images => images::alike(outcome, input),
         Subject::Messages => messages::alike(outcome, input),
+        Subject::SquareRoots => square_roots::alike(outcome, input),
     }
 }
 

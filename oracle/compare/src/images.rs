@@ -12,6 +12,7 @@ impl Subject for Images {
     const NAME: &'static str = "images";
     type Case = Case;
     type Answer = Answer;
+    type Coverage = Coverage;
 
     fn case(random: &mut Random) -> Case {
         let bytes = generate::image_bytes(random);

@@ -12,6 +12,7 @@ impl Subject for Messages {
     const NAME: &'static str = "messages";
     type Case = Case;
     type Answer = Answer;
+    type Coverage = Coverage;
 
     fn case(random: &mut Random) -> Case {
         let bytes = messages::message_bytes(random);

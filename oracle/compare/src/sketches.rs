@@ -64,6 +64,7 @@ impl Subject for Sketches {
     const NAME: &'static str = "sketches";
     type Case = Case;
     type Answer = u32;
+    type Coverage = Coverage;
 
     fn case(random: &mut Random) -> Case {
         let drawing = bridges::any_drawing(random);

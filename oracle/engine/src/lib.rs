@@ -1,8 +1,11 @@
-//! The engine's C interface as safe calls: each slice goes over as pointer and length, and each
-//! answer is a refusal's number or 0.
+//! The engine's C interface as safe calls. Of images and messages each slice goes over as pointer
+//! and length, and each answer is a refusal's number or 0.
 //!
 //! The calls are `#[inline]` so that a program asks the library only for the functions that it
 //! uses.
+
+pub mod numbers;
+pub mod shapes;
 
 mod interface {
     extern "C" {

@@ -11,7 +11,8 @@ fn main() -> std::io::Result<()> {
     let folder = Path::new(&folder);
     std::fs::create_dir_all(folder)?;
     write(folder, "images.bin", &recording::images(SEED))?;
-    write(folder, "messages.bin", &recording::messages(SEED))
+    write(folder, "messages.bin", &recording::messages(SEED))?;
+    write(folder, "square_roots.bin", &recording::square_roots(SEED))
 }
 
 fn write<T>(folder: &Path, name: &str, list: &List<T>) -> std::io::Result<()> {

@@ -1,13 +1,15 @@
-//! Seeded inputs: drawings, images good and damaged, messages, and lists of edits.
+//! Seeded inputs: drawings, images good and damaged, messages, lists of edits, figures and patterns.
 
 pub mod bridges;
 pub mod coverage;
 pub mod damage;
 pub mod edits;
 pub mod fields;
+pub mod figures;
 pub mod messages;
 pub mod near_misses;
 pub mod numbers;
+pub mod patterns;
 pub mod polynomials;
 pub mod random;
 pub mod relations;

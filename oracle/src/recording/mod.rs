@@ -6,12 +6,14 @@
 mod faults;
 mod images;
 mod messages;
+mod square_roots;
 
 use crate::refusal::{number_of, Refusal};
 use std::collections::BTreeSet;
 
 pub use images::images;
 pub use messages::messages;
+pub use square_roots::square_roots;
 
 /// The seed of the recorded lists: the same seed gives the same bytes.
 pub const SEED: u64 = 1;

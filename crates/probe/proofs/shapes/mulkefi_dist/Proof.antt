@@ -1,0 +1,18 @@
+use borrow.Author.Needs.{needs}
+use Rattle.probe.proofs.shapes.mulkefi_dist.Statement.{statement}
+use Rattle.probe.proofs.shapes.mulkefi_dist.Tie as tie
+
+shape-of-requires : tie.Need-shape-of-requires
+shape-of-requires c κs = search needs
+
+new-requires : tie.Need-new-requires
+new-requires c κs = search needs
+
+dist-requires : tie.Need-dist-requires
+dist-requires c κs = search needs
+
+returns : tie.Need-returns
+returns c = simp (c .dist .ensures, c .before .new .ensures, c .before .before .shape-of .ensures)
+
+pub mulkefi-dist-spec : {M : Type 1} → statement M
+mulkefi-dist-spec = tie.close (tie.spec shape-of-requires new-requires dist-requires returns)

@@ -1,0 +1,23 @@
+use borrow.Author.Needs.{needs}
+use Rattle.probe.proofs.shapes.mulkefi_point.Statement.{statement}
+use Rattle.probe.proofs.shapes.mulkefi_point.Tie as tie
+
+shape-of-requires : tie.Need-shape-of-requires
+shape-of-requires c κs = search needs
+
+point-requires : tie.Need-point-requires
+point-requires c κs = search needs
+
+element-write-out : tie.Need-element-write-out
+element-write-out c = search needs
+
+element-write-out-2 : tie.Need-element-write-out-2
+element-write-out-2 c = search needs
+
+returns : tie.Need-returns
+returns c = simp (c .point .ensures, c .before .shape-of .ensures)
+
+pub mulkefi-point-spec : {M : Type 1} → statement M
+mulkefi-point-spec =
+    tie.close
+    (tie.spec shape-of-requires point-requires element-write-out element-write-out-2 returns)
