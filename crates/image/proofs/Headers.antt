@@ -10,14 +10,13 @@ use borrow.Author.Tests.{leb-true, eqb-true, le-leb, eq-eqb}
 use Rattle.big_endian.specs.Fields.{field, bytes, part}
 use Rattle.big_endian.specs.Laws.{Bytes, length-bytes, field-in, field-lt, bytes-field, part-join}
 use Rattle.sketch.specs.Lists.{rule}
+use Rattle.sketch.proofs.Facts.{rule-none}
 use Rattle.image.specs.Image.{version, nextAt, pointCount, curveCount, relationCount, sizeOf, curvesFrom, relationsFrom, headFault}
 use Rattle.image.specs.Encode.{header}
 use Rattle.image.proofs.Tables.{both}
 
 pub rule-kept : (b : Bool) (n rest : ℕ) → rule b (suc n) rest ≡ 0 → (b ≡ true) × (rest ≡ 0)
-unfolding rule
-rule-kept true n rest e = (refl, e)
-rule-kept false n rest e = absurd (omega arith)
+rule-kept b n rest e = rule-none b (suc n) rest (omega arith) e
 
 -- what the header of an image that is not refused for it says
 pub record Head (s : List ℕ) : Type 0 where

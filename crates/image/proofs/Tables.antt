@@ -8,11 +8,14 @@ use native.Mathlib.Numerals.{add-one}
 use native.Mathlib.Omega.{arith}
 use lib.ListN.{length, take, drop, getD, set, length-append, length-drop, length-map}
 use lib.Seq.{take-at, drop-at, getD-drop, length-take-le, take-suc, take-suc-set, take-all, take-nil}
-use lib.Dec.{lit<}
+use lib.Dec.{eqb, lit<}
+use borrow.Author.Tests.{ne-eqb}
 use Rattle.big_endian.specs.Fields.{field, part, over}
 use Rattle.big_endian.specs.Laws.{Bytes, part-join, over-nil, over-over, length-over}
 use Rattle.sketch.specs.Lists.{every, spread, rule}
 use Rattle.sketch.specs.Valid.{tableFault, listFault}
+use Rattle.sketch.specs.Facts.{Every}
+use Rattle.sketch.proofs.Facts.{table-rest}
 use Rattle.image.specs.Stored.{Each}
 use Rattle.image.specs.Decode.{orElse, Decoded}
 use Rattle.image.specs.Image.{rowsAt, rowId}
@@ -154,32 +157,18 @@ two-rules true true x y rest e = e
 two-rules true false x y rest e = refl
 two-rules false c x y rest e = refl
 
--- both tests hold where neither rule is broken
-pub two-kept : (b c : Bool) (x : ℕ) → rule b 4 (rule c 5 x) ≡ 0 → (b ≡ true) × (x ≡ 0)
+or-rule : (n m : ℕ) → rule (eqb n 0) n m ≡ orElse n m
 unfolding rule
-two-kept true true x e = (refl, e)
-two-kept true false x e = absurd (omega arith)
-two-kept false c x e = absurd (omega arith)
+or-rule zero m = refl
+or-rule (suc n) m = rw (ne-eqb (suc n) 0 (λ h. omega arith))
 
-module _ {A : Type 0} (id : A → ℕ) (ok sound : A → Bool) (next : ℕ) where
-  pub table-or : (last rest : ℕ) (l : List A) → tableFault id ok sound next last l rest ≡ orElse (tableFault id ok sound next last l 0) rest
-  table-or last rest [] = refl
-  table-or last rest (a ∷ l) = two-rules (ok a) _ _ _ rest (table-or (id a) rest l)
+pub table-or : {A : Type 0} (id : A → ℕ) (ok sound : A → Bool) (next last rest : ℕ) (l : List A)
+    → tableFault id ok sound next last l rest ≡ orElse (tableFault id ok sound next last l 0) rest
+table-or id ok sound next last rest l = table-rest id ok sound next last l rest ∙ or-rule (tableFault id ok sound next last l 0) rest
 
-  -- a table without a fault: each record passes, and so does what comes after the table
-  pub table-kept : (last rest : ℕ) (l : List A) → tableFault id ok sound next last l rest ≡ 0 → (every ok l ≡ true) × (rest ≡ 0)
-  table-kept last rest [] e = (refl, e)
-  table-kept last rest (a ∷ l) e =
-      let k = two-kept (ok a) _ _ e in
-      let t = table-kept (id a) rest l (k .1) in
-      (rw (k .0, t .0), t .1)
-
-module _ {A : Type 0} (ok sound : A → Bool) where
-  pub list-kept : (l : List A) → listFault ok sound l ≡ 0 → every ok l ≡ true
-  list-kept [] e = refl
-  list-kept (a ∷ l) e =
-      let k = two-kept (ok a) _ _ e in
-      rw (k .0, list-kept l (k .1))
+pub every-true : {A : Type 0} (f : A → Bool) (l : List A) → Every f l → every f l ≡ true
+every-true f [] w = refl
+every-true f (a ∷ l) w = rw (w .0, every-true f l (w .1))
 
 -- ---- a table's rows made into values, up to the first that spells none
 

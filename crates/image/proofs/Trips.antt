@@ -13,11 +13,12 @@ use Rattle.big_endian.specs.Laws.{Bytes, field-lt, part-join}
 use Rattle.sketch.specs.Lists.{every, spread, rule}
 use Rattle.sketch.specs.Drawing.{Drawing, limits}
 use Rattle.sketch.specs.Valid.{okPoint, okCurve, okRelation, soundCurve, soundRelation, hasPoint, sortIn, tableFault, listFault, faultOf}
+use Rattle.sketch.proofs.Facts.{table-facts, list-facts}
 use Rattle.image.specs.Records.{pointForm, pointOf, curveForm, curveOf, relationForm, relationOf}
 use Rattle.image.specs.Image.{version, nextAt, pointCount, curveCount, relationCount, sizeOf, curvesFrom, relationsFrom, headFault, rowsAt, pointRows, curveRows, relationRows, drawingOf, rowId, recordsFault, imageFault, Outcome, refused, accepted, verdict, parse}
 use Rattle.image.specs.Encode.{encodePoint, encodeCurve, encodeRelation, header, drawingSize, encode}
 use Rattle.image.specs.Stored.{Each, Stored, StoredPoint, StoredCurve, StoredRelation}
-use Rattle.image.proofs.Tables.{length-rows, rows-join, rows-proper, spread-back, Sized, sized-all, length-spread, rows-spread, Spells, of-rows, table-there, list-there, both, table-kept, list-kept, table-whole, list-whole}
+use Rattle.image.proofs.Tables.{length-rows, rows-join, rows-proper, spread-back, Sized, sized-all, length-spread, rows-spread, Spells, of-rows, table-there, list-there, both, every-true, table-whole, list-whole}
 use Rattle.image.proofs.Points.{length-point, point-there, point-back}
 use Rattle.image.proofs.Curves.{length-curve, curve-there, curve-back}
 use Rattle.image.proofs.Relations.{length-relation, relation-there, relation-back}
@@ -199,10 +200,16 @@ image-kept s e =
     let h = head-kept s (recordsFault s) e in
     let l = listFault (λ r. relationForm r && okRelation (relationOf r)) (λ r. soundRelation (hasPoint (d .points)) (sortIn (d .curves)) (relationOf r)) (relationRows s) in
     let c = tableFault rowId (λ r. curveForm r && okCurve (curveOf r)) (λ r. soundCurve (hasPoint (d .points)) (curveOf r)) (d .next) 0 (curveRows s) l in
-    let t1 = table-kept rowId (λ r. pointForm r && okPoint (pointOf r)) (λ r. true) (d .next) 0 c (pointRows s) (h .1) in
-    let t2 = table-kept rowId (λ r. curveForm r && okCurve (curveOf r)) (λ r. soundCurve (hasPoint (d .points)) (curveOf r)) (d .next) 0 l (curveRows s) (t1 .1) in
-    let t3 = list-kept (λ r. relationForm r && okRelation (relationOf r)) (λ r. soundRelation (hasPoint (d .points)) (sortIn (d .curves)) (relationOf r)) (relationRows s) (t2 .1) in
-    record { head = h .0; points-pass = t1 .0; curves-pass = t2 .0; relations-pass = t3; records-pass = h .1 }
+    let t1 = table-facts rowId (λ r. pointForm r && okPoint (pointOf r)) (λ r. true) (d .next) 0 (pointRows s) c (h .1) in
+    let t2 = table-facts rowId (λ r. curveForm r && okCurve (curveOf r)) (λ r. soundCurve (hasPoint (d .points)) (curveOf r)) (d .next) 0 (curveRows s) l (t1 .1) in
+    let t3 = list-facts (λ r. relationForm r && okRelation (relationOf r)) (λ r. soundRelation (hasPoint (d .points)) (sortIn (d .curves)) (relationOf r)) (relationRows s) (t2 .1) in
+    record {
+      head = h .0;
+      points-pass = every-true (λ r. pointForm r && okPoint (pointOf r)) (pointRows s) (t1 .0 .oks);
+      curves-pass = every-true (λ r. curveForm r && okCurve (curveOf r)) (curveRows s) (t2 .0 .oks);
+      relations-pass = every-true (λ r. relationForm r && okRelation (relationOf r)) (relationRows s) (t3 .0);
+      records-pass = h .1;
+    }
 
 pub encode-back : (s : List ℕ) → Bytes s → Sound s → encode (drawingOf s) ≡ s
 unfolding encode

@@ -11,22 +11,18 @@ use lib.Dec.{leb, eqb}
 use borrow.Author.Tests.{le-leb, lt-leb, ne-eqb, eq-eqb}
 use Rattle.big_endian.specs.Fields.{over}
 use Rattle.big_endian.specs.Laws.{Run, run-over}
-use Rattle.image.proofs.Tables.{sized-all, length-spread}
+use Rattle.image.proofs.Tables.{every-true, sized-all, length-spread}
 use Rattle.image.proofs.Points.{length-point}
 use Rattle.image.proofs.Relations.{length-relation}
 use Rattle.image.proofs.Headers.{length-header}
 use Rattle.sketch.specs.Lists.{pick, every, rule, spread}
 use Rattle.sketch.specs.Drawing.{view, limits}
 use Rattle.sketch.specs.Valid.{okPoint, okCurve, okRelation, sketchFault}
-use Rattle.sketch.specs.Facts.{Every, Sized, Valid}
+use Rattle.sketch.specs.Facts.{Sized, Valid}
 use Rattle.sketch.specs.declared.Sketch.{Sketch}
 use Rattle.sketch.proofs.Sketches.{sketch-valid}
 use Rattle.image.specs.Image.{sizeOf}
 use Rattle.image.specs.Encode.{encodePoint, encodeCurve, encodeRelation, header, encode, drawingSize, writeFault, Written}
-
-every-true : {A : Type 0} (f : A → Bool) (l : List A) → Every f l → every f l ≡ true
-every-true f [] w = refl
-every-true f (a ∷ l) w = rw (w .0, every-true f l (w .1))
 
 -- a sketch without a fault: its counts, and the values that become bits
 pub record Ready (sk : Sketch) : Type 0 where
