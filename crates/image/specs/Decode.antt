@@ -48,7 +48,7 @@ pub record Partial (s : List ℕ) (sk : Sketch) (whole : Bool) : Type 0 where
 abbrev pub outcome : ImageRead → Outcome
 outcome r = verdict (r .refusal) (view (r .sketch))
 
--- the answer is what the bytes are read as, with a sketch that passes the test: an empty one where they are refused
+-- the answer is what the bytes are read as, and the sketch in it passes the test, refused or not
 pub record Answered (s : List ℕ) (r : ImageRead) : Type 0 where
   pub told : outcome r ≡ parse s
   pub sound : sketchFault (r .sketch) ≡ 0

@@ -34,5 +34,5 @@ altered s next points curves relations =
 
 -- the image's refusal, or the test of a sketch that the image gives, altered
 pub data SketchTested (bytes : List ℕ) (next points curves relations : ℕ) (r : ℕ) : Type 0 where
-  unread : r ≡ imageFault bytes → SketchTested bytes next points curves relations r
+  unread : (imageFault bytes ≡ 0 → ⊥) → r ≡ imageFault bytes → SketchTested bytes next points curves relations r
   tested : (s : Sketch) → imageFault bytes ≡ 0 → view s ≡ drawingOf bytes → r ≡ sketchFault (altered s next points curves relations) → SketchTested bytes next points curves relations r

@@ -20,7 +20,9 @@ cast-result c = search needs
 
 -- src/lib.rt:58:9
 returns : tie.Need-returns
-returns c = unread (read-number (c .before .before .before .read .result) (c .before .before .before .before .before .args .bytes .now) (c .before .before .before .read .ensures .told))
+returns c =
+    let e = read-number (c .before .before .before .read .result) (c .before .before .before .before .before .args .bytes .now) (c .before .before .before .read .ensures .told) in
+    unread (λ z. c .before .if1 .taken (e ∙ z)) e
 
 -- src/lib.rt:65:5
 fault-requires : tie.Need-fault-requires
