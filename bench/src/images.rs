@@ -1,48 +1,63 @@
 //! Reading an image, and writing it back.
 
 use crate::inputs::Inputs;
-use crate::timing::{measure, Times};
+use crate::timing::{Rounds, Times};
+use oracle::drawing::Drawing;
 use oracle::generate::bridges::Size;
 use oracle::image;
+use oracle::refusal::Refusal;
 use std::hint::black_box;
 
 pub fn run(name: &str, size: Size) {
     println!("{name}, {} bytes on average", Inputs::new(size).mean_bytes());
-    let read = read(size);
-    let copy = copy_with(size, image::write);
-    read.print("  read");
-    copy.print("  read and write");
-    copy.less(read).print("  write: the difference");
+    let rounds = Rounds::new([
+        &mut engine_read(size),
+        &mut oracle_read(size),
+        &mut engine_copy(size),
+        &mut oracle_copy(size, image::write),
+        &mut oracle_copy(size, image::encode),
+    ]);
+    let times = |engine: fn(&[f64; 5]) -> f64, oracle: fn(&[f64; 5]) -> f64| Times {
+        engine: rounds.median(engine),
+        oracle: rounds.median(oracle),
+    };
+    times(|t| t[0], |t| t[1]).print("  read");
+    times(|t| t[2], |t| t[3]).print("  read and write");
+    times(|t| t[2] - t[0], |t| t[3] - t[1]).print("  write: the difference");
     // Rust's types would let its writer trust what the reader gave.
-    copy_with(size, image::encode).print("  read and write, Rust's writer untested");
+    times(|t| t[2], |t| t[4]).print("  read and write, Rust's writer untested");
 }
 
-pub fn read(size: Size) -> Times {
-    let (mut engine_inputs, mut oracle_inputs) = (Inputs::new(size), Inputs::new(size));
-    measure(
-        || {
-            black_box(engine::image_test(black_box(&engine_inputs.next().image)));
-        },
-        || {
-            black_box(image::read(black_box(&oracle_inputs.next().image)).is_ok());
-        },
-    )
+pub fn engine_read(size: Size) -> impl FnMut() {
+    let mut inputs = Inputs::new(size);
+    move || {
+        black_box(engine::image_test(black_box(&inputs.next().image)));
+    }
 }
 
-type Write = fn(&oracle::drawing::Drawing, &mut [u8]) -> Result<usize, oracle::refusal::Refusal>;
+fn oracle_read(size: Size) -> impl FnMut() {
+    let mut inputs = Inputs::new(size);
+    move || {
+        black_box(image::read(black_box(&inputs.next().image)).is_ok());
+    }
+}
 
-fn copy_with(size: Size, write: Write) -> Times {
-    let (mut engine_inputs, mut oracle_inputs) = (Inputs::new(size), Inputs::new(size));
-    let mut engine_out = vec![0; image::MAX_SIZE];
-    let mut oracle_out = vec![0; image::MAX_SIZE];
-    measure(
-        || {
-            let image = &engine_inputs.next().image;
-            black_box(engine::image_copy(black_box(image), black_box(&mut engine_out)));
-        },
-        || {
-            let drawing = image::read(black_box(&oracle_inputs.next().image)).expect("good");
-            black_box(write(&drawing, black_box(&mut oracle_out)).is_ok());
-        },
-    )
+fn engine_copy(size: Size) -> impl FnMut() {
+    let mut inputs = Inputs::new(size);
+    let mut out = vec![0; image::MAX_SIZE];
+    move || {
+        let image = &inputs.next().image;
+        black_box(engine::image_copy(black_box(image), black_box(&mut out)));
+    }
+}
+
+type Write = fn(&Drawing, &mut [u8]) -> Result<usize, Refusal>;
+
+fn oracle_copy(size: Size, write: Write) -> impl FnMut() {
+    let mut inputs = Inputs::new(size);
+    let mut out = vec![0; image::MAX_SIZE];
+    move || {
+        let drawing = image::read(black_box(&inputs.next().image)).expect("good");
+        black_box(write(&drawing, black_box(&mut out)).is_ok());
+    }
 }

@@ -1,8 +1,14 @@
 //! The engine beside the oracle: the same inputs in one process, both built for release.
+//!
+//! `bench [subject]`: all of them, or one of images, sketches, numbers, shapes and edits.
 
+mod bridge;
+mod edits;
 mod images;
 mod inputs;
 mod numbers;
+mod relations;
+mod roots;
 mod samples;
 mod shapes;
 mod sketches;
@@ -11,11 +17,30 @@ mod timing;
 use oracle::generate::bridges::Size;
 
 fn main() {
+    let only = std::env::args().nth(1);
+    let wanted = |subject: &str| only.as_ref().is_none_or(|only| only == subject);
     timing::print_heading();
-    images::run("image of 60 curves", Size::Bridge);
-    images::run("largest image", Size::Largest);
-    sketches::run("sketch of 60 curves", Size::Bridge);
-    sketches::run("largest sketch", Size::Largest);
-    numbers::run();
-    shapes::run();
+    if wanted("images") {
+        images::run("image of 60 curves", Size::Bridge);
+        images::run("largest image", Size::Largest);
+    }
+    if wanted("sketches") {
+        sketches::run("sketch of 60 curves", Size::Bridge);
+        sketches::run("largest sketch", Size::Largest);
+    }
+    if wanted("relations") {
+        relations::run();
+    }
+    if wanted("numbers") {
+        numbers::run();
+    }
+    if wanted("shapes") {
+        shapes::run();
+    }
+    if wanted("roots") {
+        roots::run();
+    }
+    if wanted("edits") {
+        edits::run();
+    }
 }

@@ -15,11 +15,6 @@ pub struct Times {
 }
 
 impl Times {
-    /// What is left of a larger piece of work once a part of it is taken off.
-    pub fn less(self, part: Times) -> Times {
-        Times { engine: self.engine - part.engine, oracle: self.oracle - part.oracle }
-    }
-
     pub fn print(self, name: &str) {
         self.print_with(name, 0);
     }
@@ -49,6 +44,39 @@ pub fn measure(mut engine: impl FnMut(), mut oracle: impl FnMut()) -> Times {
         oracle_times.push(time(&mut oracle, oracle_calls));
     }
     Times { engine: median(engine_times), oracle: median(oracle_times) }
+}
+
+/// Several pieces of work, each timed once in every round: a difference of two is taken round by round, so that a change
+/// of the machine's speed between rounds does not show in it.
+pub struct Rounds<const N: usize> {
+    times: Vec<[f64; N]>,
+}
+
+impl<const N: usize> Rounds<N> {
+    pub fn new(mut works: [&mut dyn FnMut(); N]) -> Rounds<N> {
+        let calls = works.each_mut().map(|work| calls_a_round(work));
+        let round = |_| std::array::from_fn(|k| time(&mut works[k], calls[k]));
+        Rounds { times: (0..ROUNDS).map(round).collect() }
+    }
+
+    /// The median over the rounds of what is made of each round's times.
+    pub fn median(&self, of: impl Fn(&[f64; N]) -> f64) -> f64 {
+        median(self.times.iter().map(of).collect())
+    }
+}
+
+/// Nanoseconds for one call of each side: medians of a few rounds in which the sides take turns.
+/// For calls that are long enough to be timed one by one.
+pub fn medians_in_turn<const N: usize>(mut sides: [&mut dyn FnMut(); N]) -> [f64; N] {
+    const FEW_ROUNDS: usize = 11;
+    sides.iter_mut().for_each(|side| side());
+    let mut times: [Vec<f64>; N] = std::array::from_fn(|_| Vec::new());
+    for _ in 0..FEW_ROUNDS {
+        for (side, times) in sides.iter_mut().zip(&mut times) {
+            times.push(time(side, 1));
+        }
+    }
+    times.map(median)
 }
 
 /// How many calls fill a round; the trial warms caches too.

@@ -38,22 +38,27 @@ pub fn apply(drawing: &Drawing, edit: &Edit) -> Result<(Drawing, Report), Refuse
 
 /// `apply` for a drawing that is known to be good.
 pub fn apply_tested(drawing: &Drawing, edit: &Edit) -> Result<(Drawing, Report), Refused> {
+    let mut sketch = to_sketch(drawing);
+    edit_sketch(drawing, &mut sketch, edit)?;
+    let removed = sketch.removed.unwrap_or_default();
+    Ok((to_drawing(&sketch), Report { removed: removed.id, ends: removed.ends }))
+}
+
+/// Tests an edit of a good drawing and carries it out on the drawing's sketch, which a refusal may
+/// leave altered.
+pub fn edit_sketch(drawing: &Drawing, sketch: &mut Sketch, edit: &Edit) -> Result<(), Refused> {
     if !validity::is_coordinate(edit.x) || !validity::is_coordinate(edit.y) {
         return Err(Refusal::Pick.into());
     }
     let place = curve_place(drawing, edit.curve).ok_or(Refusal::NoCurve)?;
-    let mut sketch = to_sketch(drawing);
     let target = &drawing.curves[place];
-    let shape = sketch.shape(place);
-    if !takes_target(edit.operation, target, shape.as_ref()) {
+    if !takes_target(edit.operation, target, sketch.shape(place).as_ref()) {
         return Err(Refusal::Kind.into());
     }
     if needs_all_cuts(edit.operation, target) && has_freeform(drawing) {
         return Err(Refusal::Freeform.into());
     }
-    carry_out(&mut sketch, place, edit)?;
-    let removed = sketch.removed.unwrap_or_default();
-    Ok((to_drawing(&sketch), Report { removed: removed.id, ends: removed.ends }))
+    carry_out(sketch, place, edit)
 }
 
 /// Whether an operation applies to a curve; freeform curves have no shape.

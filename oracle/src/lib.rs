@@ -3,6 +3,7 @@
 
 pub mod arguments;
 pub mod bytes;
+pub mod call;
 pub mod convert;
 pub mod drawing;
 pub mod edit;
@@ -16,5 +17,6 @@ pub mod program;
 pub mod recording;
 pub mod refusal;
 pub mod roots;
+pub mod steps;
 pub mod upstream;
 pub mod validity;

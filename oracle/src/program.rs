@@ -1,6 +1,7 @@
 //! The wall's program: an image and messages in, the last image out.
 
-use crate::exhibit::Screen;
+use crate::edit::Refused;
+use crate::exhibit::{Delivery, Screen};
 use crate::image::{self, LENGTH_SIZE};
 use crate::message;
 use crate::refusal::Refusal;
@@ -10,6 +11,11 @@ pub const MAX_INPUT: usize = 65_536;
 
 /// The bytes that the program writes for its input.
 pub fn run(input: &[u8]) -> Vec<u8> {
+    run_watched(input, |_| ())
+}
+
+/// The same, with each delivery's outcome shown on the way.
+pub fn run_watched(input: &[u8], mut watch: impl FnMut(&Result<Delivery, Refused>)) -> Vec<u8> {
     let input = &input[..input.len().min(MAX_INPUT)];
     let (image, messages) = input.split_at(image_end(input));
     match image::read(image) {
@@ -18,15 +24,15 @@ pub fn run(input: &[u8]) -> Vec<u8> {
             let mut wall = Screen::new(drawing);
             for bytes in messages.chunks(message::SIZE) {
                 // A refused message is passed over.
-                let _ = wall.deliver(bytes);
+                watch(&wall.deliver(bytes));
             }
             image::to_bytes(&wall.drawing)
         }
     }
 }
 
-/// Where the image ends by its length field, or the input does if that comes first.
-fn image_end(input: &[u8]) -> usize {
+/// Where the image of an input ends by its length field, or the input does if that comes first.
+pub fn image_end(input: &[u8]) -> usize {
     let Some(length) = input.first_chunk::<LENGTH_SIZE>() else {
         return input.len();
     };

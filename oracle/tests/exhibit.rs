@@ -1,12 +1,15 @@
 //! Desk, wall and the wall's program over generated edits.
 #![cfg(upstream)]
 
+use oracle::call::answer;
+use oracle::drawing::Drawing;
 use oracle::examples::{l, t};
 use oracle::exhibit::{Delivery, Screen};
-use oracle::generate::{bridges, edits, random::Random};
+use oracle::generate::{bridges, edits, random::Random, runs::Run};
 use oracle::image;
 use oracle::message::{self, Edit, Operation};
 use oracle::program;
+use oracle::steps::State;
 
 const SPLIT: Edit = Edit { operation: Operation::Split, curve: 3, x: 1.0, y: 3.0 };
 
@@ -84,4 +87,31 @@ fn the_program_reads_no_further_than_its_limit() {
     };
     assert_eq!(run(fill - 1), image::to_bytes(&desk.drawing));
     assert_eq!(run(fill), image);
+}
+
+#[test]
+fn states_in_a_callers_hands_follow_desk_and_wall() {
+    let mut random = Random::new(22);
+    for _ in 0..300 {
+        let run = Run::any(&mut random);
+        let (mut desk, mut screen) = (state(&run.start), Screen::new(run.start.clone()));
+        for (edit, room) in &run.calls {
+            let (mut out, mut other) = (vec![0; *room], vec![0; *room]);
+            let step = desk.edit(edit, &mut out);
+            let done = screen.edit(edit, &mut other);
+            assert_eq!((step.answer, step.report), (answer(&done), done.unwrap_or_default()));
+            assert_eq!(out, other);
+            desk = step.state;
+            assert_eq!(desk, State { count: screen.count, ..state(&screen.drawing) });
+        }
+        let mut wall = state(&run.start);
+        for bytes in run.input()[wall.image.len()..].chunks(message::SIZE) {
+            wall = wall.deliver(bytes).state;
+        }
+        assert_eq!(program::run(&run.input()), wall.image);
+    }
+}
+
+fn state(drawing: &Drawing) -> State {
+    State { image: image::to_bytes(drawing), count: 0 }
 }

@@ -10,7 +10,7 @@ use lib.Arith.{digits-lt, digits-div, digits-mod}
 use lib.ListN.{length, take, drop, getD, set, length-append, length-drop, length-set, take-append-drop, List·getD-eq-default, List·getD-append}
 use lib.Seq.{take-suc, getD-drop, length-take-le, take-at, drop-at, drop-append-add, drop-drop, take-set-le, set-split, take-add, getD-append-add}
 use borrow.Author.Tests.{le-leb, lt-leb}
-use Rattle.big_endian.specs.Fields.{field, bytes, part, over, placed}
+use Rattle.big_endian.specs.Fields.{field, bytes, part, over, placed, rising, falling}
 
 -- every element is a byte
 abbrev pub Bytes : List ℕ → Type 0
@@ -218,3 +218,28 @@ field-flat s at a b c d e f g h ea eb ec ed ee ef eg eh =
     let z : at + 0 ≡ at = omega arith in
     let y : getD s (at + 0) 0 ≡ getD s at 0 = ap (λ (k : ℕ). getD s k 0) z in
     omega arith
+
+-- the bytes of a number, taken off from the lowest on
+pub turns : (v a b c d e f g h : ℕ) → a < 256 → b < 256 → c < 256 → d < 256 → e < 256 → f < 256 → g < 256 → h < 256 → v ≡ rising a b c d e f g h
+    → falling (v % 256) (v / 256 % 256) (v / 256 / 256 % 256) (v / 256 / 256 / 256 % 256) (v / 256 / 256 / 256 / 256 % 256) (v / 256 / 256 / 256 / 256 / 256 % 256)
+    (v / 256 / 256 / 256 / 256 / 256 / 256 % 256) (v / 256 / 256 / 256 / 256 / 256 / 256 / 256 % 256)
+    ≡ falling a b c d e f g h
+turns v a b c d e f g h la lb lc ld le lf lg lh z =
+    let t7 = h in
+    let t6 = g + h * 256 in
+    let t5 = f + t6 * 256 in
+    let t4 = e + t5 * 256 in
+    let t3 = d + t4 * 256 in
+    let t2 = c + t3 * 256 in
+    let t1 = b + t2 * 256 in
+    let k : v ≡ a + t1 * 256 = omega arith in
+    rw (k, mod-of a t1 la, div-of a t1 la, mod-of b t2 lb, div-of b t2 lb, mod-of c t3 lc, div-of c t3 lc, mod-of d t4 ld, div-of d t4 ld, mod-of e t5 le, div-of e t5 le, mod-of f t6 lf, div-of f t6 lf, mod-of g h lg, div-of g h lg, mod-low h lh)
+  where
+    mod-of : (x y : ℕ) → x < 256 → (x + y * 256) % 256 ≡ x
+    mod-of x y l = omega arith
+
+    div-of : (x y : ℕ) → x < 256 → (x + y * 256) / 256 ≡ y
+    div-of x y l = omega arith
+
+    mod-low : (x : ℕ) → x < 256 → x % 256 ≡ x
+    mod-low x l = omega arith

@@ -6,7 +6,10 @@ pub mod Relations
 pub mod Plain
 pub mod Headers
 pub mod Trips
+pub mod Goods
+pub mod GoodRelations
+pub mod Walked
 pub mod Spelled
+pub mod Verdicts
 pub mod Written
 pub mod MessageTrips
-pub mod Answers

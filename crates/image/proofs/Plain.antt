@@ -37,9 +37,6 @@ module _ (r : List ℕ) where
   pub plain-y : plainPoint r ≡ true → numberAt r 12 ≡ true
   plain-y h = both (pointForm r && numberAt r 4) _ h .1
 
-  pub point-kept : plainPoint r ≡ true → pointForm r ≡ true
-  point-kept h = both (pointForm r) _ (both (pointForm r && numberAt r 4) _ h .0) .0
-
   pub point-lost : plainPoint r ≡ false → (pointForm r && okPoint (pointOf r)) ≡ false
   point-lost h =
       let ok = okPoint (pointOf r) in
@@ -53,14 +50,8 @@ module _ (r : List ℕ) where
   pub plain-number : plainCurve r ≡ true → numberAt r 39 ≡ true
   plain-number h = both (curveForm r) _ h .1
 
-  pub curve-kept : plainCurve r ≡ true → curveForm r ≡ true
-  curve-kept h = both (curveForm r) _ h .0
-
   pub plain-value : plainRelation r ≡ true → numberAt r 9 ≡ true
   plain-value h = both (relationForm r) _ h .1
-
-  pub relation-kept : plainRelation r ≡ true → relationForm r ≡ true
-  relation-kept h = both (relationForm r) _ h .0
 
 -- ---- bits of a NaN are not zero, so they stand where a number belongs, and there they are out of range
 

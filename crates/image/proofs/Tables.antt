@@ -1,23 +1,20 @@
 -- Tables of records of one size: their rows, what is written of them and what they are tested as, for any type of record.
 use mathlib.Core.Path.{_≡_, refl, sym, ap, _∙_}
-use mathlib.Core.Bool.{Bool, true, false, _&&_, and-assoc}
+use mathlib.Core.Bool.{Bool, true, false, _&&_}
 use mathlib.Core.List.{List, [], _∷_, _++_, map, map-append, append-assoc, append-nil}
 use Prim.Native.Nat.{ℕ, zero, suc, _+_, _*_, _-_, _≤_, _<_}
 use native.Mathlib.Nat.{suc-mul, add-mul, one-mul}
 use native.Mathlib.Numerals.{add-one}
 use native.Mathlib.Omega.{arith}
 use lib.ListN.{length, take, drop, getD, set, length-append, length-drop, length-map}
-use lib.Seq.{take-at, drop-at, getD-drop, length-take-le, take-suc, take-suc-set, take-all, take-nil}
+use lib.Seq.{take-at, drop-at, getD-drop, length-take-le, take-suc, take-suc-set, take-all}
 use lib.Dec.{eqb, lit<}
-use borrow.Author.Tests.{ne-eqb}
 use Rattle.big_endian.specs.Fields.{field, part, over}
 use Rattle.big_endian.specs.Laws.{Bytes, part-join, over-nil, over-over, length-over}
 use Rattle.sketch.specs.Lists.{every, spread, rule}
 use Rattle.sketch.specs.Valid.{tableFault, listFault}
 use Rattle.sketch.specs.Facts.{Every}
-use Rattle.sketch.proofs.Facts.{table-rest}
 use Rattle.image.specs.Stored.{Each}
-use Rattle.image.specs.Decode.{orElse, Decoded}
 use Rattle.image.specs.Image.{rowsAt, rowId}
 
 -- ---- rows
@@ -128,49 +125,15 @@ spread-back enc of form ok size back (r ∷ rows) w h =
     let t = both (form r) _ (k .0) in
     rw (back r (w .0 .are-bytes) (w .0 .long) (t .0) (t .1), spread-back enc of form ok size back rows (w .1) (k .1))
 
-pub every-append : {A : Type 0} (f : A → Bool) (l m : List A) → every f (l ++ m) ≡ (every f l && every f m)
-every-append f [] m = refl
-every-append f (a ∷ l) m = rw (every-append f l m) (sym (and-assoc (f a) (every f l) (every f m)))
-
 pub spread-append : {A B : Type 0} (f : A → List B) (l m : List A) → spread f (l ++ m) ≡ spread f l ++ spread f m
 spread-append f [] m = refl
 spread-append f (a ∷ l) m = rw (spread-append f l m, append-assoc)
-
--- ---- the first number of two that is not 0
-
-pub or-none : (n : ℕ) → orElse n 0 ≡ n
-or-none zero = refl
-or-none (suc n) = refl
-
-pub or-assoc : (a b c : ℕ) → orElse (orElse a b) c ≡ orElse a (orElse b c)
-or-assoc zero b c = refl
-or-assoc (suc a) b c = refl
-
-pub rule-or : (b : Bool) (n rest : ℕ) → rule b (suc n) rest ≡ orElse (rule b (suc n) 0) rest
-unfolding rule
-rule-or true n rest = refl
-rule-or false n rest = refl
-
-pub two-rules : (b c : Bool) (x y rest : ℕ) → x ≡ orElse y rest → rule b 4 (rule c 5 x) ≡ orElse (rule b 4 (rule c 5 y)) rest
-unfolding rule
-two-rules true true x y rest e = e
-two-rules true false x y rest e = refl
-two-rules false c x y rest e = refl
-
-or-rule : (n m : ℕ) → rule (eqb n 0) n m ≡ orElse n m
-unfolding rule
-or-rule zero m = refl
-or-rule (suc n) m = rw (ne-eqb (suc n) 0 (λ h. omega arith))
-
-pub table-or : {A : Type 0} (id : A → ℕ) (ok sound : A → Bool) (next last rest : ℕ) (l : List A)
-    → tableFault id ok sound next last l rest ≡ orElse (tableFault id ok sound next last l 0) rest
-table-or id ok sound next last rest l = table-rest id ok sound next last l rest ∙ or-rule (tableFault id ok sound next last l 0) rest
 
 pub every-true : {A : Type 0} (f : A → Bool) (l : List A) → Every f l → every f l ≡ true
 every-true f [] w = refl
 every-true f (a ∷ l) w = rw (w .0, every-true f l (w .1))
 
--- ---- a table's rows made into values, up to the first that spells none
+-- ---- a table's rows made into values
 
 module _ {A : Type 0} (of : List ℕ → A) (form plain : List ℕ → Bool) (id : A → ℕ) (ok sound : A → Bool)
     (kept : (r : List ℕ) → plain r ≡ true → form r ≡ true)
@@ -182,15 +145,6 @@ module _ {A : Type 0} (of : List ℕ → A) (form plain : List ℕ → Bool) (id
       let k = both (plain r) _ h in
       rw (kept r (k .0), list-whole rows (k .1))
 
-  pub list-cut : (rows : List (List ℕ)) (k : ℕ) → k < length rows → every plain (take k rows) ≡ true → plain (getD rows k []) ≡ false
-      → listFault (λ r. form r && ok (of r)) (λ r. sound (of r)) rows ≡ orElse (listFault ok sound (map of (take k rows))) 4
-  unfolding rule
-  list-cut [] k q h e = absurd (omega arith)
-  list-cut (r ∷ rows) zero q h e = rw (lost r e)
-  list-cut (r ∷ rows) (suc k) q h e =
-      let b = both (plain r) _ h in
-      rw (kept r (b .0)) (two-rules (ok (of r)) (sound (of r)) _ _ 4 (list-cut rows k (omega arith) (b .1) e))
-
   module _ (named : (r : List ℕ) → rowId r ≡ id (of r)) (next : ℕ) where
     pub table-whole : (last rest : ℕ) (rows : List (List ℕ)) → every plain rows ≡ true
         → tableFault rowId (λ r. form r && ok (of r)) (λ r. sound (of r)) next last rows rest ≡ tableFault id ok sound next last (map of rows) rest
@@ -199,44 +153,22 @@ module _ {A : Type 0} (of : List ℕ → A) (form plain : List ℕ → Bool) (id
         let k = both (plain r) _ h in
         rw (kept r (k .0), named r, table-whole (id (of r)) rest rows (k .1))
 
-    pub table-cut : (last rest : ℕ) (rows : List (List ℕ)) (k : ℕ) → k < length rows → every plain (take k rows) ≡ true → plain (getD rows k []) ≡ false
-        → tableFault rowId (λ r. form r && ok (of r)) (λ r. sound (of r)) next last rows rest ≡ tableFault id ok sound next last (map of (take k rows)) 4
-    unfolding rule
-    table-cut last rest [] k q h e = absurd (omega arith)
-    table-cut last rest (r ∷ rows) zero q h e = rw (lost r e)
-    table-cut last rest (r ∷ rows) (suc k) q h e =
-        let b = both (plain r) _ h in
-        rw (kept r (b .0), named r, table-cut (id (of r)) rest rows k (omega arith) (b .1) e)
+-- ---- loops that make values of the rows of a table: `seen` tells the values in the slots
 
--- ---- loops over the rows of a table: `seen` tells the values in the slots
-
-module _ {A S : Type 0} (plain : List ℕ → Bool) (of : List ℕ → A) (seen : List S → List A) (value : S → A)
+module _ {A S : Type 0} (of : List ℕ → A) (seen : List S → List A) (value : S → A)
     (snoc : (l : List S) (x : S) → seen (l ++ (x ∷ [])) ≡ seen l ++ (value x ∷ [])) where
   -- after i rows
-  pub record Decoding (rows : List (List ℕ)) (slots : List S) (i : ℕ) : Type 0 where
-    pub inside : i ≤ length rows
-    pub so-far : seen (take i slots) ≡ map of (take i rows)
-    pub so-plain : every plain (take i rows) ≡ true
+  abbrev pub Filled : List (List ℕ) → List S → ℕ → Type 0
+  Filled rows slots i = seen (take i slots) ≡ map of (take i rows)
 
-  pub decoding-starts : seen [] ≡ [] → (rows : List (List ℕ)) (slots : List S) → Decoding rows slots 0
-  decoding-starts e rows slots = record { inside = omega arith; so-far = e; so-plain = refl }
-
-  pub decoding-turns : (rows : List (List ℕ)) (slots : List S) (i : ℕ) (x : S) → i < length rows → i < length slots → plain (getD rows i []) ≡ true → value x ≡ of (getD rows i [])
-      → Decoding rows slots i → Decoding rows (set slots i x) (i + 1)
-  decoding-turns rows slots i x h k p e w =
+  pub filling : (rows : List (List ℕ)) (slots : List S) (i : ℕ) (x : S) → i < length rows → i < length slots → value x ≡ of (getD rows i []) → Filled rows slots i → Filled rows (set slots i x) (i + 1)
+  filling rows slots i x h k e w =
       let t : take (i + 1) rows ≡ take i rows ++ (getD rows i [] ∷ []) = rw add-one (take-suc rows i [] h) in
       let u : take (i + 1) (set slots i x) ≡ take i slots ++ (x ∷ []) = rw add-one (take-suc-set slots i x k) in
-      record {
-        inside = omega arith;
-        so-far = rw (u, snoc, w .so-far, t, map-append, e);
-        so-plain = rw (t, every-append plain (take i rows) (getD rows i [] ∷ []), w .so-plain, p);
-      }
+      rw (u, snoc, w, t, map-append, e)
 
-  pub decoding-stops : (rows : List (List ℕ)) (slots : List S) (i : ℕ) → i < length rows → plain (getD rows i []) ≡ false → Decoding rows slots i → Decoded plain of rows (seen (take i slots)) i
-  decoding-stops rows slots i h p w = record { within = w .inside; values-are = w .so-far; all-plain = w .so-plain; stopped = λ k. p }
-
-  pub decoding-ends : (rows : List (List ℕ)) (slots : List S) (n : ℕ) → n ≡ length rows → Decoding rows slots n → Decoded plain of rows (seen (take n slots)) n
-  decoding-ends rows slots n e w = record { within = w .inside; values-are = w .so-far; all-plain = w .so-plain; stopped = λ k. absurd (omega arith) }
+  pub filled : (rows : List (List ℕ)) (slots : List S) (n i : ℕ) → n ≡ i → n ≡ length rows → Filled rows slots i → seen (take n slots) ≡ map of rows
+  filled rows slots n i e h w = let t : take i rows ≡ rows = take-all i rows (omega arith) in rw e (w ∙ rw t)
 
 -- ---- loops that write records
 
@@ -281,20 +213,11 @@ every-at f (a ∷ l) zero i none h p q = absurd (omega arith)
 every-at f (a ∷ l) (suc n) zero none h p q = both (f a) _ h .0
 every-at f (a ∷ l) (suc n) (suc i) none h p q = every-at f l n i none (both (f a) _ h .1) (omega arith) (omega arith)
 
+pub every-row : (f : List ℕ → Bool) (rows : List (List ℕ)) (i : ℕ) → every f rows ≡ true → i < length rows → f (getD rows i []) ≡ true
+every-row f rows i h q =
+    let t : take (length rows) rows ≡ rows = take-all (length rows) rows (omega arith) in
+    every-at f rows (length rows) i [] (rw t h) q q
+
 pub every-map : {A B : Type 0} (f : B → Bool) (g : A → B) (l : List A) → every f (map g l) ≡ every (λ a. f (g a)) l
 every-map f g [] = refl
 every-map f g (a ∷ l) = rw (every-map f g l)
-
--- a walk over no rows made no values; one over all of them made all
-pub no-rows : {A : Type 0} (plain : List ℕ → Bool) (of : List ℕ → A) (size : ℕ) (s : List ℕ) (at : ℕ) (values : List A) (count : ℕ) → Decoded plain of (rowsAt size 0 s at) values count → values ≡ []
-unfolding rowsAt
-no-rows plain of size s at values count w = w .values-are ∙ rw take-nil
-
-pub all-rows : {A : Type 0} (plain : List ℕ → Bool) (of : List ℕ → A) (rows : List (List ℕ)) (values : List A) (count : ℕ) → Decoded plain of rows values count → count ≡ length rows
-    → (values ≡ map of rows) × (every plain rows ≡ true)
-all-rows plain of rows values count w e =
-    let t : take count rows ≡ rows = take-all count rows (omega arith) in
-    (w .values-are ∙ rw t, rw (← t) (w .all-plain))
-
-pub few-rows : {A : Type 0} (plain : List ℕ → Bool) (of : List ℕ → A) (rows : List (List ℕ)) (values : List A) (count : ℕ) → Decoded plain of rows values count → length values ≡ count
-few-rows plain of rows values count w = ap length (w .values-are) ∙ length-map (take count rows) of ∙ length-take-le count rows (w .within)

@@ -1,14 +1,10 @@
-// The reader of images: the header's tests, the records up to the first that spells nothing, then the test of the sketch.
-use crate::IMAGE_VERSION;
+// The reader of images: the test of the bytes, then the tables that good bytes spell.
 use crate::ImageRead;
+use crate::faults::image_fault;
 use crate::records::curve_at;
-use crate::records::curve_plain;
 use crate::records::point_at;
-use crate::records::point_plain;
 use crate::records::relation_at;
-use crate::records::relation_plain;
 use crate::records::slots_at;
-use big_endian::get1;
 use big_endian::get2;
 use big_endian::get4;
 use sketch::Curve;
@@ -18,73 +14,16 @@ use sketch::Relation;
 use sketch::RelationSlot;
 use sketch::Sketch;
 ghost use mathlib.Core.Path.{_≡_};
+ghost use mathlib.Core.Bool.{true};
 ghost use mathlib.Core.List.{map};
 ghost use Prim.Native.Nat.{_+_, _*_, _≤_};
 ghost use lib.ListN.{length, take};
-ghost use Rattle.image.specs.Records.{pointOf, curveOf, relationOf};
-ghost use Rattle.sketch.specs.Lists.{pick};
+ghost use Rattle.sketch.specs.Drawing.{view};
+ghost use Rattle.sketch.specs.Lists.{every};
 ghost use Rattle.sketch.specs.Valid.{sketchFault};
-ghost use Rattle.image.specs.Image.{headFault, rowsAt};
-ghost use Rattle.image.specs.Decode.{plainPoint, plainCurve, plainRelation, Decoded, Partial, Answered};
-
-struct PointTable {
-    slots: [Point; 512],
-    count: usize,
-}
-
-struct CurveTable {
-    slots: [Curve; 128],
-    count: usize,
-}
-
-struct RelationTable {
-    slots: [RelationSlot; 256],
-    count: usize,
-}
-
-// The sketch that the records spell, up to the first that spells nothing; whole where each spells something.
-struct Spelled {
-    sketch: Sketch,
-    whole: bool,
-}
-
-// The number of the first rule that an image's header breaks, 0 for none.
-fn head_fault(s: &[u8]) -> u8
-    ensures { λ r. ⌜ r ≡ headFault (now (s .entry)) 0 ⌝ }
-{
-    let n = s.len();
-    if n < 5 {
-        return 1;
-    }
-    if get1(s, 4) != IMAGE_VERSION {
-        return 2;
-    }
-    if n < 15 {
-        return 1;
-    }
-    if get4(s, 0) as u64 + 4 != n as u64 {
-        return 1;
-    }
-    let np = get2(s, 9) as usize;
-    if 512 < np {
-        return 3;
-    }
-    let nc = get2(s, 11) as usize;
-    if 128 < nc {
-        return 3;
-    }
-    let nr = get2(s, 13) as usize;
-    if 256 < nr {
-        return 3;
-    }
-    if 15 + np * 21 + nc * 47 + nr * 17 != n {
-        return 3;
-    }
-    if get4(s, 5) < 1 {
-        return 4;
-    }
-    0
-}
+ghost use Rattle.image.specs.Records.{pointOf, curveOf, relationOf};
+ghost use Rattle.image.specs.Image.{imageFault, rowsAt, drawingOf};
+ghost use Rattle.image.specs.Decode.{plainPoint, plainCurve, plainRelation, Answered};
 
 fn no_points() -> [Point; 512]
     ensures { λ r. ⌜ length r ≡ 512 ⌝ }
@@ -122,28 +61,25 @@ fn no_relations() -> [RelationSlot; 256]
     [none; 256]
 }
 
-fn points_at(s: &[u8], from: usize, n: usize) -> PointTable
-    requires { ⌜ (n ≤ 512) × (from + n * 21 ≤ length (now s)) ⌝ }
-    ensures { λ r. ⌜ Decoded plainPoint pointOf (rowsAt 21 n (now (s .entry)) from) (take (r .count) (r .slots)) (r .count) ⌝ }
+fn points_at(s: &[u8], n: usize) -> [Point; 512]
+    requires { ⌜ (n ≤ 512) × (15 + n * 21 ≤ length (now s)) × (every plainPoint (rowsAt 21 n (now s) 15) ≡ true) ⌝ }
+    ensures { λ r. ⌜ take n r ≡ map pointOf (rowsAt 21 n (now (s .entry)) 15) ⌝ }
 {
     let mut slots = no_points();
     let mut i: usize = 0;
     while i < n {
-        let at = from + i * 21;
+        let at = 15 + i * 21;
         let end = at + 21;
         let r = &s[at..end];
-        if !point_plain(r) {
-            return PointTable { slots, count: i };
-        }
         slots[i] = point_at(r);
         i += 1;
     }
-    PointTable { slots, count: n }
+    slots
 }
 
-fn curves_at(s: &[u8], from: usize, n: usize) -> CurveTable
-    requires { ⌜ (n ≤ 128) × (from + n * 47 ≤ length (now s)) ⌝ }
-    ensures { λ r. ⌜ Decoded plainCurve curveOf (rowsAt 47 n (now (s .entry)) from) (take (r .count) (r .slots)) (r .count) ⌝ }
+fn curves_at(s: &[u8], from: usize, n: usize) -> [Curve; 128]
+    requires { ⌜ (n ≤ 128) × (from + n * 47 ≤ length (now s)) × (every plainCurve (rowsAt 47 n (now s) from) ≡ true) ⌝ }
+    ensures { λ r. ⌜ take n r ≡ map curveOf (rowsAt 47 n (now (s .entry)) from) ⌝ }
 {
     let mut slots = no_curves();
     let mut i: usize = 0;
@@ -151,19 +87,15 @@ fn curves_at(s: &[u8], from: usize, n: usize) -> CurveTable
         let at = from + i * 47;
         let end = at + 47;
         let r = &s[at..end];
-        let ids = slots_at(r);
-        if !curve_plain(r, ids) {
-            return CurveTable { slots, count: i };
-        }
-        slots[i] = curve_at(r, ids);
+        slots[i] = curve_at(r, slots_at(r));
         i += 1;
     }
-    CurveTable { slots, count: n }
+    slots
 }
 
-fn relations_at(s: &[u8], from: usize, n: usize) -> RelationTable
-    requires { ⌜ (n ≤ 256) × (from + n * 17 ≤ length (now s)) ⌝ }
-    ensures { λ r. ⌜ Decoded plainRelation relationOf (rowsAt 17 n (now (s .entry)) from) (map (λ t. t .relation) (take (r .count) (r .slots))) (r .count) ⌝ }
+fn relations_at(s: &[u8], from: usize, n: usize) -> [RelationSlot; 256]
+    requires { ⌜ (n ≤ 256) × (from + n * 17 ≤ length (now s)) × (every plainRelation (rowsAt 17 n (now s) from) ≡ true) ⌝ }
+    ensures { λ r. ⌜ map (λ t. t .relation) (take n r) ≡ map relationOf (rowsAt 17 n (now (s .entry)) from) ⌝ }
 {
     let mut slots = no_relations();
     let mut i: usize = 0;
@@ -171,42 +103,26 @@ fn relations_at(s: &[u8], from: usize, n: usize) -> RelationTable
         let at = from + i * 17;
         let end = at + 17;
         let r = &s[at..end];
-        if !relation_plain(r) {
-            return RelationTable { slots, count: i };
-        }
         let relation = relation_at(r);
         slots[i] = RelationSlot { relation };
         i += 1;
     }
-    RelationTable { slots, count: n }
+    slots
 }
 
-// A table after one that stopped short is left empty: an earlier record is at fault.
-fn counted(whole: bool, n: usize) -> usize
-    ensures { λ r. ⌜ (r ≡ pick whole n 0) × (r ≤ n) ⌝ }
-{
-    if whole { n } else { 0 }
-}
-
-fn spell(s: &[u8]) -> Spelled
-    requires { ⌜ headFault (now s) 0 ≡ 0 ⌝ }
-    ensures { λ r. ⌜ Partial (now (s .entry)) (r .sketch) (r .whole) ⌝ }
+// The sketch that a good image spells.
+fn spell(s: &[u8]) -> Sketch
+    requires { ⌜ imageFault (now s) ≡ 0 ⌝ }
+    ensures { λ r. ⌜ (view r ≡ drawingOf (now (s .entry))) × (sketchFault r ≡ 0) ⌝ }
 {
     let next = get4(s, 5);
-    let np = get2(s, 9) as usize;
-    let nc = get2(s, 11) as usize;
-    let nr = get2(s, 13) as usize;
-    let p = points_at(s, 15, np);
-    let npoints = p.count;
-    let c = curves_at(s, 15 + np * 21, counted(npoints == np, nc));
-    let ncurves = c.count;
-    let whole = (npoints == np) & (ncurves == nc);
-    let r = relations_at(s, 15 + np * 21 + nc * 47, counted(whole, nr));
-    let nrelations = r.count;
-    let points = p.slots;
-    let curves = c.slots;
-    let relations = r.slots;
-    let sketch = Sketch {
+    let npoints = get2(s, 9) as usize;
+    let ncurves = get2(s, 11) as usize;
+    let nrelations = get2(s, 13) as usize;
+    let points = points_at(s, npoints);
+    let curves = curves_at(s, 15 + npoints * 21, ncurves);
+    let relations = relations_at(s, 15 + npoints * 21 + ncurves * 47, nrelations);
+    Sketch {
         next,
         npoints,
         ncurves,
@@ -214,10 +130,6 @@ fn spell(s: &[u8]) -> Spelled
         points,
         curves,
         relations,
-    };
-    Spelled {
-        sketch,
-        whole: whole & (nrelations == nr),
     }
 }
 
@@ -242,22 +154,15 @@ fn refuse(number: u8) -> ImageRead
     }
 }
 
-// Reads an image: its sketch, or the number of the first rule that it breaks, with an empty sketch.
+// Reads an image: its sketch, or the number of the first rule that it breaks, with an empty sketch. The bytes are tested
+// first, and tables made of good ones only: a refusal costs no table, and no table is copied to be tested.
 pub fn read(s: &[u8]) -> ImageRead
     ensures { λ r. ⌜ Answered (now (s .entry)) r ⌝ }
 {
-    let head = head_fault(s);
-    if head != 0 {
-        return refuse(head);
-    }
-    let spelled = spell(s);
-    let sketch = spelled.sketch;
-    let fault = sketch::fault(sketch);
+    let fault = image_fault(s);
     if fault != 0 {
         return refuse(fault);
     }
-    if !spelled.whole {
-        return refuse(4);
-    }
+    let sketch = spell(s);
     ImageRead { sketch, refusal: 0 }
 }

@@ -1,4 +1,4 @@
-// One record of an image: whether its bytes spell a value, and which.
+// One record of an image: which value its bytes spell.
 use big_endian::get1;
 use big_endian::get4;
 use big_endian::get8;
@@ -7,25 +7,11 @@ use sketch::CurveKind;
 use sketch::Point;
 use sketch::Relation;
 ghost use mathlib.Core.Path.{_≡_};
-ghost use mathlib.Core.Bool.{true, not};
-ghost use lib.Ieee.{nanBits, binary64};
+ghost use mathlib.Core.Bool.{true};
 ghost use lib.Dec.{eqb};
 ghost use Rattle.sketch.specs.Lists.{pick};
-ghost use Rattle.image.specs.Records.{slotsOf, usedSlots, kindOf, noSlots, single, valued, relationBy, pointOf, curveOf, relationOf};
+ghost use Rattle.image.specs.Records.{slotsOf, kindOf, noSlots, relationBy, pointOf, curveOf, relationOf};
 ghost use Rattle.image.specs.Decode.{plainPoint, plainCurve, plainRelation};
-
-// Whether bits are no NaN's: only such may become a float.
-fn is_number(bits: u64) -> bool
-    ensures { λ r. ⌜ r ≡ not (nanBits binary64 bits) ⌝ }
-{
-    bits % 0x8000_0000_0000_0000 <= 0x7ff0_0000_0000_0000
-}
-
-pub(crate) fn point_plain(r: &[u8]) -> bool
-    ensures { λ v. ⌜ v ≡ plainPoint (now (r .entry)) ⌝ }
-{
-    (get1(r, 20) <= 1) & is_number(get8(r, 4)) & is_number(get8(r, 12))
-}
 
 pub(crate) fn point_at(r: &[u8]) -> Point
     requires { ⌜ plainPoint (now r) ≡ true ⌝ }
@@ -36,18 +22,6 @@ pub(crate) fn point_at(r: &[u8]) -> Point
         fixed: get1(r, 20) == 1,
         x: f64::from_bits(get8(r, 4)),
         y: f64::from_bits(get8(r, 12)),
-    }
-}
-
-fn used_slots(kind: u8, degree: u8) -> usize
-    ensures { λ r. ⌜ r ≡ usedSlots kind degree ⌝ }
-{
-    match kind {
-        1 => 2,
-        2 => 3,
-        3 => 1,
-        4 => degree as usize + 1,
-        _ => 3,
     }
 }
 
@@ -64,19 +38,6 @@ pub(crate) fn slots_at(r: &[u8]) -> [u32; 8]
         get4(r, 31),
         get4(r, 35),
     ]
-}
-
-// The record's slots come with it: they are read once.
-pub(crate) fn curve_plain(r: &[u8], s: [u32; 8]) -> bool
-    requires { ⌜ s ≡ slotsOf (now r) ⌝ }
-    ensures { λ v. ⌜ v ≡ plainCurve (now (r .entry)) ⌝ }
-{
-    let kind = get1(r, 4);
-    let degree = get1(r, 6);
-    let number = get8(r, 39);
-    let known = (1 <= kind) & (kind <= 5) & (get1(r, 5) <= 7);
-    let bare = ((kind == 4) | (degree == 0)) & ((kind == 3) | (kind == 5) | (number == 0));
-    known & bare & sketch::clear_from(s, used_slots(kind, degree)) & is_number(number)
 }
 
 // The kind by its byte.
@@ -118,23 +79,6 @@ pub(crate) fn curve_at(r: &[u8], s: [u32; 8]) -> Curve
         kind,
         slots,
     }
-}
-
-// Kinds of relations with one id only.
-fn is_single(kind: u8) -> bool
-    ensures { λ r. ⌜ r ≡ single kind ⌝ }
-{
-    (kind == 5) | (kind == 8) | (kind == 9)
-}
-
-pub(crate) fn relation_plain(r: &[u8]) -> bool
-    ensures { λ v. ⌜ v ≡ plainRelation (now (r .entry)) ⌝ }
-{
-    let kind = get1(r, 0);
-    let value = get8(r, 9);
-    let lone = is_single(kind);
-    let known = (1 <= kind) & (kind <= 9);
-    known & (!lone | (get4(r, 5) == 0)) & (lone | (kind == 6) | (value == 0)) & is_number(value)
 }
 
 // The relation by its kind's byte.

@@ -1,2 +1,4 @@
+pub mod Polynomials
 pub mod Probe
 pub mod Shapes
+pub mod Relations

@@ -1,6 +1,8 @@
 // Entry points in C's convention, through which the comparison and the benchmarks reach the engine.
 mod numbers;
+mod polynomials;
 mod shapes;
+mod verdicts;
 
 use image::MessageRead;
 ghost use mathlib.Core.Path.{_≡_};

@@ -2,7 +2,9 @@
 mod entries;
 mod images;
 mod messages;
+mod patterns;
 mod report;
+mod roots;
 mod square_roots;
 mod tally;
 mod walk;
@@ -37,4 +39,5 @@ fn main() {
     replay_file(b"images", b"images.bin", Subject::Images);
     replay_file(b"messages", b"messages.bin", Subject::Messages);
     replay_file(b"square roots", b"square_roots.bin", Subject::SquareRoots);
+    replay_file(b"roots", b"roots.bin", Subject::Roots);
 }

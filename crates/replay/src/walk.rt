@@ -3,6 +3,7 @@ use crate::entries::Entry;
 use crate::entries::entry_at;
 use crate::images;
 use crate::messages;
+use crate::roots;
 use crate::square_roots;
 use crate::tally::Tally;
 use crate::tally::counted;
@@ -16,6 +17,7 @@ pub(crate) enum Subject {
     Images,
     Messages,
     SquareRoots,
+    Roots,
 }
 
 fn alike(subject: Subject, outcome: u8, input: &[u8]) -> bool {
@@ -23,6 +25,7 @@ fn alike(subject: Subject, outcome: u8, input: &[u8]) -> bool {
         Subject::Images => images::alike(outcome, input),
         Subject::Messages => messages::alike(outcome, input),
         Subject::SquareRoots => square_roots::alike(outcome, input),
+        Subject::Roots => roots::alike(outcome, input),
     }
 }
 

@@ -203,7 +203,7 @@ relations-by-columns ps cs rs e f g = simp (e, f, g, sort-among)
 
 -- ---- a curve by its place
 
-getD-mapped : {A B : Type 0} (f : A → B) (y : B) (z : A) (l : List A) (k : ℕ) → k < length l → getD (map f l) k y ≡ f (getD l k z)
+pub getD-mapped : {A B : Type 0} (f : A → B) (y : B) (z : A) (l : List A) (k : ℕ) → k < length l → getD (map f l) k y ≡ f (getD l k z)
 getD-mapped f y z [] k q = absurd (omega arith)
 getD-mapped f y z (a ∷ l) zero q = refl
 getD-mapped f y z (a ∷ l) (suc k) q = getD-mapped f y z l k (omega arith)

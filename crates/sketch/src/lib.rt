@@ -3,10 +3,17 @@ mod lookup;
 mod validity;
 mod values;
 
+pub use lookup::has;
+pub use lookup::note;
 pub use lookup::place;
+pub use lookup::place_near;
+pub use lookup::sort_at;
 pub use validity::clear_from;
 pub use validity::fault;
 pub use values::coordinate_ok;
+pub use values::measure_ok;
+pub use values::radius_ok;
+pub use values::rho_ok;
 
 // Ids of points and curves.
 pub type Id = u32;

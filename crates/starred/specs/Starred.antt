@@ -2,9 +2,21 @@
 use mathlib.Core.Path.{_≡_}
 use mathlib.Core.List.{List, [], _∷_}
 use Prim.Native.Nat.{ℕ}
-use Rattle.sketch.specs.Drawing.{Drawing}
-use Rattle.image.specs.Image.{parse, accepted, refused}
+use lib.Ieee.{Float, neg, binary64, ofBits}
+use Rattle.float.specs.Numbers.{asFloat, ½, 0f, 1f}
+use Rattle.bernstein.specs.Roots as R
+use Rattle.bernstein.specs.Roots.{rootsOf, found}
+use Rattle.geom.specs.Plane.{vec}
+use Rattle.sketch.specs.declared.Relation.the-variants.{PointOnCurve, Collinear, Length, Distance}
+use Rattle.sketch.specs.Drawing.{Drawing, limits}
+use Rattle.image.specs.declared.Operation.the-variants.{Trim, Split, Extend}
+use Rattle.image.specs.Image as I
 use Rattle.image.specs.Encode.{encode}
+use Rattle.carry.specs.declared.Removed.{Removed}
+use Rattle.carry.specs.Outcome.{refused, accepted}
+use Rattle.carry.specs.Steps.{nothing}
+use Rattle.modify.specs.Edits.{editOf}
+use Rattle.starred.specs.Drawings.{spot, point, below, line, drawing, L, T, T5}
 
 -- ---- images
 
@@ -13,11 +25,48 @@ abbrev pub emptyImage : ℕ → List ℕ
 emptyImage version = 0x00 ∷ 0x00 ∷ 0x00 ∷ 0x0b ∷ version ∷ 0x00 ∷ 0x00 ∷ 0x00 ∷ 0x01 ∷ 0x00 ∷ 0x00 ∷ 0x00 ∷ 0x00 ∷ 0x00 ∷ 0x00 ∷ []
 
 abbrev pub emptyDrawing : Drawing
-emptyDrawing = record { next = 1; points = []; curves = []; relations = [] }
+emptyDrawing = drawing 1 [] [] []
+
+-- ---- edits
+
+abbrev pub gone : ℕ → ℕ → ℕ → Removed
+gone c a b = record { curve = c; from = a; to = b }
+
+-- ---- roots
+
+-- 0.5 − 2^−47
+abbrev pub nearHalf : Float
+nearHalf = ofBits binary64 0x3fdf_ffff_ffff_ff80
+
+-- the coefficients −1, 1
+abbrev pub rising : List Float
+rising = neg 1f ∷ 1f ∷ []
 
 -- ---- the list
 
 pub record Starred : Type 0 where
-  pub empty-read : parse (emptyImage 1) ≡ accepted emptyDrawing
+  pub empty-read : I.parse (emptyImage 1) ≡ I.accepted emptyDrawing
   pub empty-written : encode emptyDrawing ≡ emptyImage 1
-  pub version-two : parse (emptyImage 2) ≡ refused 2
+  pub version-two : I.parse (emptyImage 2) ≡ I.refused 2
+  pub split-inside :
+      editOf Split limits (L []) 3 (spot 1 3)
+      ≡ accepted (drawing 6 (point 1 0 0 ∷ point 2 4 0 ∷ point 4 1 0 ∷ []) (line 3 1 4 ∷ line 5 4 2 ∷ []) (Collinear 3 5 ∷ [])) nothing
+  pub split-measured :
+      editOf Split limits (L (Length 3 (asFloat 4) ∷ [])) 3 (spot 1 3)
+      ≡ accepted (drawing 6 (point 1 0 0 ∷ point 2 4 0 ∷ point 4 1 0 ∷ []) (line 3 1 4 ∷ line 5 4 2 ∷ []) (Distance 1 2 (asFloat 4) ∷ Collinear 3 5 ∷ [])) nothing
+  pub split-at-the-end : editOf Split limits (L []) 3 (spot 0 3) ≡ refused 12
+  pub trim-before :
+      editOf Trim limits T 3 (vec ½ 0f)
+      ≡ accepted (drawing 9 (point 2 4 0 ∷ below 4 1 ∷ point 5 1 1 ∷ point 7 1 0 ∷ []) (line 3 7 2 ∷ line 6 4 5 ∷ []) (PointOnCurve 7 6 ∷ [])) (gone 8 1 7)
+  pub trim-after :
+      editOf Trim limits T 3 (spot 3 0)
+      ≡ accepted (drawing 9 (point 1 0 0 ∷ below 4 1 ∷ point 5 1 1 ∷ point 7 1 0 ∷ []) (line 3 1 7 ∷ line 6 4 5 ∷ []) (PointOnCurve 7 6 ∷ [])) (gone 8 7 2)
+  pub trim-whole : editOf Trim limits (L []) 3 (spot 1 0) ≡ accepted (drawing 4 [] [] []) (gone 3 1 2)
+  pub root-of-rising : rootsOf rising 100 ≡ found (nearHalf ∷ []) 53
+  pub budget-suffices : rootsOf rising 47 ≡ found (nearHalf ∷ []) 0
+  pub budget-short : rootsOf rising 46 ≡ R.refused 21 0
+  pub root-at-the-start : rootsOf (0f ∷ 1f ∷ []) 100 ≡ found (0f ∷ []) 100
+  pub root-touched : rootsOf (1f ∷ neg 1f ∷ 1f ∷ []) 100 ≡ found (nearHalf ∷ []) 53
+  pub extended :
+      editOf Extend limits T5 3 (spot 2 0)
+      ≡ accepted (drawing 7 (point 1 0 0 ∷ point 2 5 0 ∷ below 4 5 ∷ point 5 5 1 ∷ []) (line 3 1 2 ∷ line 6 4 5 ∷ []) (PointOnCurve 2 6 ∷ [])) nothing

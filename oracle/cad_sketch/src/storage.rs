@@ -126,14 +126,18 @@ impl Sketch {
             let ends = kind.ends().map_or([0, 0], |(a, b)| [id_of(a), id_of(b)]);
             self.removed = Some(Removed { id, ends });
         }
-        let curve_goes = |place: usize| places.contains(&place);
-        let used = |point: usize, going: bool| {
-            let mut curves = self.curves.iter().enumerate();
-            curves.any(|(place, curve)| curve_goes(place) == going && curve.kind.uses(point))
-        };
-        let points_going: Vec<bool> =
-            (0..self.points.len()).map(|p| used(p, true) && !used(p, false)).collect();
-        let curves_going: Vec<bool> = (0..self.curves.len()).map(curve_goes).collect();
+        let curves_going: Vec<bool> =
+            (0..self.curves.len()).map(|place| places.contains(&place)).collect();
+        let mut used_going = vec![false; self.points.len()];
+        let mut used_staying = used_going.clone();
+        for (curve, goes) in self.curves.iter().zip(&curves_going) {
+            curve.kind.mark(if *goes { &mut used_going } else { &mut used_staying });
+        }
+        let points_going: Vec<bool> = used_going
+            .iter()
+            .zip(&used_staying)
+            .map(|(going, staying)| *going && !staying)
+            .collect();
         self.drop_records(&points_going, &curves_going);
     }
 

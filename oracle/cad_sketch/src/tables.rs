@@ -68,6 +68,21 @@ impl CurveKind {
         }
     }
 
+    /// Marks the points that the curve uses.
+    pub fn mark(&self, marks: &mut [bool]) {
+        match *self {
+            CurveKind::Line { a, b } => [a, b].iter().for_each(|p| marks[*p] = true),
+            CurveKind::Arc { c, a, b } => [c, a, b].iter().for_each(|p| marks[*p] = true),
+            CurveKind::Circle { c, .. } => marks[c] = true,
+            CurveKind::Bezier { degree, points } => {
+                points[..=usize::from(degree)].iter().for_each(|p| marks[*p] = true)
+            }
+            CurveKind::Conic { a, apex, b, .. } => {
+                [a, apex, b].iter().for_each(|p| marks[*p] = true)
+            }
+        }
+    }
+
     /// Start and end of a line or arc.
     pub fn ends(&self) -> Option<(usize, usize)> {
         match *self {

@@ -30,7 +30,10 @@ impl fmt::Display for Counts {
         rows.dedup();
         for row in rows {
             write!(f, "  {row:<15}")?;
-            for (_, name, count) in self.counts.iter().filter(|count| count.0 == row) {
+            let mut counts: Vec<_> = self.counts.iter().filter(|count| count.0 == row).collect();
+            // Names that are numbers stand in their order.
+            counts.sort_by_key(|(_, name, _)| name.parse().unwrap_or(u32::MAX));
+            for (_, name, count) in counts {
                 write!(f, " {name}:{count}")?;
             }
             writeln!(f)?;

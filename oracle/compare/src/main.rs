@@ -1,31 +1,48 @@
 //! Feeds generated inputs to the engine's static library and to the oracle and compares every
 //! answer, every byte written and every byte left alone.
 //!
-//! `compare [images] [messages] [seed] [figures] [roots]`: how many of each, and where the
-//! generator starts.
+//! `compare [images] [messages] [seed] [figures] [square roots] [polynomials] [relations] [edits] [runs]`:
+//! how many of each, and where the generator starts. So many edits are trims and splits, as many
+//! again extends.
 
 mod copies;
 mod counts;
 mod crossings;
+#[cfg(any(test, feature = "edits"))]
+mod edit_rows;
+#[cfg(any(test, feature = "edits"))]
+mod edits;
 mod hex;
 mod images;
 mod measures;
 mod messages;
 mod number;
 mod number_pairs;
+#[cfg(any(test, feature = "edits", feature = "exhibit"))]
+mod outcomes;
+mod relations;
+mod roots;
+#[cfg(any(test, feature = "exhibit"))]
+mod runs;
 mod shrink;
 mod simpler;
 mod sketches;
 mod square_roots;
 mod subject;
 
-use oracle::{arguments, image, message};
+use oracle::{arguments, image, message, upstream};
 use std::process::ExitCode;
 
 const CASES: u64 = 200_000;
 /// Over a million of every kind and of every pair of kinds.
 const FIGURES: u64 = 4_100_000;
 const ROOTS: u64 = 10_000_000;
+const RELATIONS: u64 = 1_000_000;
+const POLYNOMIALS: u64 = 320_000;
+#[cfg(feature = "edits")]
+const EDITS: u64 = 300_000;
+#[cfg(feature = "exhibit")]
+const RUNS: u64 = 50_000;
 
 fn versions() -> Result<(), String> {
     let (oracle, engine) =
@@ -42,6 +59,7 @@ fn compare_all() -> Result<(), String> {
     let (image_cases, message_cases) = (cases(1, CASES), cases(2, CASES));
     let seed = arguments::number(3, 1);
     let (figure_cases, root_cases) = (cases(4, FIGURES), cases(5, ROOTS));
+    let relation_cases = cases(7, RELATIONS);
     versions()?;
     subject::run::<square_roots::SquareRoots>(root_cases, seed)?;
     subject::run::<number_pairs::NumberPairs>(figure_cases, seed)?;
@@ -49,7 +67,18 @@ fn compare_all() -> Result<(), String> {
     subject::run::<crossings::Crossings>(figure_cases, seed)?;
     subject::run::<images::Images>(image_cases, seed)?;
     subject::run::<sketches::Sketches>(image_cases, seed)?;
-    subject::run::<messages::Messages>(message_cases, seed)
+    subject::run::<relations::Relations>(relation_cases, seed)?;
+    subject::run::<messages::Messages>(message_cases, seed)?;
+    if !upstream::PRESENT {
+        println!("roots and edits: the upstream source is absent, skipped");
+        return Ok(());
+    }
+    subject::run::<roots::Roots>(cases(6, POLYNOMIALS), seed)?;
+    #[cfg(feature = "edits")]
+    edits::run(cases(8, EDITS), seed)?;
+    #[cfg(feature = "exhibit")]
+    subject::run::<runs::Runs<runs::Engine>>(cases(9, RUNS), seed)?;
+    Ok(())
 }
 
 fn main() -> ExitCode {

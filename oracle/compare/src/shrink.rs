@@ -15,6 +15,16 @@ pub fn image(bytes: &[u8], differs: impl Fn(&[u8]) -> bool) -> Vec<u8> {
     })
 }
 
+/// Shrinks an image by whole records alone.
+#[cfg(any(test, feature = "edits", feature = "exhibit"))]
+pub fn records(bytes: &[u8], differs: impl Fn(&[u8]) -> bool) -> Vec<u8> {
+    until_stable(bytes.to_vec(), |bytes| {
+        for table in (0..3).rev() {
+            drop_records(bytes, table, &differs);
+        }
+    })
+}
+
 /// Shrinks bytes by their number and values.
 pub fn bytes(bytes: &[u8], differs: impl Fn(&[u8]) -> bool) -> Vec<u8> {
     until_stable(bytes.to_vec(), |bytes| {
@@ -23,7 +33,8 @@ pub fn bytes(bytes: &[u8], differs: impl Fn(&[u8]) -> bool) -> Vec<u8> {
     })
 }
 
-fn until_stable(mut bytes: Vec<u8>, mut pass: impl FnMut(&mut Vec<u8>)) -> Vec<u8> {
+/// Passes over bytes until one changes nothing.
+pub fn until_stable(mut bytes: Vec<u8>, mut pass: impl FnMut(&mut Vec<u8>)) -> Vec<u8> {
     loop {
         let before = bytes.clone();
         pass(&mut bytes);
@@ -42,6 +53,24 @@ fn drop_records(bytes: &mut Vec<u8>, table: usize, differs: &impl Fn(&[u8]) -> b
         while let Some(fewer) = without_records(bytes, table, place, run) {
             if differs(&fewer) {
                 *bytes = fewer;
+            } else {
+                place += run;
+            }
+        }
+        run /= 2;
+    }
+}
+
+/// Drops runs of entries of a list, long runs first.
+#[cfg(any(test, feature = "exhibit"))]
+pub fn drop_runs<T: Clone>(list: &mut Vec<T>, differs: impl Fn(&[T]) -> bool) {
+    let mut run = list.len();
+    while run > 0 {
+        let mut place = 0;
+        while place + run <= list.len() {
+            let fewer = [&list[..place], &list[place + run..]].concat();
+            if differs(&fewer) {
+                *list = fewer;
             } else {
                 place += run;
             }

@@ -3,7 +3,7 @@
 use crate::hex::Hex;
 use crate::shrink;
 use crate::subject::Subject;
-use oracle::drawing::{MAX_CURVES, MAX_POINTS, MAX_RELATIONS};
+use oracle::drawing::{Drawing, MAX_CURVES, MAX_POINTS, MAX_RELATIONS};
 use oracle::generate::fields::Tables;
 use oracle::generate::{bridges, coverage::Coverage, damage, random::Random};
 use oracle::refusal::{number_of, Refusal};
@@ -13,13 +13,52 @@ pub struct Sketches;
 
 #[derive(Debug)]
 pub struct Case {
-    image: Hex,
-    next: u32,
+    pub image: Hex,
+    pub next: u32,
     /// At most those of the image, or over a limit: between them the slots hold anything.
-    counts: [u32; 3],
+    pub counts: [u32; 3],
 }
 
 impl Case {
+    /// A drawing as it is.
+    pub fn intact(drawing: &Drawing) -> Case {
+        let tables = [drawing.points.len(), drawing.curves.len(), drawing.relations.len()];
+        let counts = tables.map(|count| count as u32);
+        Case { image: Hex(image::to_bytes(drawing)), next: drawing.next_id, counts }
+    }
+
+    /// A drawing's image, rarely damaged, with a next id and counts that are mostly its own.
+    pub fn of(drawing: &Drawing, random: &mut Random) -> Case {
+        let mut bytes = image::to_bytes(drawing);
+        let last = drawing.points.last().map_or(0, |point| point.id);
+        let next = drawing.next_id;
+        let nexts = [(12, next), (1, next - 1), (1, 0), (1, 1), (1, last), (1, u32::MAX)];
+        if random.one_in(50) {
+            damage::damage(random, &mut bytes);
+        }
+        let held = Tables::of(&bytes).map_or([0; 3], |tables| tables.counts);
+        Case { image: Hex(bytes), next: random.weighted(&nexts), counts: some_counts(random, held) }
+    }
+
+    /// A smaller image for which `differs` still holds.
+    pub fn shrunk(self, differs: impl Fn(&Case) -> bool) -> Case {
+        let bytes = shrink::image(&self.image.0, |bytes| differs(&self.with_image(bytes)));
+        self.with_image(&bytes)
+    }
+
+    /// The drawing of the altered sketch, if it is one that an image gives.
+    pub fn drawing(&self) -> Result<Drawing, Refusal> {
+        let mut drawing = image::read(&self.image.0)?;
+        let [points, curves, relations] = self.counts.map(|count| count as usize);
+        validity::check_counts(points, curves, relations)?;
+        drawing.next_id = self.next;
+        drawing.points.truncate(points);
+        drawing.curves.truncate(curves);
+        drawing.relations.truncate(relations);
+        validity::check(&drawing)?;
+        Ok(drawing)
+    }
+
     /// Another image: full counts stay full, others stay as they are or as low as they must be.
     fn with_image(&self, bytes: &[u8]) -> Case {
         let counts = |image: &[u8]| Tables::of(image).map(|tables| tables.counts);
@@ -49,17 +88,6 @@ fn some_counts(random: &mut Random, held: [usize; 3]) -> [u32; 3] {
     })
 }
 
-fn tested(case: &Case) -> Result<(), Refusal> {
-    let mut drawing = image::read(&case.image.0)?;
-    let [points, curves, relations] = case.counts.map(|count| count as usize);
-    validity::check_counts(points, curves, relations)?;
-    drawing.next_id = case.next;
-    drawing.points.truncate(points);
-    drawing.curves.truncate(curves);
-    drawing.relations.truncate(relations);
-    validity::check(&drawing)
-}
-
 impl Subject for Sketches {
     const NAME: &'static str = "sketches";
     type Case = Case;
@@ -68,19 +96,11 @@ impl Subject for Sketches {
 
     fn case(random: &mut Random) -> Case {
         let drawing = bridges::any_drawing(random);
-        let mut bytes = image::to_bytes(&drawing);
-        let last = drawing.points.last().map_or(0, |point| point.id);
-        let next = drawing.next_id;
-        let nexts = [(12, next), (1, next - 1), (1, 0), (1, 1), (1, last), (1, u32::MAX)];
-        if random.one_in(50) {
-            damage::damage(random, &mut bytes);
-        }
-        let held = Tables::of(&bytes).map_or([0; 3], |tables| tables.counts);
-        Case { image: Hex(bytes), next: random.weighted(&nexts), counts: some_counts(random, held) }
+        Case::of(&drawing, random)
     }
 
     fn oracle(case: &Case, coverage: &mut Coverage) -> u32 {
-        let number = number_of(&tested(case));
+        let number = number_of(&case.drawing().map(|_| ()));
         coverage.outcome(number);
         u32::from(number)
     }
@@ -90,7 +110,6 @@ impl Subject for Sketches {
     }
 
     fn shrink(case: Case, differs: impl Fn(&Case) -> bool) -> Case {
-        let bytes = shrink::image(&case.image.0, |bytes| differs(&case.with_image(bytes)));
-        case.with_image(&bytes)
+        case.shrunk(differs)
     }
 }

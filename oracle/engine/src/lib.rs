@@ -4,7 +4,10 @@
 //! The calls are `#[inline]` so that a program asks the library only for the functions that it
 //! uses.
 
+pub mod edits;
+pub mod exhibit;
 pub mod numbers;
+pub mod polynomials;
 pub mod shapes;
 
 mod interface {
@@ -21,6 +24,14 @@ mod interface {
             len: usize,
             out: *mut u8,
             out_len: usize,
+        ) -> u32;
+        pub fn mulkefi_relations_test(
+            image: *const u8,
+            len: usize,
+            next: u32,
+            points: u32,
+            curves: u32,
+            relations: u32,
         ) -> u32;
         pub fn mulkefi_sketch_test(
             image: *const u8,
@@ -62,6 +73,16 @@ pub fn message_copy(message: &[u8], out: &mut [u8]) -> u32 {
             out.len(),
         )
     }
+}
+
+/// As `sketch_test`, and looks for a relation that is not met: 0 where all are, its place plus 256
+/// where one is not.
+#[inline]
+pub fn relations_test(image: &[u8], next: u32, counts: [u32; 3]) -> u32 {
+    let [points, curves, relations] = counts;
+    let (bytes, len) = (image.as_ptr(), image.len());
+    // SAFETY: the slice is lent for the call, and the engine stays within its length.
+    unsafe { interface::mulkefi_relations_test(bytes, len, next, points, curves, relations) }
 }
 
 /// Reads an image, puts another next id and other counts into the sketch, and tests that.

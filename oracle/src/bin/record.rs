@@ -1,6 +1,7 @@
 //! Writes the recorded answers, one file a subject, into the folder given as argument.
 
 use oracle::recording::{self, List, SEED};
+use oracle::upstream;
 use std::path::Path;
 
 fn main() -> std::io::Result<()> {
@@ -12,7 +13,13 @@ fn main() -> std::io::Result<()> {
     std::fs::create_dir_all(folder)?;
     write(folder, "images.bin", &recording::images(SEED))?;
     write(folder, "messages.bin", &recording::messages(SEED))?;
-    write(folder, "square_roots.bin", &recording::square_roots(SEED))
+    write(folder, "square_roots.bin", &recording::square_roots(SEED))?;
+    if !upstream::PRESENT {
+        println!("roots.bin, edits.bin: the upstream source is absent, skipped");
+        return Ok(());
+    }
+    write(folder, "roots.bin", &recording::root_searches(SEED))?;
+    write(folder, "edits.bin", &recording::edits(SEED))
 }
 
 fn write<T>(folder: &Path, name: &str, list: &List<T>) -> std::io::Result<()> {

@@ -45,18 +45,32 @@ pub fn drawing(random: &mut Random, size: Size) -> Drawing {
     };
     let freeform = random.one_in(2);
     let mut scene = Scene::new(random, curves);
-    build(&mut scene, points, relations, freeform);
+    build(&mut scene, points, relations, if freeform { &ARCHES } else { &[] });
     scene.finish()
 }
 
-fn build(scene: &mut Scene, points: usize, relations: usize, freeform: bool) {
+/// A bridge whose relations are all met, of so many curves: without arches, or with Béziers of
+/// degree 3 to 7 and conics.
+pub fn sound(random: &mut Random, curves: usize, relations: usize, arches: bool) -> Drawing {
+    let mut scene = Scene::new(random, curves);
+    scene.met = true;
+    build(&mut scene, 0, relations, if arches { &HIGH_ARCHES } else { &[] });
+    scene.plain().0
+}
+
+type Member = fn(&mut Scene);
+
+const ARCHES: [(usize, Member); 2] = [(3, bezier), (2, conic)];
+const HIGH_ARCHES: [(usize, Member); 2] = [(3, high_bezier), (2, conic)];
+
+fn build(scene: &mut Scene, points: usize, relations: usize, arches: &[(usize, Member)]) {
     // Curves may use up to eight new points; the last ones stand on those already there.
     while scene.curves_left() > 0 {
         if scene.points_left() < 12 {
             let (a, b) = (scene.any_point(), scene.any_point());
             scene.line(a, b);
         } else {
-            add_member(scene, freeform);
+            add_member(scene, arches);
         }
     }
     if scene.random.one_in(4) && scene.points_left() > 0 {
@@ -81,8 +95,7 @@ fn build(scene: &mut Scene, points: usize, relations: usize, freeform: bool) {
 }
 
 /// Adds one curve, sometimes none.
-fn add_member(scene: &mut Scene, freeform: bool) {
-    type Member = fn(&mut Scene);
+fn add_member(scene: &mut Scene, arches: &[(usize, Member)]) {
     const ANALYTIC: [(usize, Member); 14] = [
         (8, deck),
         (9, pier),
@@ -99,9 +112,8 @@ fn add_member(scene: &mut Scene, freeform: bool) {
         (1, nick),
         (1, giant),
     ];
-    const FREEFORM: [(usize, Member); 2] = [(3, bezier), (2, conic)];
-    let member = if freeform && scene.random.one_in(4) {
-        scene.random.weighted(&FREEFORM)
+    let member = if !arches.is_empty() && scene.random.one_in(4) {
+        scene.random.weighted(arches)
     } else {
         scene.random.weighted(&ANALYTIC)
     };
@@ -223,7 +235,15 @@ fn anywhere(scene: &mut Scene) {
 
 /// An arch of degree 1 to 7; control points may repeat.
 fn bezier(scene: &mut Scene) {
-    let degree = scene.random.between(1, i64::from(MAX_DEGREE)) as u8;
+    bezier_from(scene, 1);
+}
+
+fn high_bezier(scene: &mut Scene) {
+    bezier_from(scene, 3);
+}
+
+fn bezier_from(scene: &mut Scene, least: i64) {
+    let degree = scene.random.between(least, i64::from(MAX_DEGREE)) as u8;
     let (x, y) = (scene.random.grid(), scene.random.between(-3, 3) as f64);
     let rise = scene.random.pick(&[0.0, 1.0, 3.0, -2.0]);
     let mut points = [0; SLOTS];

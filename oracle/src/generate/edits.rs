@@ -7,6 +7,11 @@ use crate::message::{Edit, Operation};
 /// An edit that mostly names a curve of the drawing and picks a place on it.
 pub fn edit(random: &mut Random, drawing: &Drawing) -> Edit {
     let operation = random.pick(&Operation::ALL);
+    edit_by(random, drawing, operation)
+}
+
+/// The same for a given operation.
+pub fn edit_by(random: &mut Random, drawing: &Drawing, operation: Operation) -> Edit {
     let (curve, (x, y)) = match some_curve(random, drawing, operation) {
         Some(curve) if !random.one_in(60) => {
             (curve.id, pick_on(random, drawing, &curve.kind, operation == Operation::Extend))

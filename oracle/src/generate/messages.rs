@@ -42,7 +42,8 @@ pub fn message_bytes(random: &mut Random) -> Vec<u8> {
     bytes
 }
 
-fn damage(random: &mut Random, bytes: &mut Vec<u8>) {
+/// One fault, at times a second one.
+pub fn damage(random: &mut Random, bytes: &mut Vec<u8>) {
     match random.below(9) {
         0 => bytes.truncate(random.below(SIZE)),
         1 => bytes.truncate(random.pick(&[0, 1, 3, 4, 5, 6, 29])),

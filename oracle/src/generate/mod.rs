@@ -1,19 +1,30 @@
 //! Seeded inputs: drawings, images good and damaged, messages, lists of edits, figures and patterns.
 
+pub mod arches;
 pub mod bridges;
+pub mod calls;
 pub mod coverage;
+pub mod crowd;
+pub mod cuts;
+pub mod cutters;
 pub mod damage;
 pub mod edits;
+pub mod extensions;
 pub mod fields;
 pub mod figures;
+pub mod frame;
 pub mod messages;
 pub mod near_misses;
+pub mod near_relations;
 pub mod numbers;
+pub mod obstacles;
 pub mod patterns;
 pub mod polynomials;
 pub mod random;
 pub mod relations;
+pub mod runs;
 pub mod scene;
+pub mod targets;
 
 use crate::image;
 use random::Random;

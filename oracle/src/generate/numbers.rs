@@ -42,6 +42,23 @@ impl Random {
         }
     }
 
+    /// Nothing, or a signed distance about one tolerance: most often a rounding from it.
+    pub fn near(&mut self, tolerance: f64) -> f64 {
+        let edge = self.nudged(tolerance);
+        let about = tolerance * self.pick(&[0.5, 0.9, 0.999, 1.0, 1.001, 1.1, 2.0]);
+        let size = self.weighted(&[(3, 0.0), (3, edge), (4, about)]);
+        if self.one_in(2) {
+            size
+        } else {
+            -size
+        }
+    }
+
+    /// The number itself or one up to three floats away.
+    pub fn nudged(&mut self, number: f64) -> f64 {
+        f64::from_bits(number.to_bits().saturating_add_signed(self.between(-3, 3)))
+    }
+
     /// A coordinate that an image may hold.
     pub fn coordinate(&mut self) -> f64 {
         match self.below(40) {

@@ -1,5 +1,6 @@
 //! A drawing under construction: tables with rising ids, filled piece by piece.
 
+use super::frame::Frame;
 use super::random::Random;
 use crate::drawing::*;
 
@@ -76,6 +77,12 @@ impl<'r> Scene<'r> {
         }
     }
 
+    /// A point by its coordinates in a frame.
+    pub fn put(&mut self, frame: &Frame, along: f64, across: f64) -> Id {
+        let (x, y) = frame.at(along, across);
+        self.point(x, y)
+    }
+
     pub fn any_point(&mut self) -> Id {
         let at = self.random.below(self.drawing.points.len());
         self.drawing.points[at].id
@@ -123,9 +130,19 @@ impl<'r> Scene<'r> {
         })
     }
 
+    /// The drawing as it stands, and the source of numbers back.
+    pub fn plain(mut self) -> (Drawing, &'r mut Random) {
+        self.set_next_id();
+        (self.drawing, self.random)
+    }
+
+    fn set_next_id(&mut self) {
+        self.drawing.next_id = self.last_point.max(self.last_curve) + 1;
+    }
+
     /// The finished drawing, at times on another scale or with ids up against their limit.
     pub fn finish(mut self) -> Drawing {
-        self.drawing.next_id = self.last_point.max(self.last_curve) + 1;
+        self.set_next_id();
         let large = (1 << 16) as f64;
         let scale = self.random.weighted(&[(40, 1.0), (2, large), (1, 1.0 / large), (1, 1e-7)]);
         if scale != 1.0 {
@@ -164,7 +181,7 @@ fn rescale(drawing: &mut Drawing, scale: f64) {
 }
 
 /// Adds `by` to every id of a drawing, references and the next id included.
-fn raise_ids(drawing: &mut Drawing, by: Id) {
+pub fn raise_ids(drawing: &mut Drawing, by: Id) {
     drawing.next_id += by;
     for point in &mut drawing.points {
         point.id += by;

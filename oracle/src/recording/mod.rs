@@ -3,16 +3,20 @@
 //! A list is a run of entries, each an outcome byte (a refusal's number, 0 for acceptance), the
 //! input's length in four big-endian bytes, and the input.
 
+mod edits;
 mod faults;
 mod images;
 mod messages;
+mod roots;
 mod square_roots;
 
 use crate::refusal::{number_of, Refusal};
 use std::collections::BTreeSet;
 
+pub use edits::edits;
 pub use images::images;
 pub use messages::messages;
+pub use roots::root_searches;
 pub use square_roots::square_roots;
 
 /// The seed of the recorded lists: the same seed gives the same bytes.

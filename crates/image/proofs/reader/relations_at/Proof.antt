@@ -1,15 +1,12 @@
-use borrow.Author.Tests.{not-true, not-false}
-use mathlib.Core.Path.{_≡_, refl, sym, ap, _∙_, subst}
+use mathlib.Core.Path.{_≡_, refl, sym, ap, _∙_}
+use mathlib.Core.List.{List, [], _∷_, map, map-append}
+use Prim.Native.Nat.{_-_, _≤_, _<_}
+use lib.ListN.{length, length-set}
+use Rattle.sketch.specs.declared.RelationSlot.{RelationSlot}
+use Rattle.image.specs.Records.{relationOf}
 use Rattle.image.specs.Image.{rowsAt}
 use Rattle.image.specs.Decode.{plainRelation}
-use Rattle.image.specs.Records.{relationOf}
-use Rattle.sketch.specs.declared.RelationSlot.{RelationSlot}
-use mathlib.Core.List.{_∷_, []}
-use lib.ListN.{length, take, drop, getD, length-set}
-use Prim.Native.Nat.{_≤_, _<_, _+_, _*_, _-_}
-use mathlib.Core.List.{List, map, map-append}
-use mathlib.Core.Bool.{true, false}
-use Rattle.image.proofs.Tables.{Decoding, decoding-starts, decoding-turns, decoding-stops, decoding-ends, length-rows, row-part}
+use Rattle.image.proofs.Tables.{length-rows, row-part, every-row, Filled, filling, filled}
 use borrow.Author.Needs.{needs}
 use native.Mathlib.Omega.{arith}
 use Rattle.image.proofs.reader.relations_at.Statement.{statement}
@@ -18,101 +15,72 @@ use Rattle.image.proofs.reader.relations_at.Reads as reads
 use Rattle.image.proofs.reader.relations_at.Lts as lts
 use Rattle.image.proofs.reader.no_relations.Reads as no-relations-reads
 use Rattle.image.proofs.records.relation_at.Reads as relation-at-reads
-use Rattle.image.proofs.records.relation_plain.Reads as relation-plain-reads
 
 abbrev Inv-loop : tie.InvT-loop
-Inv-loop s from n slots₀ i₀ slots i = (length slots ≡ 256) × (i ≤ n) × Decoding plainRelation relationOf (λ (l : List RelationSlot). map (λ t. t .relation) l) (λ t. t .relation) (λ l x. map-append (λ t. t .relation) l (x ∷ [])) (rowsAt 17 n s from) slots i
+Inv-loop s from n slots₀ i₀ slots i = (length slots ≡ 256) × (i ≤ n) × (length (rowsAt 17 n s from) ≡ n) × Filled relationOf (λ (l : List RelationSlot). map (λ t. t .relation) l) (λ t. t .relation) (λ l x. map-append (λ t. t .relation) l (x ∷ [])) (rowsAt 17 n s from) slots i
 
 abbrev μ-loop : tie.MeasureT-loop
 μ-loop s from n slots₀ i₀ slots i = n - i
 
--- src/reader.rt:153:21
+-- src/reader.rt:100:21
 no-relations-requires : tie.Need-no-relations-requires Inv-loop μ-loop
 no-relations-requires c κs = search needs
 
--- src/reader.rt:155:5
+-- src/reader.rt:102:5
 loop-holds : tie.Need-loop-holds Inv-loop μ-loop
-loop-holds c = (c .no-relations .ensures, omega arith, decoding-starts plainRelation relationOf (λ (l : List RelationSlot). map (λ t. t .relation) l) (λ t. t .relation) (λ l x. map-append (λ t. t .relation) l (x ∷ [])) refl _ _)
+loop-holds c = let a = c .before .before .args in (c .no-relations .ensures, omega arith, length-rows 17 (a .n) (a .s .now) (a .from), refl)
 
--- src/reader.rt:156:25
+-- src/reader.rt:103:25
 mul-at : tie.Need-mul-at Inv-loop μ-loop
 mul-at c = search needs
 
--- src/reader.rt:156:18
+-- src/reader.rt:103:18
 add-at : tie.Need-add-at Inv-loop μ-loop
 add-at c = search needs
 
--- src/reader.rt:157:19
+-- src/reader.rt:104:19
 add-end : tie.Need-add-end Inv-loop μ-loop
 add-end c = search needs
 
--- src/reader.rt:158:17
+-- src/reader.rt:105:17
 sub-r : tie.Need-sub-r Inv-loop μ-loop
 sub-r c = search needs
 
--- src/reader.rt:158:17
+-- src/reader.rt:105:17
 part-r-start : tie.Need-part-r-start Inv-loop μ-loop
 part-r-start c = search needs
 
--- src/reader.rt:158:17
+-- src/reader.rt:105:17
 part-r-end : tie.Need-part-r-end Inv-loop μ-loop
 part-r-end c = search needs
 
--- src/reader.rt:159:13
-relation-plain-requires : tie.Need-relation-plain-requires Inv-loop μ-loop
-relation-plain-requires c κs = search needs
-
--- src/reader.rt:160:13
-returns : tie.Need-returns Inv-loop μ-loop
-returns c =
-    let a = c .before .before .before .before .before .before .before .args in
-    let l = c .before .before .before .before .loop in
-    let rows = rowsAt 17 (a .n) (a .s .now) (a .from) in
-    let n : length rows ≡ a .n = length-rows 17 (a .n) (a .s .now) (a .from) in
-    let row = row-part 17 (a .n) (a .s .now) (a .from) (l .i) (omega arith) in
-    decoding-stops plainRelation relationOf (λ (l : List RelationSlot). map (λ t. t .relation) l) (λ t. t .relation) (λ l x. map-append (λ t. t .relation) l (x ∷ [])) rows (l .slots) (l .i) (omega arith) (sym (ap plainRelation row) ∙ sym (c .before .relation-plain .ensures) ∙ not-true _ (c .if1 .taken)) (l .inv .2)
-
--- src/reader.rt:162:13
+-- src/reader.rt:106:13
 relation-at-requires : tie.Need-relation-at-requires Inv-loop μ-loop
-relation-at-requires c κs = sym (c .before .relation-plain .ensures) ∙ not-false _ (c .if1 .left)
+relation-at-requires c κs = let l = c .before .before .loop in let a = c .before .before .before .before .before .args in let rows = rowsAt 17 (a .n) (a .s .now) (a .from) in ap plainRelation (row-part 17 (a .n) (a .s .now) (a .from) (l .i) (omega arith)) ∙ every-row plainRelation rows (l .i) (c .before .before .before .before .before .pre .2) (omega arith)
 
--- src/reader.rt:163:9
+-- src/reader.rt:107:9
 mul-slots : tie.Need-mul-slots Inv-loop μ-loop
 mul-slots c = search needs
 
--- src/reader.rt:163:9
+-- src/reader.rt:107:9
 array-set-from-slots : tie.Need-array-set-from-slots Inv-loop μ-loop
 array-set-from-slots c = search needs
 
--- src/reader.rt:164:9
+-- src/reader.rt:108:9
 add-i : tie.Need-add-i Inv-loop μ-loop
 add-i c = search needs
 
--- src/reader.rt:155:5
+-- src/reader.rt:102:5
 loop-less : tie.Need-loop-less Inv-loop μ-loop
 loop-less c = search needs
 
--- src/reader.rt:155:5
+-- src/reader.rt:102:5
 loop-again : tie.Need-loop-again Inv-loop μ-loop
-loop-again c =
-    let a = c .before .before .before .before .before .before .before .before .args in
-    let l = c .before .before .before .before .before .loop in
-    let rows = rowsAt 17 (a .n) (a .s .now) (a .from) in
-    let n : length rows ≡ a .n = length-rows 17 (a .n) (a .s .now) (a .from) in
-    let row = row-part 17 (a .n) (a .s .now) (a .from) (l .i) (omega arith) in
-    let h : l .i < length (l .slots) = omega arith in (
-      simp length-set (l .inv .0),
-      omega arith,
-      decoding-turns plainRelation relationOf (λ (l : List RelationSlot). map (λ t. t .relation) l) (λ t. t .relation) (λ l x. map-append (λ t. t .relation) l (x ∷ [])) rows (l .slots) (l .i) _ (omega arith) h (sym (ap plainRelation row) ∙ sym (c .before .before .relation-plain .ensures) ∙ not-false _ (c .before .if1 .left)) (c .relation-at .ensures ∙ ap relationOf row) (l .inv .2),
-    )
+loop-again c = let l = c .before .before .before .loop in let a = c .before .before .before .before .before .before .args in let rows = rowsAt 17 (a .n) (a .s .now) (a .from) in let h : l .i < length (l .slots) = omega arith in (simp length-set (l .inv .0), omega arith, l .inv .2, filling relationOf (λ (l : List RelationSlot). map (λ t. t .relation) l) (λ t. t .relation) (λ l x. map-append (λ t. t .relation) l (x ∷ [])) rows (l .slots) (l .i) _ (omega arith) h (c .relation-at .ensures ∙ ap relationOf (row-part 17 (a .n) (a .s .now) (a .from) (l .i) (omega arith))) (l .inv .3))
 
--- src/reader.rt:149:1
-returns-2 : tie.Need-returns-2 Inv-loop μ-loop
-returns-2 c =
-    let a = c .before .before .before .before .args in
-    let l = c .before .loop in
-    let n : length (rowsAt 17 (a .n) (a .s .now) (a .from)) ≡ a .n = length-rows 17 (a .n) (a .s .now) (a .from) in
-    decoding-ends plainRelation relationOf (λ (l : List RelationSlot). map (λ t. t .relation) l) (λ t. t .relation) (λ l x. map-append (λ t. t .relation) l (x ∷ [])) (rowsAt 17 (a .n) (a .s .now) (a .from)) (l .slots) (a .n) (sym n) (subst (λ k. Decoding plainRelation relationOf (λ (l : List RelationSlot). map (λ t. t .relation) l) (λ t. t .relation) (λ l x. map-append (λ t. t .relation) l (x ∷ [])) (rowsAt 17 (a .n) (a .s .now) (a .from)) (l .slots) k) (omega arith) (l .inv .2))
+-- src/reader.rt:96:1
+returns : tie.Need-returns Inv-loop μ-loop
+returns c = let l = c .before .loop in let a = c .before .before .before .before .args in let rows = rowsAt 17 (a .n) (a .s .now) (a .from) in filled relationOf (λ (l : List RelationSlot). map (λ t. t .relation) l) (λ t. t .relation) (λ l x. map-append (λ t. t .relation) l (x ∷ [])) rows (l .slots) (a .n) (l .i) (omega arith) (omega arith) (l .inv .3)
 
 pub relations-at-spec : {M : Type 1} → statement M
 relations-at-spec =
@@ -128,12 +96,10 @@ relations-at-spec =
     sub-r
     part-r-start
     part-r-end
-    relation-plain-requires
-    returns
     relation-at-requires
     mul-slots
     array-set-from-slots
     add-i
     loop-less
     loop-again
-    returns-2)
+    returns)

@@ -1,6 +1,10 @@
-use Rattle.image.proofs.Spelled.{partial}
-use Rattle.image.proofs.Headers.{head-kept}
-use mathlib.Core.Path.{_≡_, refl, sym, ap, _∙_, subst}
+use mathlib.Core.Path.{_≡_, refl, sym, ap, _∙_}
+use Prim.Native.Nat.{ℕ}
+use Rattle.sketch.specs.Lists.{every}
+use Rattle.image.specs.Image.{rowsAt}
+use Rattle.image.specs.Decode.{plainPoint}
+use Rattle.image.proofs.Trips.{image-kept}
+use Rattle.image.proofs.Spelled.{plain-points, plain-curves, plain-relations, spelled}
 use native.Mathlib.Omega.{arith}
 use borrow.Author.Needs.{needs}
 use Rattle.image.proofs.reader.spell.Statement.{statement}
@@ -9,95 +13,77 @@ use Rattle.image.proofs.reader.spell.Reads as reads
 use Rattle.image.proofs.reader.spell.Lts as lts
 use Rattle.big_endian.proofs.get2.Reads as get2-reads
 use Rattle.big_endian.proofs.get4.Reads as get4-reads
-use Rattle.image.proofs.reader.counted.Reads as counted-reads
 use Rattle.image.proofs.reader.curves_at.Reads as curves-at-reads
 use Rattle.image.proofs.reader.points_at.Reads as points-at-reads
 use Rattle.image.proofs.reader.relations_at.Reads as relations-at-reads
 
--- src/reader.rt:190:9
+-- src/reader.rt:118:9
 get4-requires : tie.Need-get4-requires
 get4-requires c κs = search needs
 
--- src/reader.rt:191:14
+-- src/reader.rt:119:19
 get2-requires : tie.Need-get2-requires
 get2-requires c κs = search needs
 
--- src/reader.rt:191:14
-cast-np : tie.Need-cast-np
-cast-np c = search needs
+-- src/reader.rt:119:19
+cast-npoints : tie.Need-cast-npoints
+cast-npoints c = search needs
 
--- src/reader.rt:192:14
+-- src/reader.rt:120:19
 get2-requires-2 : tie.Need-get2-requires-2
 get2-requires-2 c κs = search needs
 
--- src/reader.rt:192:14
-cast-nc : tie.Need-cast-nc
-cast-nc c = search needs
+-- src/reader.rt:120:19
+cast-ncurves : tie.Need-cast-ncurves
+cast-ncurves c = search needs
 
--- src/reader.rt:193:14
+-- src/reader.rt:121:22
 get2-requires-3 : tie.Need-get2-requires-3
 get2-requires-3 c κs = search needs
 
--- src/reader.rt:193:14
-cast-nr : tie.Need-cast-nr
-cast-nr c = search needs
+-- src/reader.rt:121:22
+cast-nrelations : tie.Need-cast-nrelations
+cast-nrelations c = search needs
 
--- src/reader.rt:194:9
+-- src/reader.rt:122:9
 points-at-requires : tie.Need-points-at-requires
-points-at-requires c κs = let h = head-kept (c .before .before .before .before .before .args .s .now) 0 (c .before .before .before .before .before .pre) .0 in (omega (arith, h .few-points, c .before .before .get2 .ensures), omega (arith, h .size, c .before .before .get2 .ensures))
+points-at-requires c κs = let s = c .before .before .before .before .before .args .s .now in let e = c .before .before .before .before .before .pre in let h = image-kept s e .head in (omega (arith, h .few-points, c .before .before .get2 .ensures), omega (arith, h .size, c .before .before .get2 .ensures), ap (λ (n : ℕ). every plainPoint (rowsAt 21 n s 15)) (c .before .before .get2 .ensures) ∙ plain-points s e)
 
--- src/reader.rt:196:31
+-- src/reader.rt:123:36
 mul-curves-at : tie.Need-mul-curves-at
 mul-curves-at c = search needs
 
--- src/reader.rt:196:26
+-- src/reader.rt:123:31
 add-curves-at : tie.Need-add-curves-at
 add-curves-at c = search needs
 
--- src/reader.rt:196:40
-counted-requires : tie.Need-counted-requires
-counted-requires c κs = search needs
-
--- src/reader.rt:196:9
+-- src/reader.rt:123:9
 curves-at-requires : tie.Need-curves-at-requires
-curves-at-requires c κs = let h = head-kept (c .before .before .before .before .before .before .before .args .s .now) 0 (c .before .before .before .before .before .before .before .pre) .0 in (omega (arith, h .few-curves, c .before .before .before .get22 .ensures), omega (arith, h .size, c .before .before .before .before .get2 .ensures, c .before .before .before .get22 .ensures))
+curves-at-requires c κs = let s = c .before .before .before .before .before .before .args .s .now in let e = c .before .before .before .before .before .before .pre in let h = image-kept s e .head in (omega (arith, h .few-curves, c .before .before .get22 .ensures), omega (arith, h .size, c .before .before .before .get2 .ensures, c .before .before .get22 .ensures), rw (c .before .before .before .get2 .ensures, c .before .before .get22 .ensures) (plain-curves s e))
 
--- src/reader.rt:199:34
+-- src/reader.rt:124:42
 mul-relations-at : tie.Need-mul-relations-at
 mul-relations-at c = search needs
 
--- src/reader.rt:199:29
+-- src/reader.rt:124:37
 add-relations-at : tie.Need-add-relations-at
 add-relations-at c = search needs
 
--- src/reader.rt:199:44
+-- src/reader.rt:124:57
 mul-relations-at-2 : tie.Need-mul-relations-at-2
 mul-relations-at-2 c = search needs
 
--- src/reader.rt:199:29
+-- src/reader.rt:124:37
 add-relations-at-2 : tie.Need-add-relations-at-2
 add-relations-at-2 c = search needs
 
--- src/reader.rt:199:53
-counted-requires-2 : tie.Need-counted-requires-2
-counted-requires-2 c κs = search needs
-
--- src/reader.rt:199:9
+-- src/reader.rt:124:9
 relations-at-requires : tie.Need-relations-at-requires
-relations-at-requires c κs = let h = head-kept (c .before .before .before .before .before .before .before .before .before .args .s .now) 0 (c .before .before .before .before .before .before .before .before .before .pre) .0 in (omega (arith, h .few-relations, c .before .before .before .before .get23 .ensures), omega (arith, h .size, c .before .before .before .before .before .before .get2 .ensures, c .before .before .before .before .before .get22 .ensures, c .before .before .before .before .get23 .ensures))
+relations-at-requires c κs = let s = c .before .before .before .before .before .before .before .args .s .now in let e = c .before .before .before .before .before .before .before .pre in let h = image-kept s e .head in (omega (arith, h .few-relations, c .before .before .get23 .ensures), omega (arith, h .size, c .before .before .before .before .get2 .ensures, c .before .before .before .get22 .ensures, c .before .before .get23 .ensures), rw (c .before .before .before .before .get2 .ensures, c .before .before .before .get22 .ensures, c .before .before .get23 .ensures) (plain-relations s e))
 
--- src/reader.rt:186:1
+-- src/reader.rt:114:1
 returns : tie.Need-returns
-returns c =
-    let s = c .before .before .before .before .before .before .before .before .before .before .before .before .before .args .s .now in
-    let e = c .before .before .before .before .before .before .before .before .before .before .get2 .ensures in
-    let f = c .before .before .before .before .before .before .before .before .before .get22 .ensures in
-    let g = c .before .before .before .before .before .before .before .before .get23 .ensures in
-    let p = rw e at (c .before .before .before .before .before .before .before .points-at .ensures) in
-    let q = rw (c .before .before .before .before .before .before .counted .ensures .0, e, f) at (c .before .before .before .before .before .curves-at .ensures) in
-    let r = rw (c .before .before .before .before .counted2 .ensures .0, e, f, g) at (c .before .before .before .relations-at .ensures) in
-    rw (e, f, g)
-    (partial s _ _ _ _ _ _ p q r (λ k. c .before .before .before .before .before .before .before .before .before .before .before .before .shared-slice-known .given k .fits) (head-kept s 0 (c .before .before .before .before .before .before .before .before .before .before .before .before .before .pre) .0) _ (rw (c .before .before .before .before .before .before .before .before .before .before .before .get4 .ensures)) refl refl refl)
+returns c = spelled _ (c .before .before .before .before .before .before .before .before .pre) (λ k. c .before .before .before .before .before .before .before .shared-slice-known .given k .fits) (record { next = c .before .before .before .before .before .before .get4 .result; npoints = c .before .before .before .before .before .get2 .result; ncurves = c .before .before .before .before .get22 .result; nrelations = c .before .before .before .get23 .result; points = c .before .before .points-at .result; curves = c .before .curves-at .result; relations = c .relations-at .result }) (c .before .before .before .before .before .before .get4 .ensures) (c .before .before .before .before .before .get2 .ensures) (c .before .before .before .before .get22 .ensures) (c .before .before .before .get23 .ensures) (c .before .before .points-at .ensures) (c .before .curves-at .ensures) (c .relations-at .ensures)
 
 pub spell-spec : {M : Type 1} → statement M
 spell-spec =
@@ -105,20 +91,18 @@ spell-spec =
     (tie.spec
     get4-requires
     get2-requires
-    cast-np
+    cast-npoints
     get2-requires-2
-    cast-nc
+    cast-ncurves
     get2-requires-3
-    cast-nr
+    cast-nrelations
     points-at-requires
     mul-curves-at
     add-curves-at
-    counted-requires
     curves-at-requires
     mul-relations-at
     add-relations-at
     mul-relations-at-2
     add-relations-at-2
-    counted-requires-2
     relations-at-requires
     returns)

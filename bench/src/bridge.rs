@@ -1,0 +1,99 @@
+//! Accepted edits of bridges, several picks each, ready for both sides.
+
+use cad_geom::Vec2;
+use cad_sketch::Sketch;
+use oracle::call::Call;
+use oracle::convert::{curve_place, to_sketch};
+use oracle::drawing::Drawing;
+use oracle::edit::{apply, edit_sketch};
+use oracle::generate::{bridges, edits, random::Random};
+use oracle::message::{Edit, Operation};
+use oracle::{upstream, validity};
+
+const BRIDGES: usize = 8;
+const PICKS: usize = 4;
+/// Relations on each bridge.
+const RELATIONS: usize = 20;
+/// A bridge on which so many picks are refused in a row is given up.
+const PATIENCE: usize = 4000;
+
+/// Curves of the bridges.
+pub const SIZES: [usize; 3] = [10, 60, 124];
+
+/// What is done, and whether arches stand in the bridge.
+#[derive(Clone, Copy)]
+pub struct Work {
+    pub name: &'static str,
+    pub operation: Operation,
+    pub arches: bool,
+}
+
+pub const WORKS: [Work; 4] = [
+    Work { name: "trim", operation: Operation::Trim, arches: false },
+    Work { name: "split", operation: Operation::Split, arches: false },
+    Work { name: "extend", operation: Operation::Extend, arches: false },
+    Work { name: "extend with arches", operation: Operation::Extend, arches: true },
+];
+
+pub struct Sample {
+    pub call: Call,
+    /// What one edit adds to the sum of the engine's repeated call.
+    pub checksum: u32,
+    drawing: Drawing,
+    sketch: Sketch,
+    place: usize,
+    edit: Edit,
+}
+
+impl Sample {
+    fn new(drawing: &Drawing, edit: Edit) -> Option<Sample> {
+        let (after, report) = apply(drawing, &edit).ok()?;
+        Some(Sample {
+            call: Call::new(drawing, &edit),
+            checksum: after.next_id.wrapping_add(report.removed),
+            sketch: to_sketch(drawing),
+            place: curve_place(drawing, edit.curve)?,
+            drawing: drawing.clone(),
+            edit,
+        })
+    }
+
+    /// The Rust with the engine's tests: the drawing's, then the edit's, then the edit on a copy.
+    pub fn tested(&self) -> Sketch {
+        validity::check(&self.drawing).expect("a good drawing");
+        let mut sketch = self.sketch.clone();
+        edit_sketch(&self.drawing, &mut sketch, &self.edit).expect("an accepted edit");
+        sketch
+    }
+
+    /// The Rust's edit alone, on a copy.
+    pub fn bare(&self) -> Sketch {
+        let mut sketch = self.sketch.clone();
+        let pick = Vec2::new(self.edit.x, self.edit.y);
+        let edit = match self.edit.operation {
+            Operation::Trim => upstream::trim,
+            Operation::Split => upstream::split,
+            Operation::Extend => upstream::extend,
+        };
+        edit(&mut sketch, self.place, pick).expect("an accepted edit");
+        sketch
+    }
+}
+
+/// Accepted edits of several bridges of one size.
+pub fn samples(curves: usize, work: Work) -> Vec<Sample> {
+    let mut random = Random::new(1);
+    let mut samples = Vec::new();
+    let mut bridges = 0;
+    while bridges < BRIDGES {
+        let drawing = bridges::sound(&mut random, curves, RELATIONS, work.arches);
+        let tries = (0..PATIENCE).filter_map(|_| {
+            let edit = edits::edit_by(&mut random, &drawing, work.operation);
+            Sample::new(&drawing, edit)
+        });
+        let picked: Vec<Sample> = tries.take(PICKS).collect();
+        bridges += usize::from(!picked.is_empty());
+        samples.extend(picked);
+    }
+    samples
+}

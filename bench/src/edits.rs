@@ -1,0 +1,79 @@
+//! One edit of a bridge: the engine beside the Rust with the same tests and beside its bare edit.
+
+use crate::bridge::{samples, Sample, SIZES, WORKS};
+use crate::timing::medians_in_turn;
+use oracle::upstream;
+use std::hint::black_box;
+
+/// Edits in one timed call, so that the engine's one reading of the image does not show.
+const REPEATS: u32 = 128;
+
+pub fn run() {
+    if !upstream::PRESENT {
+        return println!("edits: the upstream source is absent, skipped");
+    }
+    println!(
+        "{:<32} {:>9} {:>9} {:>7} {:>9} {:>7}",
+        "edits", "engine", "tested", "ratio", "bare", "ratio"
+    );
+    for work in WORKS {
+        for curves in SIZES {
+            let samples = samples(curves, work);
+            let name = format!("  {}, {curves} curves", work.name);
+            print_line(&name, times(&samples));
+        }
+    }
+}
+
+fn print_line(name: &str, [engine, tested, bare]: [f64; 3]) {
+    let (to_tested, to_bare) = (engine / tested, engine / bare);
+    if cfg!(feature = "edits") {
+        println!(
+            "{name:<32} {engine:>9.0} {tested:>9.0} {to_tested:>7.2} {bare:>9.0} {to_bare:>7.2}"
+        );
+    } else {
+        println!("{name:<32} {:>9} {tested:>9.0} {:>7} {bare:>9.0} {:>7}", "-", "-", "-");
+    }
+}
+
+/// Nanoseconds an edit by side, on average over the samples.
+fn times(samples: &[Sample]) -> [f64; 3] {
+    let edits = samples.len() as f64 * f64::from(REPEATS);
+    let mut sums = [0.0; 3];
+    for sample in samples {
+        for (sum, time) in sums.iter_mut().zip(times_of(sample)) {
+            *sum += time / edits;
+        }
+    }
+    sums
+}
+
+fn times_of(sample: &Sample) -> [f64; 3] {
+    medians_in_turn([
+        &mut || engine(sample),
+        &mut || {
+            for _ in 0..REPEATS {
+                black_box(black_box(sample).tested());
+            }
+        },
+        &mut || {
+            for _ in 0..REPEATS {
+                black_box(black_box(sample).bare());
+            }
+        },
+    ])
+}
+
+#[cfg(feature = "edits")]
+fn engine(sample: &Sample) {
+    let call = black_box(&sample.call);
+    let oracle::call::Call { operation, image, curve, x, y } = call;
+    let sum = engine::edits::repeated(*operation, image, *curve, *x, *y, REPEATS);
+    assert_eq!(sum, sample.checksum.wrapping_mul(REPEATS), "the engine does the same edit");
+}
+
+/// The engine's library has no edits yet; its column stays empty.
+#[cfg(not(feature = "edits"))]
+fn engine(sample: &Sample) {
+    black_box((sample.checksum, &sample.call));
+}

@@ -1,0 +1,77 @@
+-- Lists by place: what stands at a place, what is taken up to it and what comes after. And what comes in order. Assumes nothing.
+use mathlib.Core.Path.{_≡_, refl, sym, ap, _∙_, subst}
+use mathlib.Core.List.{List, [], _∷_, _++_}
+use mathlib.Core.Option.{some}
+use Prim.Native.Nat.{ℕ, zero, suc, _≤_, _<_}
+use native.Mathlib.Omega.{arith}
+use lib.ListN.{length, take, drop, getElem?}
+use Rattle.agreement.specs.Agreement.{InOrder, none-left, passed, came}
+
+module _ {A : Type 0} where
+  pub some-inj : {a b : A} → some a ≡ some b → a ≡ b
+  some-inj e = cc
+
+  pub lookup-below : (l : List A) (k : ℕ) (a : A) → getElem? l k ≡ some a → k < length l
+  lookup-below [] k a e = let z : _≡_ {A = ℕ} 0 1 = cc in omega arith
+  lookup-below (x ∷ xs) zero a e = omega arith
+  lookup-below (x ∷ xs) (suc k) a e = let h = lookup-below xs k a e in omega arith
+
+  pub take-more : (l : List A) (k : ℕ) (a : A) → getElem? l k ≡ some a → (r : List A) → take k l ++ (a ∷ r) ≡ take (suc k) l ++ r
+  take-more [] k a e r = let z : _≡_ {A = ℕ} 0 1 = cc in absurd (omega arith)
+  take-more (x ∷ xs) zero a e r = ap (λ (y : A). y ∷ r) (some-inj (sym e))
+  take-more (x ∷ xs) (suc k) a e r = ap (λ (y : List A). x ∷ y) (take-more xs k a e r)
+
+  drop-more : (l : List A) (k : ℕ) (a : A) → getElem? l k ≡ some a → drop k l ≡ a ∷ drop (suc k) l
+  drop-more [] k a e = let z : _≡_ {A = ℕ} 0 1 = cc in absurd (omega arith)
+  drop-more (x ∷ xs) zero a e = ap (λ (y : A). y ∷ xs) (some-inj e)
+  drop-more (x ∷ xs) (suc k) a e = drop-more xs k a e
+
+  pub drop-end : (l : List A) (k : ℕ) → drop k l ≡ [] → length l ≤ k
+  drop-end [] k e = omega arith
+  drop-end (x ∷ xs) zero e = let z : _≡_ {A = ℕ} 0 1 = cc in absurd (omega arith)
+  drop-end (x ∷ xs) (suc k) e = let h = drop-end xs k e in omega arith
+
+  drop-head : (l : List A) (k : ℕ) (a : A) (r : List A) → drop k l ≡ a ∷ r → getElem? l k ≡ some a
+  drop-head [] zero a r e = let z : _≡_ {A = ℕ} 0 1 = cc in absurd (omega arith)
+  drop-head [] (suc k) a r e = let z : _≡_ {A = ℕ} 0 1 = cc in absurd (omega arith)
+  drop-head (x ∷ xs) zero a r e = cc
+  drop-head (x ∷ xs) (suc k) a r e = drop-head xs k a r e
+
+  order-tail : (xs ys : List A) (a : A) → InOrder (a ∷ xs) ys → InOrder xs ys
+  order-tail xs ys a h = go (a ∷ xs) ys h refl
+    where
+      go : (zs ys : List A) → InOrder zs ys → zs ≡ a ∷ xs → InOrder xs ys
+      go zs ys none-left e = let z : _≡_ {A = ℕ} 0 1 = cc in absurd (omega arith)
+      go zs ys (passed {y = y} h) e = passed (go zs _ h e)
+      go zs ys (came {xs = t} {ys = us} q h) e = let p : t ≡ xs = cc in passed (subst (λ (v : List A). InOrder v us) p h)
+
+  pub order-nil : (zs ys : List A) → InOrder zs ys → ys ≡ [] → zs ≡ []
+  order-nil zs ys none-left e = refl
+  order-nil zs ys (passed h) e = let z : _≡_ {A = ℕ} 0 1 = cc in absurd (omega arith)
+  order-nil zs ys (came q h) e = let z : _≡_ {A = ℕ} 0 1 = cc in absurd (omega arith)
+
+  -- past a first element that is not looked for
+  pub order-stay : (l : List A) (k : ℕ) (y : A) (ys : List A) → InOrder (drop k l) (y ∷ ys) → (getElem? l k ≡ some y → ⊥) → InOrder (drop k l) ys
+  order-stay l k y ys h ne = go (drop k l) (y ∷ ys) h refl refl
+    where
+      go : (zs us : List A) → InOrder zs us → zs ≡ drop k l → us ≡ y ∷ ys → InOrder (drop k l) ys
+      go zs us none-left e f = subst (λ (v : List A). InOrder v ys) e none-left
+      go zs us (passed {xs = t} {ys = vs} h) e f = let p : vs ≡ ys = cc in subst (λ (v : List A). InOrder v ys) e (subst (λ (v : List A). InOrder t v) p h)
+      go zs us (came {xs = t} {ys = vs} {x = a} {y = b} q h) e f =
+          let p : a ≡ y = cc in
+          let r : drop k l ≡ y ∷ t = sym e ∙ ap (λ (c : A). c ∷ t) p in
+          absurd (ne (drop-head l k y t r))
+
+  -- past a first element that is the one looked for
+  pub order-next : (l : List A) (k : ℕ) (y : A) (ys : List A) → InOrder (drop k l) (y ∷ ys) → getElem? l k ≡ some y → InOrder (drop (suc k) l) ys
+  order-next l k y ys h at = go (drop k l) (y ∷ ys) h (drop-more l k y at) refl
+    where
+      go : (zs us : List A) → InOrder zs us → zs ≡ y ∷ drop (suc k) l → us ≡ y ∷ ys → InOrder (drop (suc k) l) ys
+      go zs us none-left e f = let z : _≡_ {A = ℕ} 0 1 = cc in absurd (omega arith)
+      go zs us (passed {xs = t} {ys = vs} h) e f =
+          let p : vs ≡ ys = cc in
+          order-tail (drop (suc k) l) ys y (subst (λ (v : List A). InOrder v ys) e (subst (λ (v : List A). InOrder t v) p h))
+      go zs us (came {xs = t} {ys = vs} q h) e f =
+          let p : vs ≡ ys = cc in
+          let r : t ≡ drop (suc k) l = cc in
+          subst (λ (v : List A). InOrder v ys) r (subst (λ (v : List A). InOrder t v) p h)

@@ -1,0 +1,43 @@
+-- Runs and their parts, and the desk's run beside the book. Assumes nothing.
+use mathlib.Core.Path.{_≡_, refl, ap, _∙_}
+use mathlib.Core.List.{List, [], _∷_, _++_, map}
+use Prim.Native.Nat.{ℕ}
+use Rattle.carry.specs.Outcome.{Outcome, refused, accepted}
+use Rattle.agreement.specs.Machines.{Side, Rules, left, Entry, callOn, bookAfter, enter, ledger, DeskStep, calls, deskAfter, messageOf, messages, deskTold, DeskRun, WallStep, wallAfter, Delivered, WallRun}
+
+module _ {D E R : Type 0} (p : Rules D E R) where
+  -- the message of an entry
+  abbrev pub written : Entry D E R → List ℕ
+  written x = p .encode (x .after .count) (x .edit)
+
+  messages-step :
+      (x : DeskStep D E R) (o : Outcome (Side D) R) (ms : List (List ℕ)) (l : List (Entry D E R)) → x .told ≡ deskTold p (x .call .edit) o → ms ≡ map written l
+      → messageOf (x .told) ms ≡ map written (enter (x .call .edit) o l)
+  messages-step x (refused k) ms l e h = rw e h
+  messages-step x (accepted t r) ms l e h = rw (e, h)
+
+  pub desk-messages : (s : Side D) (xs : List (DeskStep D E R)) → DeskRun p s xs → messages xs ≡ map written (ledger p s (calls xs))
+  desk-messages s [] h = refl
+  desk-messages s (x ∷ xs) h =
+      messages-step x (callOn p s (x .call)) (messages xs) (ledger p (left s (callOn p s (x .call))) (calls xs)) (h .0 .told)
+      (rw (← h .0 .side) (desk-messages (x .side) xs (h .1)))
+
+  pub desk-side : (s : Side D) (xs : List (DeskStep D E R)) → DeskRun p s xs → deskAfter s xs ≡ bookAfter p s (calls xs)
+  desk-side s [] h = refl
+  desk-side s (x ∷ xs) h = desk-side (x .side) xs (h .1) ∙ ap (λ (t : Side D). bookAfter p t (calls xs)) (h .0 .side)
+
+  pub desk-front : (s : Side D) (xs ys : List (DeskStep D E R)) → DeskRun p s (xs ++ ys) → DeskRun p s xs
+  desk-front s [] ys h = tt
+  desk-front s (x ∷ xs) ys h = (h .0, desk-front (x .side) xs ys (h .1))
+
+  pub desk-rest : (s : Side D) (xs ys : List (DeskStep D E R)) → DeskRun p s (xs ++ ys) → DeskRun p (deskAfter s xs) ys
+  desk-rest s [] ys h = h
+  desk-rest s (x ∷ xs) ys h = desk-rest (x .side) xs ys (h .1)
+
+  pub wall-parts : (s : Side D) (xs ys : List (WallStep D R)) → WallRun p s (xs ++ ys) → WallRun p s xs × WallRun p (wallAfter s xs) ys
+  wall-parts s [] ys h = (tt, h)
+  wall-parts s (x ∷ xs) ys h = let i = wall-parts (x .side) xs ys (h .1) in ((h .0, i .0), i .1)
+
+pub delivered-parts : {D R : Type 0} (ms : List (List ℕ)) (xs ys : List (WallStep D R)) → Delivered ms (xs ++ ys) → Delivered ms xs × Delivered ms ys
+delivered-parts ms [] ys h = (tt, h)
+delivered-parts ms (x ∷ xs) ys h = let i = delivered-parts ms xs ys (h .1) in ((h .0, i .0), i .1)

@@ -1,0 +1,6 @@
+-- What the contracts of `bernstein` cite.
+pub mod Evaluate
+pub mod Bisect
+pub mod Roots
+pub mod Level
+pub mod Sorted

@@ -1,0 +1,19 @@
+-- A plan carried out has the shape that chains need (`Shapes`) and leaves a valid drawing (`Keeps`); so the whole claim holds of edits that do so (`Edits`).
+pub mod Laid
+pub mod Close
+pub mod Same
+pub mod Rows
+pub mod Shapes
+pub mod Grown
+pub mod Steps
+pub mod Released
+pub mod Gone
+pub mod Kept
+pub mod Pins
+pub mod Ties
+pub mod Sorts
+pub mod Splits
+pub mod Keeps
+pub mod Refusals
+pub mod Edits
+pub mod Rehearsal

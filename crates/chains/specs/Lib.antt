@@ -1,0 +1,2 @@
+-- What the theorems on carrying out cite.
+pub mod Drawn

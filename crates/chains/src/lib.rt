@@ -1,0 +1,1 @@
+// Carrying out a plan keeps a drawing valid and its chains whole: definitions and proofs, no code.

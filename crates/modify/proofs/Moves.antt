@@ -1,0 +1,127 @@
+-- Whatever an extend chooses moves a line's end, and is held by another curve. Assumes nothing.
+use mathlib.Core.Path.{_≡_, refl, sym, ap, _∙_, subst}
+use mathlib.Core.Bool.{Bool, true, false, not, _&&_, _||_, cond}
+use mathlib.Core.List.{List, [], _∷_}
+use mathlib.Core.Option.{Option, some, none}
+use Prim.Native.Nat.{ℕ}
+use native.Mathlib.Omega.{arith}
+use lib.Dec.{eqb}
+use lib.Ieee.{Float, lt, le}
+use Rattle.float.specs.Numbers.{_⊖_, 1e-7, 1e-6}
+use Rattle.float.specs.Sign.{abs}
+use Rattle.geom.specs.Plane.{distance}
+use Rattle.geom.specs.declared.Vec2.{Vec2}
+use Rattle.shape.specs.declared.Shape.the-variants as S
+use Rattle.shape.specs.Measures.{param, point}
+use Rattle.sketch.specs.declared.Point.{Point}
+use Rattle.sketch.specs.declared.Curve.{Curve}
+use Rattle.sketch.specs.declared.CurveKind.{CurveKind}
+use Rattle.sketch.specs.declared.CurveKind.the-variants.{Line, Arc, Circle, Bezier, Conic}
+use Rattle.sketch.specs.Lookup.{among}
+use Rattle.sketch.specs.Drawing.{Drawing, curveIn}
+use Rattle.sketch.specs.Facts.{Every}
+use Rattle.placed.specs.Placed.{at}
+use Rattle.relations.specs.Met.{allMet}
+use Rattle.support.specs.Hits as H
+use Rattle.carry.specs.declared.Pin.{Pin}
+use Rattle.carry.specs.declared.Plan.{Plan}
+use Rattle.carry.specs.declared.Plan.the-variants as P
+use Rattle.carry.specs.Tables.{uses, others}
+use Rattle.carry.specs.Steps.{isLine, endsAt}
+use Rattle.carry.specs.Suited.{Held}
+use Rattle.modify.specs.declared.Choice.{Choice}
+use Rattle.modify.specs.declared.Choice.the-variants.{Refused, Chosen}
+use Rattle.modify.specs.Choose.{unless, pinTo}
+use Rattle.modify.specs.Extend.{Support, gapOf, meets, Best, better, bestOf, Search, stopped, sought, after, seek, moveTo, isFixed, extendEnd, extendCurve}
+use Rattle.modify.proofs.Others.{isOther, others-are, pin-held}
+use Rattle.modify.proofs.Suits.{unless-chosen}
+
+-- ---- the nearest hit is one of a curve that was asked
+
+module _ (f : ℕ → Bool) where
+  abbrev ByOne : Option Best → Type 0
+  ByOne none = Unit {0}
+  ByOne (some b) = f (b .by) ≡ true
+
+  better-by : (gap : Float) (q : Vec2) (by : ℕ) (best : Option Best) → f by ≡ true → ByOne best → ByOne (better gap q by best)
+  unfolding better
+  better-by gap q by none p h = p
+  better-by gap q by (some b) p h =
+      go (lt gap (b .gap ⊖ 1e-7)) (le (abs (gap ⊖ b .gap)) 1e-7 && (not (eqb (b .by) by) || lt 1e-7 (distance (b .place) q)))
+    where
+      go : (u v : Bool) → ByOne (cond u (some record { gap = gap; place = q; by = by; tied = false }) (cond v (some record { gap = b .gap; place = b .place; by = b .by; tied = true }) (some b)))
+      go true v = p
+      go false true = h
+      go false false = h
+
+  best-by : (s : Support) (by : ℕ) (best : Option Best) (qs : List Vec2) → f by ≡ true → ByOne best → ByOne (bestOf s by best qs)
+  unfolding bestOf
+  best-by s by best [] p h = h
+  best-by s by best (q ∷ qs) p h = best-by s by (cond (lt 1e-6 (gapOf s q)) (better (gapOf s q) q by best) best) qs p (go (lt 1e-6 (gapOf s q)))
+    where
+      go : (u : Bool) → ByOne (cond u (better (gapOf s q) q by best) best)
+      go true = better-by (gapOf s q) q by best p h
+      go false = h
+
+  abbrev SoughtBy : Search → Type 0
+  SoughtBy (stopped n) = Unit {0}
+  SoughtBy (sought best) = ByOne best
+
+  seek-by : (ps : List Point) (s : Support) (near : Vec2) (os : List Curve) (best : Option Best) (budget : ℕ) → Every (λ (o : Curve). f (o .id)) os → ByOne best → SoughtBy (seek ps s near os best budget)
+  unfolding seek after
+  seek-by ps s near [] best budget p h = h
+  seek-by ps s near (o ∷ os) best budget p h =
+      go (λ qs b. seek-by ps s near os (bestOf s (o .id) best qs) b (p .1) (best-by s (o .id) best qs (p .0) h)) (meets ps s near o (o .kind) budget)
+    where
+      go :
+          ((qs : List Vec2) (b : ℕ) → SoughtBy (seek ps s near os (bestOf s (o .id) best qs) b)) → (r : H.Outcome)
+          → SoughtBy (after (λ qs left. seek ps s near os (bestOf s (o .id) best qs) left) r)
+      go ih (H.found qs b) = ih qs b
+      go ih (H.refused n b) = tt
+
+-- ---- the choice
+
+-- a move of an end of the curve t, held by another curve
+pub record Moves (d : Drawing) (t : ℕ) (plan : Plan) : Type 0 where
+  pub at-end : Bool
+  pub place : Vec2
+  pub pin : Pin
+  pub is : plan ≡ P.Move at-end place pin
+  pub held : Held d t pin
+
+module _ (d : Drawing) (c : Curve) where
+  move-held : (atB : Bool) (r : Search) (plan : Plan) → SoughtBy (isOther (c .id) (d .curves)) r → moveTo d atB r ≡ Chosen plan → Moves d (c .id) plan
+  unfolding moveTo
+  move-held atB (stopped n) plan p h = let z : _≡_ {A = ℕ} 0 1 = cc in absurd (omega arith)
+  move-held atB (sought none) plan p h = let z : _≡_ {A = ℕ} 0 1 = cc in absurd (omega arith)
+  move-held atB (sought (some b)) plan p h =
+      let w : Pin = pinTo (d .points) (b .place) (b .by) (endsAt (curveIn (d .curves) (b .by))) in
+      let u = unless-chosen (not (b .tied)) 17 (Chosen (P.Move atB (b .place) w)) plan h in
+      let q : P.Move atB (b .place) w ≡ plan = cc in
+      record { at-end = atB; place = b .place; pin = w; is = sym q; held = pin-held d (c .id) (b .by) (b .place) p }
+
+  end-held : (p : Vec2) (s : Support) (end : ℕ) (plan : Plan) → extendEnd d (c .id) p s end ≡ Chosen plan → Moves d (c .id) plan
+  unfolding extendEnd
+  end-held p s end plan h =
+      let line = S.Line (s .a) (s .b) in
+      let r : Search = seek (d .points) s (point line (param line p)) (others (c .id) (d .curves)) none 1000000 in
+      let u = unless-chosen (not (among end (uses (others (c .id) (d .curves))) || isFixed (d .points) end)) 14 (moveTo d (s .atB) r) plan h in
+      move-held (s .atB) r plan
+      (seek-by (isOther (c .id) (d .curves)) (d .points) s (point line (param line p)) (others (c .id) (d .curves)) none 1000000 (others-are (c .id) (d .curves) (d .curves) (λ i q. q)) tt) (u .1)
+
+  extend-kind : (p : Vec2) (k : CurveKind) (plan : Plan) → extendCurve d p c k ≡ Chosen plan → (isLine k ≡ true) × Moves d (c .id) plan
+  unfolding extendCurve
+  extend-kind p (Line i j) plan h =
+      let a = at (d .points) i in
+      let b = at (d .points) j in
+      let atB = le (distance p b) (distance p a) in
+      let s : Support = record { a = a; b = b; atB = atB } in
+      let u = unless-chosen (allMet d) 13 (extendEnd d (c .id) p s (cond atB j i)) plan h in
+      (refl, end-held p s (cond atB j i) plan (u .1))
+  extend-kind p (Arc m i j) plan h = let z : _≡_ {A = ℕ} 0 1 = cc in absurd (omega arith)
+  extend-kind p (Circle m r) plan h = let z : _≡_ {A = ℕ} 0 1 = cc in absurd (omega arith)
+  extend-kind p (Bezier n) plan h = let z : _≡_ {A = ℕ} 0 1 = cc in absurd (omega arith)
+  extend-kind p (Conic i m j rho) plan h = let z : _≡_ {A = ℕ} 0 1 = cc in absurd (omega arith)
+
+  pub extend-chosen : (p : Vec2) (plan : Plan) → extendCurve d p c (c .kind) ≡ Chosen plan → (isLine (c .kind) ≡ true) × Moves d (c .id) plan
+  extend-chosen p plan h = extend-kind p (c .kind) plan h

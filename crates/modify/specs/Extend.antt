@@ -1,0 +1,137 @@
+-- What an extend of a line chooses: the end that moves, the place where it meets another curve, and what holds it there. Definitions only.
+use Prim.Native.Nat.{ℕ}
+use mathlib.Core.Bool.{Bool, true, false, not, _&&_, _||_, cond}
+use mathlib.Core.List.{List, [], _∷_, map}
+use mathlib.Core.Option.{Option, some, none}
+use lib.ListN.{take}
+use lib.Dec.{eqb}
+use lib.Ieee.{Float, lt, le, neg}
+use Rattle.float.specs.Numbers.{_⊖_, _⊗_, _⊘_, 1f, 1e-7, 1e-6}
+use Rattle.float.specs.Sign.{abs}
+use Rattle.geom.specs.Plane.{distance}
+use Rattle.geom.specs.declared.Vec2.{Vec2}
+use Rattle.shape.specs.declared.Shape.{Shape}
+use Rattle.shape.specs.declared.Shape.the-variants as S
+use Rattle.shape.specs.Measures.{arc, circle, param, point}
+use Rattle.sketch.specs.declared.Point.{Point}
+use Rattle.sketch.specs.declared.Curve.{Curve}
+use Rattle.sketch.specs.declared.CurveKind.{CurveKind}
+use Rattle.sketch.specs.declared.CurveKind.the-variants.{Line, Arc, Circle, Bezier, Conic}
+use Rattle.sketch.specs.Lists.{pick}
+use Rattle.sketch.specs.Lookup.{among}
+use Rattle.sketch.specs.Drawing.{Drawing, curveIn, usesOf}
+use Rattle.placed.specs.Placed.{at, shapeOf}
+use Rattle.relations.specs.Met.{allMet}
+use Rattle.support.specs.Freeform.{bezier, conic}
+use Rattle.support.specs.Hits as H
+use Rattle.support.specs.Hits.{shapeHits, freeformHits, endlessLine}
+use Rattle.carry.specs.declared.Plan.the-variants as P
+use Rattle.carry.specs.Tables.{uses, others}
+use Rattle.carry.specs.Steps.{endsAt}
+use Rattle.modify.specs.declared.Choice.{Choice}
+use Rattle.modify.specs.declared.Choice.the-variants.{Refused, Chosen}
+use Rattle.modify.specs.Choose.{unless, pinTo}
+
+-- ---- the support
+
+-- the line from a to b, and whether it is its end b that moves
+pub record Support : Type 0 where
+  pub a : Vec2
+  pub b : Vec2
+  pub atB : Bool
+
+-- how far beyond that end a place on the line lies
+unfoldable pub gapOf : Support → Vec2 → Float
+gapOf s q =
+    let t = param (S.Line (s .a) (s .b)) q in
+    let l = distance (s .a) (s .b) in
+    cond (s .atB) ((t ⊖ 1f) ⊗ l) (neg t ⊗ l)
+
+-- ---- what it meets
+
+-- an infinite line reaches far beyond its points, from the place next to the pick
+unfoldable pub boundary : Bool → Shape → Vec2 → Shape
+boundary infinite (S.Line a b) near = cond infinite (endlessLine a b near) (S.Line a b)
+boundary infinite (S.Round c r start sweep) near = S.Round c r start sweep
+
+-- the hits with a curve; a conic's weight is rho over 1 − rho
+unfoldable pub meets : List Point → Support → Vec2 → Curve → CurveKind → ℕ → H.Outcome
+meets ps s near o (Line a b) budget = shapeHits (s .a) (s .b) (boundary (o .infinite) (S.Line (at ps a) (at ps b)) near) budget
+meets ps s near o (Arc c a b) budget = shapeHits (s .a) (s .b) (arc (at ps c) (at ps a) (at ps b)) budget
+meets ps s near o (Circle c r) budget = shapeHits (s .a) (s .b) (circle (at ps c) r) budget
+meets ps s near o (Bezier n) budget = freeformHits (s .a) (s .b) (bezier (map (at ps) (usesOf (Bezier n) (o .slots)))) budget
+meets ps s near o (Conic a m b rho) budget = freeformHits (s .a) (s .b) (conic (at ps a) (at ps m) (at ps b) (rho ⊘ (1f ⊖ rho))) budget
+
+-- ---- the nearest
+
+-- a hit of the curve `by`, and whether another lies as near
+pub record Best : Type 0 where
+  pub gap : Float
+  pub place : Vec2
+  pub by : ℕ
+  pub tied : Bool
+
+-- nearer by more than 1e-7 is better; within 1e-7 of the best it ties with it, unless it is the same curve at the same place
+unfoldable pub better : Float → Vec2 → ℕ → Option Best → Option Best
+better gap q by none = some record { gap = gap; place = q; by = by; tied = false }
+better gap q by (some b) =
+    cond (lt gap (b .gap ⊖ 1e-7)) (some record { gap = gap; place = q; by = by; tied = false })
+    (cond (le (abs (gap ⊖ b .gap)) 1e-7 && (not (eqb (b .by) by) || lt 1e-7 (distance (b .place) q)))
+    (some record { gap = b .gap; place = b .place; by = b .by; tied = true })
+    (some b))
+
+-- only what lies more than 1e-6 beyond the end counts
+unfoldable pub bestOf : Support → ℕ → Option Best → List Vec2 → Option Best
+bestOf s by best [] = best
+bestOf s by best (q ∷ qs) =
+    let gap = gapOf s q in
+    let now = cond (lt 1e-6 gap) (better gap q by best) best in
+    bestOf s by now qs
+
+-- the search over the other curves, in order, within one budget
+pub data Search : Type 0 where
+  stopped : ℕ → Search
+  sought : Option Best → Search
+
+-- a refusal of the hits ends it
+unfoldable pub after : (List Vec2 → ℕ → Search) → H.Outcome → Search
+after rest (H.found qs b) = rest qs b
+after rest (H.refused n b) = stopped n
+
+unfoldable pub seek : List Point → Support → Vec2 → List Curve → Option Best → ℕ → Search
+seek ps s near [] best budget = sought best
+seek ps s near (o ∷ os) best budget = after (λ qs left. seek ps s near os (bestOf s (o .id) best qs) left) (meets ps s near o (o .kind) budget)
+
+-- ---- the choice
+
+-- 17 where two lie as near, 18 where there is none
+unfoldable pub moveTo : Drawing → Bool → Search → Choice
+moveTo d atB (stopped n) = Refused n
+moveTo d atB (sought none) = Refused 18
+moveTo d atB (sought (some b)) =
+    unless (not (b .tied)) 17
+    (Chosen (P.Move atB (b .place) (pinTo (d .points) (b .place) (b .by) (endsAt (curveIn (d .curves) (b .by))))))
+
+unfoldable pub isFixed : List Point → ℕ → Bool
+isFixed [] i = false
+isFixed (p ∷ ps) i = pick (eqb i (p .id)) (p .fixed) (isFixed ps i)
+
+-- 14 where the end is used by another curve, or is fixed
+unfoldable pub extendEnd : Drawing → ℕ → Vec2 → Support → ℕ → Choice
+extendEnd d c p s end =
+    let rest = others c (d .curves) in
+    let line = S.Line (s .a) (s .b) in
+    unless (not (among end (uses rest) || isFixed (d .points) end)) 14
+    (moveTo d (s .atB) (seek (d .points) s (point line (param line p)) rest none 1000000))
+
+-- anything but a line is refused by 10, and then relations that are not met by 13; the end nearer to the pick moves, b where they are as near
+unfoldable pub extendCurve : Drawing → Vec2 → Curve → CurveKind → Choice
+extendCurve d p c (Line i j) =
+    let a = at (d .points) i in
+    let b = at (d .points) j in
+    let atB = le (distance p b) (distance p a) in
+    unless (allMet d) 13 (extendEnd d (c .id) p (record { a = a; b = b; atB = atB }) (cond atB j i))
+extendCurve d p c (Arc m i j) = Refused 10
+extendCurve d p c (Circle m r) = Refused 10
+extendCurve d p c (Bezier n) = Refused 10
+extendCurve d p c (Conic i m j rho) = Refused 10

@@ -1,0 +1,59 @@
+// What holds a new end to the curve that cut there.
+use crate::gathering::curve_place;
+use carry::Pin;
+use float::bounds::BELOW_1E_6;
+use geom::Vec2;
+use placed::point_at;
+use sketch::Curve;
+use sketch::CurveKind;
+ghost use mathlib.Core.Option.{some};
+ghost use Prim.Native.Nat.{_≤_};
+ghost use Rattle.modify.specs.Told.{PinTo, PinAt};
+
+// An end of the curve `by` that is nearer than 1e-6, or the curve.
+fn pin_to<'a>(
+    q: Vec2,
+    by: u32,
+    from: u32,
+    to: u32,
+    ids: &'a [u32],
+    near: &'a [u16],
+    xs: &'a [f64],
+    ys: &'a [f64],
+) -> Pin
+    ensures { λ r. ⌜ PinTo (now (ids .entry)) (now (xs .entry)) (now (ys .entry)) by (some (from, to)) q r ⌝ }
+{
+    if point_at(from, ids, near, xs, ys).dist2(q) < BELOW_1E_6 {
+        return Pin::At(from);
+    }
+    if point_at(to, ids, near, xs, ys).dist2(q) < BELOW_1E_6 {
+        return Pin::At(to);
+    }
+    Pin::On(by)
+}
+
+pub fn pin_at<'a>(
+    q: Vec2,
+    by: u32,
+    curves: [Curve; 128],
+    n: usize,
+    ids: &'a [u32],
+    near: &'a [u16],
+    xs: &'a [f64],
+    ys: &'a [f64],
+) -> Pin
+    requires { ⌜ n ≤ 128 ⌝ }
+    ensures { λ r. ⌜ PinAt (now (ids .entry)) (now (xs .entry)) (now (ys .entry)) curves n by q r ⌝ }
+{
+    let k = curve_place(curves, n, by);
+    if k >= n {
+        return Pin::On(by);
+    }
+    let c = curves[k];
+    let kind = c.kind;
+    match kind {
+        CurveKind::Line(a, b) => pin_to(q, by, a, b, ids, near, xs, ys),
+        CurveKind::Arc(_, a, b) => pin_to(q, by, a, b, ids, near, xs, ys),
+        _ => Pin::On(by),
+    }
+}

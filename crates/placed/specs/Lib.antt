@@ -1,0 +1,3 @@
+-- What the contracts of `placed` cite.
+pub mod Placed
+pub mod Columns

@@ -1,0 +1,22 @@
+-- What is answered of a sketch's relations.
+use Prim.Native.Nat.{ℕ, _+_}
+use mathlib.Core.Path.{_≡_}
+use mathlib.Core.List.{List}
+use Rattle.sketch.specs.Drawing.{view}
+use Rattle.sketch.specs.declared.Sketch.{Sketch}
+use Rattle.image.specs.Image.{imageFault, drawingOf}
+use Rattle.relations.specs.Answer.{Told}
+use Rattle.relations.specs.declared.Verdict.{Verdict}
+use Rattle.relations.specs.declared.Verdict.the-variants.{Refused, Met, Unmet}
+use Rattle.probe.specs.Probe.{altered}
+
+-- a verdict as one number: a refusal's, 0 where all relations are met, 256 and the place of one that is not
+unfoldable pub numbered : Verdict → ℕ
+numbered (Refused n) = n
+numbered Met = 0
+numbered (Unmet k) = 256 + k
+
+-- the image's refusal, or the verdict on a sketch that the image gives, altered
+pub data RelationsTested (bytes : List ℕ) (next points curves relations : ℕ) (r : ℕ) : Type 0 where
+  unread : (imageFault bytes ≡ 0 → ⊥) → r ≡ imageFault bytes → RelationsTested bytes next points curves relations r
+  tested : (s : Sketch) (v : Verdict) → imageFault bytes ≡ 0 → view s ≡ drawingOf bytes → Told (altered s next points curves relations) v → r ≡ numbered v → RelationsTested bytes next points curves relations r

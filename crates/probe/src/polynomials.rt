@@ -1,0 +1,38 @@
+// Polynomials in Bernstein form: value and roots.
+ghost use mathlib.Core.Path.{_≡_};
+ghost use lib.ListN.{length};
+ghost use Rattle.bernstein.specs.Evaluate.{evaluateOf};
+ghost use Rattle.bernstein.specs.Roots.{searchOf};
+ghost use Rattle.probe.specs.Polynomials.{Told};
+use bernstein::Roots;
+
+#[no_mangle]
+pub extern "C" fn mulkefi_evaluate(c: &[f64], t: f64) -> f64
+    ensures { λ r. ⌜ r ≡ evaluateOf (now (c .entry)) t ⌝ }
+{
+    bernstein::evaluate(c, t)
+}
+
+// A refusal's number, or 0. How many roots were found, none where refused, and the budget that is left go to the answer.
+#[no_mangle]
+pub extern "C" fn mulkefi_roots(
+    c: &[f64],
+    found: &mut [f64],
+    budget: usize,
+    answer: &mut [u64; 2],
+) -> u32
+    ensures { λ r. ⌜ Told (searchOf (length (now (found .entry))) (now (c .entry)) budget) (now (found .entry)) (now (found .exit)) (now (answer .entry)) (now (answer .exit)) r ⌝ }
+{
+    match bernstein::search::roots(c, found, budget) {
+        Roots::Found(count, left) => {
+            answer[0] = count as u64;
+            answer[1] = left as u64;
+            0
+        }
+        Roots::Refused(number, left) => {
+            answer[0] = 0;
+            answer[1] = left as u64;
+            number as u32
+        }
+    }
+}

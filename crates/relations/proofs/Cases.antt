@@ -1,0 +1,83 @@
+-- Whether a relation is met, one law for each sort of it: from the points and pieces that were read. Assumes nothing.
+use mathlib.Core.Path.{_≡_, refl, ap, _∙_}
+use mathlib.Core.Bool.{true}
+use mathlib.Core.List.{List, [], _∷_}
+use mathlib.Core.Option.{Option}
+use Prim.Native.Nat.{ℕ}
+use lib.Ieee.{Float}
+use Rattle.geom.specs.Plane.{distance}
+use Rattle.geom.specs.declared.Vec2.{Vec2}
+use Rattle.shape.specs.declared.Shape.{Shape}
+use Rattle.sketch.specs.Lists.{every}
+use Rattle.sketch.specs.declared.Point.{Point}
+use Rattle.sketch.specs.declared.Curve.{Curve}
+use Rattle.sketch.specs.declared.Relation.{Relation}
+use Rattle.sketch.specs.declared.RelationSlot.{RelationSlot}
+use Rattle.sketch.specs.declared.Relation.the-variants.{Coincident, PointOnCurve, Collinear, Equal, Length, Distance, Midpoint, ArcLength, ArcSweep}
+use Rattle.relations.specs.declared.Piece.{Piece}
+use Rattle.placed.specs.Placed.{at, shapeIn}
+use Rattle.relations.specs.Met.{same, close, on, extent, ends, middle, met}
+use Rattle.relations.specs.Columns.{CurveColumns, wholeOf, whole}
+use Rattle.placed.specs.Columns.{PointColumns}
+use Rattle.relations.proofs.Failing.{Passed}
+use Rattle.relations.proofs.Pieces.{on-whole, extent-whole, ends-whole, middle-whole}
+
+every-whole : (o : Option Shape) (l : List Vec2) → every (on (whole o)) l ≡ every (on o) l
+every-whole o [] = refl
+every-whole o (p ∷ l) = rw (on-whole o p, every-whole o l)
+
+module _ (ps : List Point) (cs : List Curve) (r : Relation) where
+  -- the piece is the curve's, as far as it is measured
+  abbrev Read : Piece → ℕ → Type 0
+  Read s c = wholeOf s ≡ whole (shapeIn ps cs c)
+
+  extent-read : (s : Piece) (c : ℕ) → Read s c → extent (wholeOf s) ≡ extent (shapeIn ps cs c)
+  extent-read s c f = ap extent f ∙ extent-whole (shapeIn ps cs c)
+
+  module _ {p q : ℕ} {a b : Vec2} where
+    pub met-coincident : r ≡ Coincident p q → a ≡ at ps p → b ≡ at ps q → close a b ≡ met ps cs r
+    unfolding met
+    met-coincident e f g = rw (e, f, g)
+
+    pub met-distance : {v : Float} → r ≡ Distance p q v → a ≡ at ps p → b ≡ at ps q → same (distance a b) v ≡ met ps cs r
+    unfolding met
+    met-distance e f g = rw (e, f, g)
+
+  module _ {p c : ℕ} {a : Vec2} (s : Piece) where
+    pub met-on-curve : r ≡ PointOnCurve p c → Read s c → a ≡ at ps p → on (wholeOf s) a ≡ met ps cs r
+    unfolding met
+    met-on-curve e f g = rw (e, f, g) (on-whole (shapeIn ps cs c) (at ps p))
+
+    pub met-midpoint : r ≡ Midpoint p c → a ≡ at ps p → Read s c → close a (middle (wholeOf s)) ≡ met ps cs r
+    unfolding met
+    met-midpoint e f g = rw (e, f, ap middle g ∙ middle-whole (shapeIn ps cs c))
+
+  module _ {a b : ℕ} (s t : Piece) where
+    pub met-collinear : r ≡ Collinear a b → Read s a → Read t b → every (on (wholeOf s)) (ends (wholeOf t)) ≡ met ps cs r
+    unfolding met
+    met-collinear e f g = rw (e, f, ap ends g ∙ ends-whole (shapeIn ps cs b)) (every-whole (shapeIn ps cs a) (ends (shapeIn ps cs b)))
+
+    pub met-equal : r ≡ Equal a b → Read s a → Read t b → same (extent (wholeOf s)) (extent (wholeOf t)) ≡ met ps cs r
+    unfolding met
+    met-equal e f g = rw (e, extent-read s a f, extent-read t b g)
+
+  module _ {l : ℕ} {v : Float} where
+    pub met-length : (s : Piece) → r ≡ Length l v → Read s l → same (extent (wholeOf s)) v ≡ met ps cs r
+    unfolding met
+    met-length s e f = rw (e, extent-read s l f)
+
+    pub met-arc-length : r ≡ ArcLength l v → true ≡ met ps cs r
+    unfolding met
+    met-arc-length e = rw e
+
+    pub met-arc-sweep : r ≡ ArcSweep l v → true ≡ met ps cs r
+    unfolding met
+    met-arc-sweep e = rw e
+
+-- ---- the search
+
+-- i relations are passed, whichever points and curves the columns hold
+abbrev pub Searched : List ℕ → List Float → List Float → List ℕ → List ℕ → List ℕ → List ℕ → List Float → List RelationSlot → ℕ → ℕ → Type 0
+Searched points xs ys ids kinds firsts seconds numbers slots n i =
+    (ps : List Point) (cs : List Curve) → PointColumns ps points xs ys → CurveColumns points cs ids kinds firsts seconds numbers
+    → Passed (met ps cs) (λ (s : RelationSlot). s .relation) n slots i

@@ -1,0 +1,77 @@
+-- Points and curves found by way of columns are the ones that the columns hold. Assumes nothing.
+use mathlib.Core.Path.{_≡_, refl, sym, ap, _∙_}
+use mathlib.Core.Bool.{false}
+use mathlib.Core.List.{List, [], _∷_, map}
+use mathlib.Core.Option.{some}
+use Prim.Native.Nat.{ℕ, zero, suc, _≤_, _<_}
+use native.Mathlib.Omega.{arith}
+use lib.ListN.{length, getD, length-map, List·getD-eq-default}
+use lib.Dec.{eqb}
+use lib.Ieee.{Float, nan}
+use borrow.Author.Tests.{eq-eqb, ne-eqb}
+use Rattle.geom.specs.Plane.{vec}
+use Rattle.sketch.specs.Lookup.{among, Ascends, Found}
+use Rattle.sketch.specs.Drawing.{pointIds, curveIds, curveIn}
+use Rattle.sketch.specs.Blanks.{noPoint, noCurve}
+use Rattle.sketch.specs.declared.Point.{Point}
+use Rattle.sketch.specs.declared.Curve.{Curve}
+use Rattle.sketch.specs.declared.CurveKind.{CurveKind}
+use Rattle.sketch.specs.declared.CurveKind.the-variants.{Line, Arc, Circle, Bezier, Conic}
+use Rattle.sketch.proofs.Bools.{or-left-false, or-right-false, at-most-or-above}
+use Rattle.sketch.proofs.Ascent.{above-at, above-ascends}
+use Rattle.sketch.proofs.Facts.{getD-mapped, curve-at, curve-nowhere}
+use Rattle.relations.specs.declared.Piece.{Piece}
+use Rattle.placed.specs.Placed.{at, shapeOf, shapeFrom, shapeIn}
+use Rattle.placed.specs.Columns.{spot, PointColumns}
+use Rattle.placed.proofs.Found.{spot-stands}
+use Rattle.relations.specs.Columns.{CurveColumns, Stands, Tells, wholeOf, whole}
+use Rattle.relations.proofs.Pieces.{whole-line, whole-arc, whole-circle, whole-none}
+
+-- ---- a curve by its place
+
+module _ {ps : List Point} {points : List ℕ} {xs ys : List Float} (p : PointColumns ps points xs ys) (s : Piece) where
+  -- what is told of a curve is its shape, as far as it is measured
+  told-whole : (k : CurveKind) (kind i j : ℕ) (number : Float) → Tells points k kind i j number → s .kind ≡ kind → s .a ≡ spot xs ys i → s .b ≡ spot xs ys j → s .number ≡ number
+      → wholeOf s ≡ whole (shapeOf ps k)
+  unfolding whole shapeOf
+  told-whole (Line a b) kind i j number t e f g h =
+      let u : s .a ≡ at ps a = f ∙ spot-stands p a i (t .1 .0) (t .1 .1) in
+      let v : s .b ≡ at ps b = g ∙ spot-stands p b j (t .2 .0) (t .2 .1) in
+      whole-line s (e ∙ t .0) ∙ rw (u, v)
+  told-whole (Arc c a b) kind i j number t e f g h =
+      let u : s .a ≡ at ps c = f ∙ spot-stands p c i (t .1 .0) (t .1 .1) in
+      let v : s .b ≡ at ps a = g ∙ spot-stands p a j (t .2 .0) (t .2 .1) in
+      whole-arc s (e ∙ t .0) ∙ rw (u, v)
+  told-whole (Circle c r) kind i j number t e f g h =
+      let u : s .a ≡ at ps c = f ∙ spot-stands p c i (t .1 .0) (t .1 .1) in
+      whole-circle s (e ∙ t .0) ∙ rw (u, h ∙ t .2)
+  told-whole (Bezier n) kind i j number t e f g h = whole-none s (λ z. omega arith) (λ z. omega arith) (λ z. omega arith)
+  told-whole (Conic a m b rho) kind i j number t e f g h = whole-none s (λ z. omega arith) (λ z. omega arith) (λ z. omega arith)
+
+module _ {ps : List Point} {cs : List Curve} {points ids kinds firsts seconds : List ℕ} {xs ys numbers : List Float}
+    (p : PointColumns ps points xs ys) (w : CurveColumns points cs ids kinds firsts seconds numbers) (s : Piece) (id k : ℕ) (f : Found id ids k) where
+  curves-many : length ids ≡ length cs
+  curves-many = ap length (w .ids-are) ∙ length-map cs (λ (x : Curve). x .id)
+
+  here : k < length ids → s .kind ≡ getD kinds k 0 → s .a ≡ spot xs ys (getD firsts k 0) → s .b ≡ spot xs ys (getD seconds k 0) → s .number ≡ getD numbers k nan
+      → wholeOf s ≡ whole (shapeIn ps cs id)
+  unfolding shapeFrom
+  here l d e g h =
+      let q : k < length cs = omega (arith, curves-many) in
+      let r : Ascends (curveIds cs) = rw (← w .ids-are) (w .rise) in
+      let i : getD cs k noCurve .id ≡ id = sym (getD-mapped (λ (x : Curve). x .id) 0 noCurve cs k q) ∙ ap (λ u. getD u k 0) (sym (w .ids-are)) ∙ f .here l in
+      let n : curveIn cs id ≡ some (getD cs k noCurve) = ap (curveIn cs) (sym i) ∙ curve-at noCurve cs k r q in
+      rw n (told-whole p s (getD cs k noCurve .kind) _ _ _ _ (w .each k q) d e g h)
+
+  missing : length ids ≤ k → s .kind ≡ 0 → wholeOf s ≡ whole (shapeIn ps cs id)
+  unfolding shapeFrom whole
+  missing l d =
+      let n : among id (curveIds cs) ≡ false = rw (← w .ids-are) (f .nowhere (w .rise) (omega (arith, f .within))) in
+      rw (curve-nowhere id cs n) (whole-none s (λ z. omega arith) (λ z. omega arith) (λ z. omega arith))
+
+  pub piece-found : {i j : ℕ} → i ≡ getD firsts k 0 → j ≡ getD seconds k 0 → s .a ≡ spot xs ys i → s .b ≡ spot xs ys j → s .number ≡ getD numbers k nan → s .kind ≡ getD kinds k 0
+      → wholeOf s ≡ whole (shapeIn ps cs id)
+  piece-found u v e g h d =
+      at-most-or-above (length ids) k
+      (λ q. let z : length kinds ≤ k = omega (arith, w .kinds-long) in missing q (d ∙ List·getD-eq-default kinds 0 z))
+      (λ q. here q d (e ∙ ap (spot xs ys) u) (g ∙ ap (spot xs ys) v) h)

@@ -1,0 +1,196 @@
+-- `relations::is_met` meets its contract.
+use mathlib.Core.Path.{_∙_}
+use borrow.Author.Needs.{needs}
+use Rattle.relations.proofs.Cases.{met-coincident, met-on-curve, met-collinear, met-equal, met-length, met-distance, met-midpoint, met-arc-length, met-arc-sweep}
+use Rattle.relations.specs.Met.{same}
+use Rattle.relations.proofs.search.is_met.Statement.{statement}
+use Rattle.relations.proofs.search.is_met.Tie as tie
+
+enum-known-relation : tie.Need-enum-known-relation
+enum-known-relation c = search needs
+
+point-at-requires : tie.Need-point-at-requires
+point-at-requires c κs = search needs
+
+point-at-requires-2 : tie.Need-point-at-requires-2
+point-at-requires-2 c κs = search needs
+
+close-requires : tie.Need-close-requires
+close-requires c κs = search needs
+
+enum-known-relation-2 : tie.Need-enum-known-relation-2
+enum-known-relation-2 c = search needs
+
+piece-at-requires : tie.Need-piece-at-requires
+piece-at-requires c κs = search needs
+
+point-at-requires-3 : tie.Need-point-at-requires-3
+point-at-requires-3 c κs = search needs
+
+on-requires : tie.Need-on-requires
+on-requires c κs = search needs
+
+enum-known-relation-3 : tie.Need-enum-known-relation-3
+enum-known-relation-3 c = search needs
+
+piece-at-requires-2 : tie.Need-piece-at-requires-2
+piece-at-requires-2 c κs = search needs
+
+piece-at-requires-3 : tie.Need-piece-at-requires-3
+piece-at-requires-3 c κs = search needs
+
+along-requires : tie.Need-along-requires
+along-requires c κs = search needs
+
+enum-known-relation-4 : tie.Need-enum-known-relation-4
+enum-known-relation-4 c = search needs
+
+piece-at-requires-4 : tie.Need-piece-at-requires-4
+piece-at-requires-4 c κs = search needs
+
+piece-at-requires-5 : tie.Need-piece-at-requires-5
+piece-at-requires-5 c κs = search needs
+
+extent-requires : tie.Need-extent-requires
+extent-requires c κs = search needs
+
+extent-requires-2 : tie.Need-extent-requires-2
+extent-requires-2 c κs = search needs
+
+same-requires : tie.Need-same-requires
+same-requires c κs = search needs
+
+enum-known-relation-5 : tie.Need-enum-known-relation-5
+enum-known-relation-5 c = search needs
+
+piece-at-requires-6 : tie.Need-piece-at-requires-6
+piece-at-requires-6 c κs = search needs
+
+extent-requires-3 : tie.Need-extent-requires-3
+extent-requires-3 c κs = search needs
+
+same-requires-2 : tie.Need-same-requires-2
+same-requires-2 c κs = search needs
+
+enum-known-relation-6 : tie.Need-enum-known-relation-6
+enum-known-relation-6 c = search needs
+
+point-at-requires-4 : tie.Need-point-at-requires-4
+point-at-requires-4 c κs = search needs
+
+point-at-requires-5 : tie.Need-point-at-requires-5
+point-at-requires-5 c κs = search needs
+
+dist-requires : tie.Need-dist-requires
+dist-requires c κs = search needs
+
+same-requires-3 : tie.Need-same-requires-3
+same-requires-3 c κs = search needs
+
+enum-known-relation-7 : tie.Need-enum-known-relation-7
+enum-known-relation-7 c = search needs
+
+point-at-requires-6 : tie.Need-point-at-requires-6
+point-at-requires-6 c κs = search needs
+
+piece-at-requires-7 : tie.Need-piece-at-requires-7
+piece-at-requires-7 c κs = search needs
+
+halves-requires : tie.Need-halves-requires
+halves-requires c κs = search needs
+
+enum-told : tie.Need-enum-told
+enum-told c = search needs
+
+enum-told-2 : tie.Need-enum-told-2
+enum-told-2 c = search needs
+
+returns : tie.Need-returns
+returns c =
+    let d = c .before .before in
+    λ ps cs p w. c .close .ensures ∙ met-coincident ps cs _ (d .before .before .relation .given .1) (d .point-at .ensures ps p) (c .before .point-at2 .ensures ps p)
+
+returns-2 : tie.Need-returns-2
+returns-2 c =
+    let d = c .before .before in
+    λ ps cs p w. c .on .ensures ∙ met-on-curve ps cs _ _ (d .before .before .relation2 .given .1) (d .piece-at .ensures _ ps cs p w) (c .before .point-at3 .ensures ps p)
+
+returns-3 : tie.Need-returns-3
+returns-3 c =
+    let d = c .before .before in
+    λ ps cs p w. c .along .ensures ∙ met-collinear ps cs _ _ _ (d .before .before .relation3 .given .1) (d .piece-at2 .ensures _ ps cs p w) (c .before .piece-at3 .ensures _ ps cs p w)
+
+returns-4 : tie.Need-returns-4
+returns-4 c =
+    let d = c .before .before .before .before in
+    λ ps cs p w. c .same .ensures ∙ rw (c .before .extent2 .ensures, c .before .before .extent .ensures)
+    (met-equal ps cs _ _ _ (d .before .before .relation4 .given .1) (d .piece-at4 .ensures _ ps cs p w) (c .before .before .before .piece-at5 .ensures _ ps cs p w))
+
+returns-5 : tie.Need-returns-5
+returns-5 c =
+    let d = c .before .before in
+    λ ps cs p w. c .same2 .ensures ∙ rw (c .before .extent3 .ensures) (met-length ps cs _ _ (d .before .before .relation5 .given .1) (d .piece-at6 .ensures _ ps cs p w))
+
+returns-6 : tie.Need-returns-6
+returns-6 c =
+    let d = c .before .before .before in
+    λ ps cs p w. c .same3 .ensures ∙ rw (c .before .dist .ensures)
+    (met-distance ps cs _ (d .before .before .relation6 .given .1) (d .point-at4 .ensures ps p) (c .before .before .point-at5 .ensures ps p))
+
+returns-7 : tie.Need-returns-7
+returns-7 c =
+    let d = c .before .before in
+    λ ps cs p w. c .halves .ensures ∙ met-midpoint ps cs _ _ (d .before .before .relation7 .given .1) (d .point-at6 .ensures ps p) (c .before .piece-at7 .ensures _ ps cs p w)
+
+returns-8 : tie.Need-returns-8
+returns-8 c = λ ps cs p w. met-arc-length ps cs _ (c .enum-told .given .1)
+
+returns-9 : tie.Need-returns-9
+returns-9 c = λ ps cs p w. met-arc-sweep ps cs _ (c .enum-told2 .given .1)
+
+pub is-met-spec : {M : Type 1} → statement M
+is-met-spec =
+    tie.close
+    (tie.spec
+    enum-known-relation
+    point-at-requires
+    point-at-requires-2
+    close-requires
+    enum-known-relation-2
+    piece-at-requires
+    point-at-requires-3
+    on-requires
+    enum-known-relation-3
+    piece-at-requires-2
+    piece-at-requires-3
+    along-requires
+    enum-known-relation-4
+    piece-at-requires-4
+    piece-at-requires-5
+    extent-requires
+    extent-requires-2
+    same-requires
+    enum-known-relation-5
+    piece-at-requires-6
+    extent-requires-3
+    same-requires-2
+    enum-known-relation-6
+    point-at-requires-4
+    point-at-requires-5
+    dist-requires
+    same-requires-3
+    enum-known-relation-7
+    point-at-requires-6
+    piece-at-requires-7
+    halves-requires
+    enum-told
+    enum-told-2
+    returns
+    returns-2
+    returns-3
+    returns-4
+    returns-5
+    returns-6
+    returns-7
+    returns-8
+    returns-9)

@@ -1,0 +1,80 @@
+-- `relations::search_all` meets its contract.
+use native.Mathlib.Omega.{arith}
+use lib.ListN.{length-take}
+use borrow.Author.Needs.{needs}
+use Rattle.sketch.specs.Drawing.{view, pointIds}
+use Rattle.placed.proofs.Laid.{point-columns}
+use Rattle.sketch.proofs.Facts.{rising-ascends}
+use Rattle.relations.proofs.search_all.Statement.{statement}
+use Rattle.relations.proofs.search_all.Tie as tie
+
+slice-aggregate-lay-points : tie.Need-slice-aggregate-lay-points
+slice-aggregate-lay-points c = search needs
+
+slice-aggregate-lay-points-2 : tie.Need-slice-aggregate-lay-points-2
+slice-aggregate-lay-points-2 c = search needs
+
+slice-aggregate-lay-points-3 : tie.Need-slice-aggregate-lay-points-3
+slice-aggregate-lay-points-3 c = search needs
+
+slice-aggregate-lay-points-4 : tie.Need-slice-aggregate-lay-points-4
+slice-aggregate-lay-points-4 c = search needs
+
+lay-points-requires : tie.Need-lay-points-requires
+lay-points-requires c κs = search needs
+
+array-share-prefix-ids : tie.Need-array-share-prefix-ids
+array-share-prefix-ids c = search needs
+
+slice-aggregate-search-from : tie.Need-slice-aggregate-search-from
+slice-aggregate-search-from c = rw length-take (omega arith)
+
+slice-aggregate-search-from-2 : tie.Need-slice-aggregate-search-from-2
+slice-aggregate-search-from-2 c = search needs
+
+array-share-prefix-xs : tie.Need-array-share-prefix-xs
+array-share-prefix-xs c = search needs
+
+slice-aggregate-search-from-3 : tie.Need-slice-aggregate-search-from-3
+slice-aggregate-search-from-3 c = rw length-take (omega arith)
+
+array-share-prefix-ys : tie.Need-array-share-prefix-ys
+array-share-prefix-ys c = search needs
+
+slice-aggregate-search-from-4 : tie.Need-slice-aggregate-search-from-4
+slice-aggregate-search-from-4 c = rw length-take (omega arith)
+
+search-from-requires : tie.Need-search-from-requires
+search-from-requires c κs =
+    let l = c .before .before .before .before .before .before .before .before in
+    let s = l .before .before .before .before .before .before in
+    let k = s .args .sk in
+    let y = l .lay-points .ensures (omega arith) (omega arith) (omega arith) (omega arith) in
+    let z = s .pre .0 .points in (
+      s .pre .0,
+      s .pre .1,
+      point-columns y (omega arith) (omega arith) (omega arith) (rising-ascends (k .next) 0 (pointIds (view k .points)) (s .pre .1 .points-rise)),
+      rw length-take (omega arith),
+    )
+
+returns : tie.Need-returns
+returns c = c .search-from .ensures
+
+pub search-all-spec : {M : Type 1} → statement M
+search-all-spec =
+    tie.close
+    (tie.spec
+    slice-aggregate-lay-points
+    slice-aggregate-lay-points-2
+    slice-aggregate-lay-points-3
+    slice-aggregate-lay-points-4
+    lay-points-requires
+    array-share-prefix-ids
+    slice-aggregate-search-from
+    slice-aggregate-search-from-2
+    array-share-prefix-xs
+    slice-aggregate-search-from-3
+    array-share-prefix-ys
+    slice-aggregate-search-from-4
+    search-from-requires
+    returns)

@@ -1,0 +1,102 @@
+-- `relations::search_from` meets its contract.
+use native.Mathlib.Omega.{arith}
+use lib.ListN.{length-take}
+use borrow.Author.Needs.{needs}
+use Rattle.sketch.specs.Drawing.{view, curveIds}
+use Rattle.relations.proofs.Laid.{curve-columns}
+use Rattle.sketch.proofs.Facts.{rising-ascends}
+use Rattle.relations.proofs.search_from.Statement.{statement}
+use Rattle.relations.proofs.search_from.Tie as tie
+
+slice-aggregate-lay-curves : tie.Need-slice-aggregate-lay-curves
+slice-aggregate-lay-curves c = search needs
+
+slice-aggregate-lay-curves-2 : tie.Need-slice-aggregate-lay-curves-2
+slice-aggregate-lay-curves-2 c = search needs
+
+slice-aggregate-lay-curves-3 : tie.Need-slice-aggregate-lay-curves-3
+slice-aggregate-lay-curves-3 c = search needs
+
+slice-aggregate-lay-curves-4 : tie.Need-slice-aggregate-lay-curves-4
+slice-aggregate-lay-curves-4 c = search needs
+
+slice-aggregate-lay-curves-5 : tie.Need-slice-aggregate-lay-curves-5
+slice-aggregate-lay-curves-5 c = search needs
+
+slice-aggregate-lay-curves-6 : tie.Need-slice-aggregate-lay-curves-6
+slice-aggregate-lay-curves-6 c = search needs
+
+lay-curves-requires : tie.Need-lay-curves-requires
+lay-curves-requires c κs = search needs
+
+array-share-prefix-ids : tie.Need-array-share-prefix-ids
+array-share-prefix-ids c = search needs
+
+slice-aggregate-first-unmet : tie.Need-slice-aggregate-first-unmet
+slice-aggregate-first-unmet c = rw length-take (omega arith)
+
+slice-aggregate-first-unmet-2 : tie.Need-slice-aggregate-first-unmet-2
+slice-aggregate-first-unmet-2 c = search needs
+
+array-share-prefix-kinds : tie.Need-array-share-prefix-kinds
+array-share-prefix-kinds c = search needs
+
+slice-aggregate-first-unmet-3 : tie.Need-slice-aggregate-first-unmet-3
+slice-aggregate-first-unmet-3 c = rw length-take (omega arith)
+
+array-share-prefix-firsts : tie.Need-array-share-prefix-firsts
+array-share-prefix-firsts c = search needs
+
+slice-aggregate-first-unmet-4 : tie.Need-slice-aggregate-first-unmet-4
+slice-aggregate-first-unmet-4 c = rw length-take (omega arith)
+
+array-share-prefix-seconds : tie.Need-array-share-prefix-seconds
+array-share-prefix-seconds c = search needs
+
+slice-aggregate-first-unmet-5 : tie.Need-slice-aggregate-first-unmet-5
+slice-aggregate-first-unmet-5 c = rw length-take (omega arith)
+
+array-share-prefix-numbers : tie.Need-array-share-prefix-numbers
+array-share-prefix-numbers c = search needs
+
+slice-aggregate-first-unmet-6 : tie.Need-slice-aggregate-first-unmet-6
+slice-aggregate-first-unmet-6 c = rw length-take (omega arith)
+
+first-unmet-requires : tie.Need-first-unmet-requires
+first-unmet-requires c κs = search needs
+
+returns : tie.Need-returns
+returns c =
+    let l = c .before .before .before .before .before .before .before .before .before .before .before .before .before .before in
+    let s = l .before .before .before .before .before .before .before .before .before .before .before .before in
+    let k = s .args .sk in
+    let y = l .lay-curves .ensures in
+    let z = s .pre .0 .curves in
+    c .first-unmet .ensures (view k .points) (view k .curves) (s .pre .2)
+    (curve-columns y (omega arith) (omega arith) (omega arith) (omega arith) (omega arith) (view k .points) (s .pre .2 .ids-are) (s .pre .2 .rise)
+    (rising-ascends (k .next) 0 (curveIds (view k .curves)) (s .pre .1 .curves-rise)) (s .pre .1 .curves-sound))
+
+pub search-from-spec : {M : Type 1} → statement M
+search-from-spec =
+    tie.close
+    (tie.spec
+    slice-aggregate-lay-curves
+    slice-aggregate-lay-curves-2
+    slice-aggregate-lay-curves-3
+    slice-aggregate-lay-curves-4
+    slice-aggregate-lay-curves-5
+    slice-aggregate-lay-curves-6
+    lay-curves-requires
+    array-share-prefix-ids
+    slice-aggregate-first-unmet
+    slice-aggregate-first-unmet-2
+    array-share-prefix-kinds
+    slice-aggregate-first-unmet-3
+    array-share-prefix-firsts
+    slice-aggregate-first-unmet-4
+    array-share-prefix-seconds
+    slice-aggregate-first-unmet-5
+    array-share-prefix-numbers
+    slice-aggregate-first-unmet-6
+    first-unmet-requires
+    returns)

@@ -1,0 +1,44 @@
+-- What the columns hold that a sketch's tables are laid out in, for the contracts of functions that nothing outside calls. Definitions only.
+use Prim.Native.Nat.{ℕ, _<_}
+use mathlib.Core.Path.{_≡_}
+use mathlib.Core.List.{List}
+use lib.ListN.{length, take, getD}
+use lib.Ieee.{Float, nan}
+use Rattle.float.specs.Numbers.{0f}
+use Rattle.sketch.specs.Lookup.{Found}
+use Rattle.sketch.specs.Drawing.{pointIds, curveIds}
+use Rattle.sketch.specs.Blanks.{noPoint, noCurve}
+use Rattle.sketch.specs.declared.Point.{Point}
+use Rattle.sketch.specs.declared.Curve.{Curve}
+use Rattle.sketch.specs.declared.CurveKind.{CurveKind}
+use Rattle.sketch.specs.declared.CurveKind.the-variants.{Line, Arc, Circle, Bezier, Conic}
+use Rattle.relations.specs.declared.Parts.{Parts}
+
+-- what columns take from a kind
+unfoldable pub partsOf : CurveKind → Parts
+partsOf (Line a b) = record { number = 0f; first = a; second = b; kind = 1 }
+partsOf (Arc c a b) = record { number = 0f; first = c; second = a; kind = 2 }
+partsOf (Circle c r) = record { number = r; first = c; second = 0; kind = 3 }
+partsOf (Bezier n) = record { number = 0f; first = 0; second = 0; kind = 4 }
+partsOf (Conic a p b rho) = record { number = 0f; first = 0; second = 0; kind = 4 }
+
+-- what holds of each of the first n entries of a column
+abbrev pub Each : {A : Type 0} → ℕ → A → List A → (ℕ → A → Type 0) → Type 0
+Each n d column P = (k : ℕ) → k < n → P k (getD column k d)
+
+abbrev pub partsAt : List Curve → ℕ → Parts
+partsAt curves k = partsOf (getD curves k noCurve .kind)
+
+-- the first n of the curves: a point's place is what a look-up of its id gives
+pub record CurvesLaid (curves : List Curve) (n : ℕ) (points : List ℕ) (ids₀ kinds₀ firsts₀ seconds₀ : List ℕ) (numbers₀ : List Float)
+    (ids kinds firsts seconds : List ℕ) (numbers : List Float) : Type 0 where
+  pub ids-long : length ids ≡ length ids₀
+  pub kinds-long : length kinds ≡ length kinds₀
+  pub firsts-long : length firsts ≡ length firsts₀
+  pub seconds-long : length seconds ≡ length seconds₀
+  pub numbers-long : length numbers ≡ length numbers₀
+  pub ids-are : take n ids ≡ curveIds (take n curves)
+  pub each-kind : Each n 0 kinds (λ k kind. kind ≡ partsAt curves k .kind)
+  pub each-first : Each n 0 firsts (λ k i. Found (partsAt curves k .first) points i)
+  pub each-second : Each n 0 seconds (λ k i. Found (partsAt curves k .second) points i)
+  pub each-number : Each n nan numbers (λ k v. v ≡ partsAt curves k .number)

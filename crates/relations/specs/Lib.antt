@@ -1,0 +1,5 @@
+-- What the contracts of `relations` cite.
+pub mod Met
+pub mod Columns
+pub mod Filled
+pub mod Answer

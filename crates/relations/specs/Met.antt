@@ -1,0 +1,93 @@
+-- Which relations of a drawing are met: those that hold within 1e-7. Each operation is rounded once, from left to right. Definitions only.
+use Prim.Native.Nat.{ℕ, zero, suc}
+use mathlib.Core.Bool.{Bool, true, false, not}
+use mathlib.Core.List.{List, [], _∷_}
+use mathlib.Core.Option.{Option, some, none}
+use lib.Ieee.{Float, nan, le}
+use Rattle.float.specs.Numbers.{_⊖_, ½, 1e-7}
+use Rattle.float.specs.Sign.{abs}
+use Rattle.geom.specs.Plane.{_+ᵥ_, _·ᵥ_, distance}
+use Rattle.geom.specs.declared.Vec2.{Vec2}
+use Rattle.shape.specs.Measures.{dist}
+use Rattle.shape.specs.declared.Shape.{Shape}
+use Rattle.shape.specs.declared.Shape.the-variants as S
+use Rattle.sketch.specs.Lists.{pick, every}
+use Rattle.sketch.specs.Drawing.{Drawing}
+use Rattle.sketch.specs.declared.Point.{Point}
+use Rattle.sketch.specs.declared.Curve.{Curve}
+use Rattle.sketch.specs.declared.Relation.{Relation}
+use Rattle.sketch.specs.declared.Relation.the-variants.{Coincident, PointOnCurve, Collinear, Equal, Length, Distance, Midpoint, ArcLength, ArcSweep}
+use Rattle.placed.specs.Placed.{at, nowhere, shapeIn}
+
+-- ---- measures
+
+-- a distance counts as none
+abbrev pub small : Float → Bool
+small d = le d 1e-7
+
+-- two measures count as one
+abbrev pub same : Float → Float → Bool
+same x y = small (abs (x ⊖ y))
+
+-- two points count as one
+abbrev pub close : Vec2 → Vec2 → Bool
+close p q = small (distance p q)
+
+-- a point lies on the endless line or the full circle; of a freeform curve nothing is measured
+unfoldable pub on : Option Shape → Vec2 → Bool
+on none p = true
+on (some sh) p = small (dist sh p)
+
+-- a line's length, a round's radius
+unfoldable pub extent : Option Shape → Float
+extent none = nan
+extent (some (S.Line a b)) = distance a b
+extent (some (S.Round c r start sweep)) = r
+
+-- a line's ends
+unfoldable pub ends : Option Shape → List Vec2
+ends none = []
+ends (some (S.Line a b)) = a ∷ b ∷ []
+ends (some (S.Round c r start sweep)) = []
+
+-- a line's middle
+unfoldable pub middle : Option Shape → Vec2
+middle none = nowhere
+middle (some (S.Line a b)) = (a +ᵥ b) ·ᵥ ½
+middle (some (S.Round c r start sweep)) = nowhere
+
+-- ---- relations
+
+-- one relation, among these points and curves; of an arc's length and sweep nothing is measured
+unfoldable pub met : List Point → List Curve → Relation → Bool
+met ps cs (Coincident p q) = close (at ps p) (at ps q)
+met ps cs (PointOnCurve p c) = on (shapeIn ps cs c) (at ps p)
+met ps cs (Collinear a b) = every (on (shapeIn ps cs a)) (ends (shapeIn ps cs b))
+met ps cs (Equal a b) = same (extent (shapeIn ps cs a)) (extent (shapeIn ps cs b))
+met ps cs (Length l v) = same (extent (shapeIn ps cs l)) v
+met ps cs (Distance p q v) = same (distance (at ps p) (at ps q)) v
+met ps cs (Midpoint p l) = close (at ps p) (middle (shapeIn ps cs l))
+met ps cs (ArcLength c v) = true
+met ps cs (ArcSweep c v) = true
+
+abbrev pub allMet : Drawing → Bool
+allMet d = every (met (d .points) (d .curves)) (d .relations)
+
+-- there is an entry at the place, and it fails the test
+abbrev pub failsAt : {A : Type 0} → (A → Bool) → List A → ℕ → Bool
+failsAt f [] k = false
+failsAt f (a ∷ l) zero = not (f a)
+failsAt f (a ∷ l) (suc k) = failsAt f l k
+
+-- the relation at the place is not met
+abbrev pub unmetAt : Drawing → ℕ → Bool
+unmetAt d k = failsAt (met (d .points) (d .curves)) (d .relations) k
+
+-- the place of the first entry that fails the test; the number of entries where none does
+abbrev pub firstFailing : {A : Type 0} → (A → Bool) → List A → ℕ
+firstFailing f [] = 0
+firstFailing f (a ∷ l) = pick (f a) (suc (firstFailing f l)) 0
+
+-- the place of the first relation that is not met; their number where all are
+abbrev pub firstUnmet : List Point → List Curve → List Relation → ℕ
+firstUnmet ps cs rs = firstFailing (met ps cs) rs

@@ -1,0 +1,54 @@
+// The points of freeform curves.
+ghost use Prim.Native.Nat.{_≤_};
+ghost use mathlib.Core.Path.{_≡_};
+ghost use lib.ListN.{length, take};
+ghost use Rattle.support.specs.Freeform.{pointAt};
+ghost use Rattle.support.specs.Pieces.{bezierOf, conicOf};
+ghost use Rattle.support.specs.Handed.{curveOf, atMost8, Controls};
+use crate::Form;
+use geom::Vec2;
+
+const CONTROLS: usize = 8;
+
+// A conic's point: the polynomial of the coordinates times the weights 1, w, 1, over that of the weights.
+fn rational_point<'a>(w: f64, xs: &'a [f64], ys: &'a [f64], t: f64) -> Vec2
+    requires { ⌜ (3 ≤ length (now xs)) × (3 ≤ length (now ys)) ⌝ }
+    ensures { λ r. ⌜ r ≡ pointAt (conicOf w (now (xs .entry)) (now (ys .entry))) t ⌝ }
+{
+    let across = [xs[0] * 1.0, xs[1] * w, xs[2] * 1.0];
+    let up = [ys[0] * 1.0, ys[1] * w, ys[2] * 1.0];
+    let weights = [1.0, w, 1.0];
+    let p = Vec2::new(bernstein::evaluate(&across, t), bernstein::evaluate(&up, t));
+    p.div(bernstein::evaluate(&weights, t))
+}
+
+pub(crate) fn curve_point<'a>(curve: Form, xs: &'a [f64], ys: &'a [f64], t: f64) -> Vec2
+    requires { ⌜ Controls curve (now xs) (now ys) ⌝ }
+    ensures { λ r. ⌜ r ≡ pointAt (curveOf curve (now (xs .entry)) (now (ys .entry))) t ⌝ }
+{
+    match curve {
+        Form::Polynomial => Vec2::new(bernstein::evaluate(xs, t), bernstein::evaluate(ys, t)),
+        Form::Rational(w) => rational_point(w, xs, ys, t),
+    }
+}
+
+pub(crate) fn at_most_8(n: usize) -> usize
+    ensures { λ r. ⌜ (r ≡ atMost8 n) × (r ≤ 8) ⌝ }
+{
+    if n <= CONTROLS { n } else { CONTROLS }
+}
+
+// The point at t of the Bézier curve with the first n control points.
+pub fn bezier_point(n: usize, xs: [f64; 8], ys: [f64; 8], t: f64) -> Vec2
+    ensures { λ r. ⌜ r ≡ pointAt (bezierOf (take n xs) (take n ys)) t ⌝ }
+{
+    let k = at_most_8(n);
+    curve_point(Form::Polynomial, &xs[..k], &ys[..k], t)
+}
+
+// The point at t of the conic with the first three control points and the weight w of its apex.
+pub fn conic_point(w: f64, xs: [f64; 8], ys: [f64; 8], t: f64) -> Vec2
+    ensures { λ r. ⌜ r ≡ pointAt (conicOf w xs ys) t ⌝ }
+{
+    rational_point(w, &xs, &ys, t)
+}

@@ -1,0 +1,45 @@
+//! Edits of an image: one call a piece, and one call many times over for timing.
+
+mod interface {
+    extern "C" {
+        pub fn mulkefi_edit(
+            operation: u32,
+            image: *const u8,
+            len: usize,
+            curve: u32,
+            x: f64,
+            y: f64,
+            out: *mut u8,
+            out_len: usize,
+        ) -> u32;
+        pub fn mulkefi_edit_repeated(
+            operation: u32,
+            image: *const u8,
+            len: usize,
+            curve: u32,
+            x: f64,
+            y: f64,
+            times: u32,
+        ) -> u32;
+    }
+}
+
+/// Answers the refusal's number, with the place of a relation not met times 65,536 added. An
+/// accepted edit writes the removed curve and its ends, then the image, to the front of `out`.
+#[inline]
+pub fn edit(operation: u32, image: &[u8], curve: u32, x: f64, y: f64, out: &mut [u8]) -> u32 {
+    let (bytes, len) = (image.as_ptr(), image.len());
+    // SAFETY: both slices are lent for the call, and the engine stays within their lengths.
+    unsafe {
+        interface::mulkefi_edit(operation, bytes, len, curve, x, y, out.as_mut_ptr(), out.len())
+    }
+}
+
+/// Reads the image once, then tests the sketch and does the edit so many times from it. Answers
+/// a sum over what came out.
+#[inline]
+pub fn repeated(operation: u32, image: &[u8], curve: u32, x: f64, y: f64, times: u32) -> u32 {
+    let (bytes, len) = (image.as_ptr(), image.len());
+    // SAFETY: the slice is lent for the call, and the engine stays within its length.
+    unsafe { interface::mulkefi_edit_repeated(operation, bytes, len, curve, x, y, times) }
+}

@@ -1,0 +1,158 @@
+//! Whole runs: what a desk is asked, and what comes to the wall of the messages it wrote.
+
+use super::messages::{damage, message_bytes};
+use super::random::Random;
+use super::{bridges, cuts, edits, extensions};
+use crate::drawing::{Drawing, Id};
+use crate::exhibit::Screen;
+use crate::image;
+use crate::message::{self, Edit, Message};
+use crate::program::MAX_INPUT;
+
+/// The most edits in a run.
+pub const MOST_EDITS: usize = 40;
+
+pub struct Run {
+    pub start: Drawing,
+    /// What the desk is asked, refused ones too, each with the room lent for its message.
+    pub calls: Vec<(Edit, usize)>,
+    /// What the wall is given: the desk's messages lost, repeated, out of order, damaged, and
+    /// others that the desk never wrote.
+    pub deliveries: Vec<Vec<u8>>,
+}
+
+impl Run {
+    pub fn any(random: &mut Random) -> Run {
+        let (start, first) = start(random);
+        let mut desk = Screen::new(start.clone());
+        let (mut calls, mut written) = (Vec::new(), Vec::new());
+        let count = random.pick(&[0, 1, 2, 4, 8, 15, MOST_EDITS]);
+        for at in 0..count {
+            let edit = match first {
+                Some(edit) if at == 0 => edit,
+                _ => edits::edit(random, &desk.drawing),
+            };
+            let room = random.weighted(&[(40, message::SIZE), (4, 40), (1, 29), (1, 0)]);
+            let mut out = vec![0; room];
+            if desk.edit(&edit, &mut out).is_ok() {
+                written.push(out[..message::SIZE].to_vec());
+            } else if random.one_in(4) {
+                // The wall is asked too, and refuses it.
+                let number = desk.count.saturating_add(1);
+                written.push(message::to_bytes(&Message { number, edit }).to_vec());
+            }
+            calls.push((edit, room));
+        }
+        let deliveries = deliveries(random, written);
+        Run { start, calls, deliveries }
+    }
+
+    /// The input of the wall's program: the image and the deliveries as they come.
+    pub fn input(&self) -> Vec<u8> {
+        let mut input = image::to_bytes(&self.start);
+        self.deliveries.iter().for_each(|bytes| input.extend(bytes));
+        input
+    }
+}
+
+/// A drawing, with an edit of it that is worth making first.
+fn start(random: &mut Random) -> (Drawing, Option<Edit>) {
+    match random.below(4) {
+        0 => {
+            let (drawing, edit) = cuts::cut(random);
+            (drawing, Some(edit))
+        }
+        1 => {
+            let (drawing, edit) = extensions::extension(random);
+            (drawing, Some(edit))
+        }
+        _ => (bridges::any_drawing(random), None),
+    }
+}
+
+/// The messages as they were written, or with a few of the mishaps that can befall them.
+fn deliveries(random: &mut Random, mut messages: Vec<Vec<u8>>) -> Vec<Vec<u8>> {
+    if messages.is_empty() || random.one_in(4) {
+        return messages;
+    }
+    for _ in 0..1 + random.below(6) {
+        let at = random.below(messages.len());
+        let other = random.below(messages.len());
+        match random.below(8) {
+            0 if messages.len() > 1 => {
+                messages.remove(at);
+            }
+            1 | 2 => messages.insert(other, messages[at].clone()),
+            3 => messages.swap(at, other),
+            4 => messages.insert(at, foreign(random)),
+            5 => messages[at] = changed(random, &messages[at]),
+            6 => {
+                let copy = changed(random, &messages[at]);
+                messages.insert(at, copy);
+            }
+            _ => messages[other..].reverse(),
+        }
+    }
+    messages
+}
+
+/// A message from elsewhere, thirty bytes long so that those behind it keep their places.
+fn foreign(random: &mut Random) -> Vec<u8> {
+    let mut bytes = message_bytes(random);
+    bytes.resize(message::SIZE, 0);
+    bytes
+}
+
+/// A message of the same number with another edit, or with a damage that may move all behind it.
+fn changed(random: &mut Random, bytes: &[u8]) -> Vec<u8> {
+    let mut bytes = bytes.to_vec();
+    match message::read(&bytes) {
+        Ok(Message { number, mut edit }) if random.one_in(2) => {
+            edit.curve = random.pick(&[edit.curve, edit.curve.wrapping_add(1), Id::MAX]);
+            edit.x += random.pick(&[0.0, 0.5, -1.0]);
+            message::to_bytes(&Message { number, edit }).to_vec()
+        }
+        _ => {
+            bytes.resize(message::SIZE, 0);
+            damage(random, &mut bytes);
+            if !random.one_in(8) {
+                bytes.resize(message::SIZE, 0);
+            }
+            bytes
+        }
+    }
+}
+
+/// The program's input, at times with a damaged image, a shorter rest, or as long as it may be.
+pub fn input(random: &mut Random) -> Vec<u8> {
+    let run = Run::any(random);
+    let mut input = run.input();
+    match random.below(100) {
+        0..=3 => {
+            let mut image = image::to_bytes(&run.start);
+            let size = image.len();
+            super::damage::damage(random, &mut image);
+            input.splice(..size, image);
+        }
+        4..=6 => input.truncate(random.below(input.len() + 1)),
+        7..=9 => input.extend((0..random.below(message::SIZE)).map(|_| random.bits() as u8)),
+        10 => return up_to_the_limit(random, &run),
+        _ => {}
+    }
+    input
+}
+
+/// Messages that change nothing before those of the run, so many that the last ones stand about
+/// the end of what is read.
+fn up_to_the_limit(random: &mut Random, run: &Run) -> Vec<u8> {
+    let mut input = image::to_bytes(&run.start);
+    let messages = run.deliveries.concat();
+    let end = MAX_INPUT + random.pick(&[0, 1, 15, 29, 30, 31, 300, 1000]);
+    let filler = random.pick(&[[0; message::SIZE], [7; message::SIZE]]);
+    let room = end.saturating_sub(input.len() + messages.len());
+    for _ in 0..room / message::SIZE {
+        input.extend(filler);
+    }
+    input.extend(messages);
+    input
+}

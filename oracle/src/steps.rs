@@ -1,0 +1,64 @@
+//! A desk or wall whose state the caller holds: an image and a count in, the next ones out.
+
+use crate::call::answer;
+use crate::edit::{Refused, Report};
+use crate::exhibit::{Delivery, Screen};
+use crate::image;
+use crate::message::Edit;
+
+/// What is handed to a call and comes back from it.
+#[derive(Clone, Debug, PartialEq, Eq)]
+pub struct State {
+    pub image: Vec<u8>,
+    pub count: u32,
+}
+
+/// What a call answers.
+#[derive(Clone, Debug, PartialEq, Eq)]
+pub struct Step {
+    /// 0, or a refusal's number with the place of a relation not met times 65,536 added.
+    pub answer: u32,
+    /// Whether a delivery was old, which is no refusal.
+    pub old: bool,
+    pub report: Report,
+    /// As it was, unless an edit was done.
+    pub state: State,
+}
+
+impl State {
+    fn screen(&self) -> Result<Screen, Refused> {
+        Ok(Screen { drawing: image::read(&self.image)?, count: self.count })
+    }
+
+    fn after(&self, done: Result<(Screen, Option<Report>), Refused>) -> Step {
+        let answer = answer(&done);
+        let (state, report) = match done {
+            Ok((screen, report)) => {
+                (State { image: image::to_bytes(&screen.drawing), count: screen.count }, report)
+            }
+            Err(_) => (self.clone(), Some(Report::default())),
+        };
+        Step { answer, old: report.is_none(), report: report.unwrap_or_default(), state }
+    }
+
+    /// The desk's call; an accepted one writes its message to the front of the buffer.
+    pub fn edit(&self, edit: &Edit, out: &mut [u8]) -> Step {
+        let done = self.screen().and_then(|mut desk| {
+            let report = desk.edit(edit, out)?;
+            Ok((desk, Some(report)))
+        });
+        self.after(done)
+    }
+
+    /// The wall's call.
+    pub fn deliver(&self, bytes: &[u8]) -> Step {
+        let done = self.screen().and_then(|mut wall| {
+            let report = match wall.deliver(bytes)? {
+                Delivery::Old => None,
+                Delivery::Done(report) => Some(report),
+            };
+            Ok((wall, report))
+        });
+        self.after(done)
+    }
+}
