@@ -11,3 +11,4 @@ pub mod Levels
 pub mod SortedLists
 pub mod KeptApart
 pub mod StepsSpent
+pub mod RefusedBy

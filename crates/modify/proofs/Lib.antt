@@ -7,3 +7,11 @@ pub mod Choices
 pub mod Chosen
 pub mod Gathers
 pub mod Answers
+pub mod Uses
+pub mod Nearby
+pub mod Contacts
+pub mod Shifts
+pub mod Refusing
+pub mod Endings
+pub mod Extends
+pub mod Extended

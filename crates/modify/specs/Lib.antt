@@ -3,3 +3,4 @@ pub mod Choose
 pub mod Extend
 pub mod Edits
 pub mod Told
+pub mod Seek

@@ -1,13 +1,21 @@
 // Trim, split and extend: the tests, the choice of a plan, and carrying it out.
 mod choosing;
 mod edits;
+mod extending;
 mod gathering;
+mod meeting;
+mod moving;
 mod pins;
+mod seeking;
+mod users;
 
+use carry::Pin;
 use carry::Plan;
 use cuts::Other;
 pub use edits::split;
 pub use edits::trim;
+pub use extending::extend;
+use geom::Vec2;
 
 // What is to be done with the curve that was picked, or the number of a refusal.
 pub enum Choice {
@@ -26,4 +34,37 @@ struct Gathered {
 struct Target {
     refusal: u8,
     place: usize,
+}
+
+// The coordinates of a freeform curve's control points, at the front.
+struct Controls {
+    xs: [f64; 8],
+    ys: [f64; 8],
+}
+
+// The nearest hit so far, if there is one: how far beyond the end it lies, where, on which curve, and whether another lies as near.
+struct Nearest {
+    found: bool,
+    gap: f64,
+    at: Vec2,
+    by: u32,
+    tied: bool,
+}
+
+// One curve looked at: the number of a refusal, or the nearest hit then, and the budget that is left.
+enum Looked {
+    Stopped(u8),
+    Went(Nearest, usize),
+}
+
+// All curves looked at: the number of a refusal, or the nearest hit.
+enum Reached {
+    Stopped(u8),
+    Best(Nearest),
+}
+
+// What becomes of the end of a line: the number of a refusal; or that the end, or (false) the start, the point at a place, moves.
+enum Ending {
+    Refused(u8),
+    Move(bool, usize, Vec2, Pin),
 }

@@ -1,0 +1,62 @@
+// Worked examples that no theorem states, run on the engine.
+use bernstein::Roots;
+use exhibit::DeskTold;
+use image::Operation;
+use libc::STDOUT_FILENO;
+
+// Room for an image.
+const IMAGE: usize = 1024;
+
+const MESSAGE: usize = 30;
+
+// Room for roots, and a budget.
+const ROOTS: usize = 28;
+
+const BUDGET: usize = 1000;
+
+fn say(words: &[u8], number: u64) {
+    io::write_all(STDOUT_FILENO, words);
+    io::print_decimal(STDOUT_FILENO, number);
+    io::write_all(STDOUT_FILENO, b"\n");
+}
+
+fn roots(words: &[u8], coefficients: &[f64]) {
+    let mut found = [0.0; ROOTS];
+    io::write_all(STDOUT_FILENO, words);
+    match bernstein::search::roots(coefficients, &mut found, BUDGET) {
+        Roots::Found(n, _) => say(b": found ", n as u64),
+        Roots::Refused(number, _) => say(b": refused by ", number as u64),
+    }
+}
+
+// An extend of the line 3 in an image.
+fn extend(words: &[u8], path: &[u8], x: f64, y: f64) {
+    let fd = os::open_read(path);
+    if fd < 0 {
+        io::write_all(STDOUT_FILENO, b"not read\n");
+        return;
+    }
+    let mut bytes = [0u8; IMAGE];
+    let mut message = [0u8; MESSAGE];
+    let n = io::read_full(fd, &mut bytes);
+    libc::close(fd);
+    let started = exhibit::start(&bytes[..n]);
+    let screen = started.screen;
+    let answer = exhibit::desk_edit(screen, Operation::Extend, 3, x, y, &mut message);
+    let told = answer.told;
+    io::write_all(STDOUT_FILENO, words);
+    match told {
+        DeskTold::Declined(number, _) => say(b": refused by ", number as u64),
+        DeskTold::Done(_) => say(b": accepted, count ", answer.screen.count as u64),
+    }
+}
+
+fn main() {
+    let many = [1.0; 16];
+    let lone = [5.0; 1];
+    roots(b"roots of 16 coefficients", &many);
+    roots(b"roots of a lone 5", &lone);
+    extend(b"extend at (2, 0)", b"extend.bin", 2.0, 0.0);
+    extend(b"extend at (0, 0)", b"extend.bin", 0.0, 0.0);
+    extend(b"extend with a second line as near", b"tie.bin", 2.0, 0.0);
+}

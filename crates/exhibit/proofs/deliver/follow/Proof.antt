@@ -1,0 +1,99 @@
+use Rattle.exhibit.proofs.Delivered.{wall-fault, wall-old, wall-ahead, wall-nan, wall-declined, wall-applied}
+use Rattle.exhibit.proofs.Outcomes.{both-numbers, may-float}
+use borrow.Author.Tests.{not-true, not-false}
+use native.Mathlib.Omega.{arith}
+use borrow.Author.Needs.{needs}
+use Rattle.exhibit.proofs.deliver.follow.Statement.{statement}
+use Rattle.exhibit.proofs.deliver.follow.Tie as tie
+use Rattle.exhibit.proofs.deliver.follow.Reads as reads
+use Rattle.exhibit.proofs.deliver.follow.Lts as lts
+use Rattle.exhibit.proofs.deliver.is_number.Reads as is-number-reads
+use Rattle.exhibit.proofs.dispatch.edited.Reads as edited-reads
+use Rattle.exhibit.proofs.dispatch.first_fault.Reads as first-fault-reads
+use Rattle.exhibit.proofs.dispatch.place_told.Reads as place-told-reads
+use Rattle.sketch.proofs.fault.Reads as fault-reads
+
+-- src/deliver.rt:30:13
+fault-requires : tie.Need-fault-requires
+fault-requires c κs = search needs
+
+-- src/deliver.rt:32:13
+returns : tie.Need-returns
+returns c = λ bytes is. wall-fault (c .before .before .before .before .before .args .screen) bytes (c .before .before .before .before .before .args .m) is _ (c .before .fault .ensures) (c .if2 .taken)
+
+-- src/deliver.rt:37:9
+returns-2 : tie.Need-returns-2
+returns-2 c = λ bytes is. wall-old (c .before .before .before .before .before .args .screen) bytes (c .before .before .before .before .before .args .m) is (c .before .before .if1 .taken) _ (c .before .fault .ensures) (c .if2 .left)
+
+-- src/deliver.rt:42:8
+sub-if3 : tie.Need-sub-if3
+sub-if3 c = search needs
+
+-- src/deliver.rt:45:38
+first-fault-requires : tie.Need-first-fault-requires
+first-fault-requires c κs = search needs
+
+-- src/deliver.rt:43:9
+returns-3 : tie.Need-returns-3
+returns-3 c = λ bytes is. wall-ahead (c .before .before .before .before .before .before .args .screen) bytes (c .before .before .before .before .before .before .args .m) is (c .before .before .before .if1 .left) (λ h. c .before .if3 .taken (omega arith)) _ (c .first-fault .ensures)
+
+-- src/deliver.rt:48:10
+is-number-requires : tie.Need-is-number-requires
+is-number-requires c κs = search needs
+
+-- src/deliver.rt:48:27
+is-number-requires-2 : tie.Need-is-number-requires-2
+is-number-requires-2 c κs = search needs
+
+-- src/deliver.rt:51:38
+first-fault-requires-2 : tie.Need-first-fault-requires-2
+first-fault-requires-2 c κs = search needs
+
+-- src/deliver.rt:49:9
+returns-4 : tie.Need-returns-4
+returns-4 c = λ bytes is. wall-nan (c .before .before .before .before .before .before .before .before .before .args .screen) bytes (c .before .before .before .before .before .before .before .before .before .args .m) is (c .before .before .before .before .before .before .if1 .left) (omega arith) (both-numbers (c .before .before .before .before .before .before .before .before .before .args .m .x) (c .before .before .before .before .before .before .before .before .before .args .m .y) (c .before .before .before .is-number .ensures) (c .before .before .is-number2 .ensures) (not-true _ (c .before .if4 .taken))) _ (c .first-fault2 .ensures)
+
+-- src/deliver.rt:56:12
+float-from-bits-t24 : tie.Need-float-from-bits-t24
+float-from-bits-t24 c = may-float (c .before .before .before .before .before .before .before .before .before .args .m .x) (c .before .before .before .before .before .before .before .before .before .args .m .y) (both-numbers (c .before .before .before .before .before .before .before .before .before .args .m .x) (c .before .before .before .before .before .before .before .before .before .args .m .y) (c .before .before .before .is-number .ensures) (c .before .before .is-number2 .ensures) (not-false _ (c .before .if4 .left))) .0
+
+-- src/deliver.rt:57:12
+float-from-bits-t25 : tie.Need-float-from-bits-t25
+float-from-bits-t25 c = may-float (c .before .before .before .before .before .before .before .before .before .before .args .m .x) (c .before .before .before .before .before .before .before .before .before .before .args .m .y) (both-numbers (c .before .before .before .before .before .before .before .before .before .before .args .m .x) (c .before .before .before .before .before .before .before .before .before .before .args .m .y) (c .before .before .before .before .is-number .ensures) (c .before .before .before .is-number2 .ensures) (not-false _ (c .before .before .if4 .left))) .1
+
+-- src/deliver.rt:59:9
+edited-requires : tie.Need-edited-requires
+edited-requires c κs = search needs
+
+-- src/deliver.rt:63:49
+place-told-requires : tie.Need-place-told-requires
+place-told-requires c κs = search needs
+
+-- src/deliver.rt:61:9
+returns-5 : tie.Need-returns-5
+returns-5 c = λ bytes is. wall-declined (c .before .before .before .before .before .before .before .before .before .before .before .before .before .before .args .screen) bytes (c .before .before .before .before .before .before .before .before .before .before .before .before .before .before .args .m) is (c .before .before .before .before .before .before .before .before .before .before .before .if1 .left) (omega arith) _ (c .before .before .before .edited .ensures) (c .before .if5 .taken) _ (c .place-told .ensures)
+
+-- src/deliver.rt:24:1
+returns-6 : tie.Need-returns-6
+returns-6 c = λ bytes is. wall-applied (c .before .before .before .before .before .before .before .before .before .before .before .before .before .before .before .args .screen) bytes (c .before .before .before .before .before .before .before .before .before .before .before .before .before .before .before .args .m) is (c .before .before .before .before .before .before .before .before .before .before .before .before .if1 .left) (omega arith) _ (c .before .before .before .before .edited .ensures) (c .before .before .if5 .left)
+
+pub follow-spec : {M : Type 1} → statement M
+follow-spec =
+    tie.close
+    (tie.spec
+    fault-requires
+    returns
+    returns-2
+    sub-if3
+    first-fault-requires
+    returns-3
+    is-number-requires
+    is-number-requires-2
+    first-fault-requires-2
+    returns-4
+    float-from-bits-t24
+    float-from-bits-t25
+    edited-requires
+    place-told-requires
+    returns-5
+    returns-6)

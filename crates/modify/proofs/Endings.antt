@@ -1,0 +1,203 @@
+-- What an extend chooses, one law for each way out of the code. Assumes nothing.
+use mathlib.Core.Path.{_≡_, refl, sym, ap, _∙_, subst}
+use mathlib.Core.Bool.{Bool, true, false, not, _||_, cond}
+use mathlib.Core.List.{List, [], _∷_}
+use mathlib.Core.Option.{some, none}
+use Prim.Native.Nat.{ℕ, zero, suc, _<_}
+use native.Mathlib.Omega.{arith}
+use lib.ListN.{length, getD, length-map, length-take}
+use lib.Seq.{getD-take}
+use lib.Ieee.{Float, le}
+use types.Run.{OneOf, miss}
+use denote.Enum.Declared.{tagOf}
+use borrow.Author.Tests.{eq-eqb, ne-eqb}
+use Rattle.geom.specs.Plane.{distance}
+use Rattle.geom.specs.declared.Vec2.{Vec2}
+use Rattle.shape.specs.declared.Shape.{Shape}
+use Rattle.shape.specs.declared.Shape.the-variants as S
+use Rattle.shape.specs.Measures.{param, point}
+use Rattle.sketch.specs.declared.Point.{Point}
+use Rattle.sketch.specs.declared.Curve.{Curve}
+use Rattle.sketch.specs.declared.CurveKind.{CurveKind}
+use Rattle.sketch.specs.declared.CurveKind.the-variants.{Line, Arc, Circle, Bezier, Conic}
+use Rattle.sketch.proofs.CurveKind as K
+use Rattle.sketch.specs.declared.Sketch.{Sketch}
+use Rattle.sketch.specs.Lists.{pick}
+use Rattle.sketch.specs.Lookup.{among, Ascends, Found}
+use Rattle.sketch.specs.Blanks.{noPoint, noCurve}
+use Rattle.sketch.specs.Drawing.{Drawing, view, limits, pointIds, curveIds, curveIn}
+use Rattle.sketch.specs.Facts.{Sized, Valid}
+use Rattle.sketch.proofs.Ascent.{above-ascends, above-at}
+use Rattle.sketch.proofs.Bools.{never, at-most-or-above}
+use Rattle.sketch.proofs.Facts.{rising-ascends, getD-mapped, curve-at}
+use Rattle.placed.specs.Placed.{at}
+use Rattle.placed.specs.Columns.{PointColumns}
+use Rattle.relations.specs.Met.{allMet}
+use Rattle.carry.specs.declared.Pin.{Pin}
+use Rattle.carry.specs.declared.Plan.the-variants as P
+use Rattle.carry.specs.Tables.{uses, others}
+use Rattle.carry.specs.Steps.{endsAt}
+use Rattle.carry.specs.Suited.{targetOf}
+use Rattle.chains.proofs.Pins.{ends-there}
+use Rattle.modify.specs.declared.Choice.{Choice}
+use Rattle.modify.specs.declared.Choice.the-variants.{Refused, Chosen}
+use Rattle.modify.specs.declared.Nearest.{Nearest}
+use Rattle.modify.specs.declared.Ending.{Ending}
+use Rattle.modify.specs.declared.Ending.the-variants as N
+use Rattle.modify.specs.declared.Reached.{Reached}
+use Rattle.modify.specs.declared.Reached.the-variants as R
+use Rattle.modify.specs.Choose.{unless, pinTo}
+use Rattle.modify.specs.Extend.{Support, Search, sought, seek, moveTo, isFixed, extendEnd, extendCurve}
+use Rattle.modify.specs.Seek.{support, bestIn, searchIn, HeldAt, EndsAt, EndStands}
+use Rattle.modify.proofs.Choices.{ends-line}
+
+-- ---- the place that the end moves to
+
+module _ (d : Drawing) (atB : Bool) (best : Nearest) where
+  pub held-none : best .found ≡ false → Refused 18 ≡ moveTo d atB (sought (bestIn best))
+  unfolding moveTo
+  held-none h = sym (rw h)
+
+  module _ (h : best .found ≡ true) where
+    pub held-tied : best .tied ≡ true → Refused 17 ≡ moveTo d atB (sought (bestIn best))
+    unfolding moveTo unless
+    held-tied k = sym (rw (h, k))
+
+    pub held-moves : best .tied ≡ false → {w : Pin} → w ≡ pinTo (d .points) (best .at) (best .by) (endsAt (curveIn (d .curves) (best .by)))
+        → Chosen (P.Move atB (best .at) w) ≡ moveTo d atB (sought (bestIn best))
+    unfolding moveTo unless
+    held-moves k {w} e = ap (λ (x : Pin). Chosen (P.Move atB (best .at) x)) e ∙ sym (rw (h, k))
+
+-- ---- the end that moves
+
+fixed-at : (ps : List Point) (k : ℕ) → Ascends (pointIds ps) → k < length ps → isFixed ps (getD ps k noPoint .id) ≡ getD ps k noPoint .fixed
+unfolding isFixed
+fixed-at [] k h q = absurd (omega arith)
+fixed-at (p ∷ ps) zero h q = rw (eq-eqb (p .id) (p .id) refl)
+fixed-at (p ∷ ps) (suc k) h q =
+    let u = above-at (p .id) (pointIds ps) k h (rw (length-map ps (λ (x : Point). x .id)) (omega arith)) in
+    let e = getD-mapped (λ (x : Point). x .id) 0 noPoint ps k (omega arith) in
+    rw (ne-eqb (getD ps k noPoint .id) (p .id) (λ x. omega arith)) (fixed-at ps k (above-ascends (p .id) (pointIds ps) h) (omega arith))
+
+module _ (s : Sketch) {ids : List ℕ} {xs ys : List Float} (w : PointColumns (view s .points) ids xs ys) {end k : ℕ} (f : Found end ids k) (h : among end (pointIds (view s .points)) ≡ true) where
+  inside : k < length ids
+  inside = at-most-or-above (length ids) k (λ q. never (sym (f .nowhere (w .rise) (omega (arith, f .within))) ∙ ap (among end) (w .ids-are) ∙ h)) (λ q. q)
+
+  as-many : length ids ≡ length (view s .points)
+  as-many = ap length (w .ids-are) ∙ length-map (view s .points) (λ (x : Point). x .id)
+
+  pub end-place : k < s .npoints
+  end-place = omega (arith, inside, as-many, length-take (s .npoints) (s .points))
+
+  here : getD (view s .points) k noPoint ≡ getD (s .points) k noPoint
+  here = getD-take (s .npoints) (s .points) k noPoint end-place
+
+  found-id : getD (view s .points) k noPoint .id ≡ end
+  found-id =
+      let q : k < length (view s .points) = omega (arith, inside, as-many) in
+      sym (getD-mapped (λ (x : Point). x .id) 0 noPoint (view s .points) k q) ∙ ap (λ (l : List ℕ). getD l k 0) (sym (w .ids-are)) ∙ f .here inside
+
+  pub end-id : getD (s .points) k noPoint .id ≡ end
+  end-id = ap (λ (x : Point). x .id) (sym here) ∙ found-id
+
+  pub end-fixed : isFixed (view s .points) end ≡ getD (s .points) k noPoint .fixed
+  end-fixed =
+      let q : k < length (view s .points) = omega (arith, inside, as-many) in
+      let r : Ascends (pointIds (view s .points)) = subst Ascends (w .ids-are) (w .rise) in
+      ap (isFixed (view s .points)) (sym found-id) ∙ fixed-at (view s .points) k r q ∙ ap (λ (x : Point). x .fixed) here
+
+module _ (d : Drawing) (id : ℕ) (p : Vec2) (s : Support) (end : ℕ) {used : Bool} (u : used ≡ among end (uses (others id (d .curves)))) where
+  abbrev line : Shape
+  line = S.Line (s .a) (s .b)
+
+  abbrev chosen : Choice
+  chosen = moveTo d (s .atB) (seek (d .points) s (point line (param line p)) (others id (d .curves)) none 1000000)
+
+  pub end-used : used ≡ true → Refused 14 ≡ extendEnd d id p s end
+  unfolding extendEnd unless
+  end-used h = sym (ap (λ b. unless (not (b || isFixed (d .points) end)) 14 chosen) (sym u ∙ h))
+
+  module _ (h : used ≡ false) {fixed : Bool} (f : isFixed (d .points) end ≡ fixed) where
+    free : extendEnd d id p s end ≡ unless (not fixed) 14 chosen
+    unfolding extendEnd
+    free = ap (λ b. unless (not (b || isFixed (d .points) end)) 14 chosen) (sym u ∙ h) ∙ ap (λ b. unless (not b) 14 chosen) f
+
+    pub end-stuck : fixed ≡ true → Refused 14 ≡ extendEnd d id p s end
+    unfolding unless
+    end-stuck g = sym (free ∙ ap (λ b. unless (not b) 14 chosen) g)
+
+    module _ (g : fixed ≡ false) {sh : Shape} {t : Float} {foot : Vec2} (l : sh ≡ line) (m : t ≡ param sh p) (n : foot ≡ point sh t) where
+      pub end-sought : {x : Search} → x ≡ seek (d .points) s foot (others id (d .curves)) none 1000000 → {r : Choice} → r ≡ moveTo d (s .atB) x → r ≡ extendEnd d id p s end
+      unfolding unless
+      end-sought {x} e k =
+          let z : foot ≡ point line (param line p) = n ∙ ap (point sh) m ∙ ap (λ (y : Shape). point y (param y p)) l in
+          k ∙ ap (moveTo d (s .atB)) (e ∙ ap (λ (q : Vec2). seek (d .points) s q (others id (d .curves)) none 1000000) z)
+          ∙ sym (free ∙ ap (λ b. unless (not b) 14 chosen) g)
+
+pub held-stands : (s : Sketch) (atB : Bool) (k end : ℕ) (r : Ending) → HeldAt atB k r → k < s .npoints → getD (s .points) k noPoint .id ≡ end → EndsAt s atB end r
+held-stands s atB k end (N.Refused n) h q e = tt
+held-stands s atB k end (N.Move atB′ k′ v w) h q e = (h .0, subst (λ (x : ℕ). x < s .npoints) (sym (h .1)) q, ap (λ (x : ℕ). getD (s .points) x noPoint .id) (h .1) ∙ e)
+
+-- what was reached, as a choice
+module _ (d : Drawing) (atB : Bool) (x : Reached) where
+  pub reached-stop : {n : ℕ} → x ≡ R.Stopped n → Refused n ≡ moveTo d atB (searchIn x)
+  unfolding moveTo
+  reached-stop e = sym (ap (λ (y : Reached). moveTo d atB (searchIn y)) e)
+
+  pub reached-best : {best : Nearest} → x ≡ R.Best best → {r : Choice} → r ≡ moveTo d atB (sought (bestIn best)) → r ≡ moveTo d atB (searchIn x)
+  reached-best e h = h ∙ sym (ap (λ (y : Reached). moveTo d atB (searchIn y)) e)
+
+-- ---- the curve
+
+abbrev pub others-than-line : List ℕ
+others-than-line = 1 ∷ 2 ∷ 3 ∷ 4 ∷ []
+
+pub not-line : (d : Drawing) (p : Vec2) (c : Curve) (k : CurveKind) → OneOf others-than-line (tagOf K.the-type k) → Refused 10 ≡ extendCurve d p c k
+unfolding extendCurve
+not-line d p c (Line i j) h = absurd (miss others-than-line 0 tt h)
+not-line d p c (Arc m i j) h = refl
+not-line d p c (Circle m r) h = refl
+not-line d p c (Bezier n) h = refl
+not-line d p c (Conic i m j rho) h = refl
+
+module _ (d : Drawing) (p : Vec2) (c : Curve) {k : CurveKind} {i j : ℕ} (e : k ≡ Line i j) where
+  abbrev nearer : Bool
+  nearer = le (distance p (at (d .points) j)) (distance p (at (d .points) i))
+
+  abbrev ended : Choice
+  ended = extendEnd d (c .id) p (support (at (d .points) i) (at (d .points) j) nearer) (cond nearer j i)
+
+  pub unmet-line : allMet d ≡ false → Refused 13 ≡ extendCurve d p c k
+  unfolding extendCurve unless
+  unmet-line m = sym (ap (extendCurve d p c) e ∙ ap (λ b. unless b 13 ended) m)
+
+  module _ (m : allMet d ≡ true) {a b : Vec2} (u : a ≡ at (d .points) i) (v : b ≡ at (d .points) j) {da db : Float} (x : db ≡ distance p b) (y : da ≡ distance p a) where
+    as-measured : extendEnd d (c .id) p (support a b (le db da)) (cond (le db da) j i) ≡ extendCurve d p c k
+    unfolding extendCurve unless
+    as-measured = rw (x, y, u, v) (sym (ap (extendCurve d p c) e ∙ ap (λ t. unless t 13 ended) m))
+
+    pub line-at-b : le db da ≡ true → {r : Choice} → r ≡ extendEnd d (c .id) p (support a b true) j → r ≡ extendCurve d p c k
+    line-at-b h f = f ∙ ap (λ t. extendEnd d (c .id) p (support a b t) (cond t j i)) (sym h) ∙ as-measured
+
+    pub line-at-a : le db da ≡ false → {r : Choice} → r ≡ extendEnd d (c .id) p (support a b false) i → r ≡ extendCurve d p c k
+    line-at-a h f = f ∙ ap (λ t. extendEnd d (c .id) p (support a b t) (cond t j i)) (sym h) ∙ as-measured
+
+module _ (s : Sketch) (place : ℕ) {i j : ℕ} (e : targetOf s place .kind ≡ Line i j) where
+  pub stands-at-b : (r : Ending) → EndsAt s true j r → EndStands s place r
+  stands-at-b (N.Refused n) h = tt
+  stands-at-b (N.Move atB k v w) h = ((i, j), ends-line e, h .1, h .2 ∙ sym (ap (λ b. pick b j i) (h .0)))
+
+  pub stands-at-a : (r : Ending) → EndsAt s false i r → EndStands s place r
+  stands-at-a (N.Refused n) h = tt
+  stands-at-a (N.Move atB k v w) h = ((i, j), ends-line e, h .1, h .2 ∙ sym (ap (λ b. pick b j i) (h .0)))
+
+  module _ (z : Sized s) (v : Valid limits (view s)) (h : place < s .ncurves) (g : length (s .curves) ≡ 128) where
+    found : curveIn (view s .curves) (targetOf s place .id) ≡ some (targetOf s place)
+    found =
+        let q : place < length (view s .curves) = rw length-take (omega (arith, z .curves)) in
+        subst (λ (x : Curve). curveIn (view s .curves) (x .id) ≡ some x) (getD-take (s .ncurves) (s .curves) place noCurve h)
+        (curve-at noCurve (view s .curves) place (rising-ascends (s .next) 0 (curveIds (view s .curves)) (v .curves-rise)) q)
+
+    pub line-ends : (among i (pointIds (view s .points)) ≡ true) × (among j (pointIds (view s .points)) ≡ true)
+    unfolding endsAt
+    line-ends = ends-there limits (view s) v (targetOf s place .id) (i, j) (ap endsAt found ∙ ends-line e)

@@ -1,0 +1,300 @@
+-- What an extend answers, one law for each way out of the code. Assumes nothing.
+use mathlib.Core.Path.{_≡_, refl, sym, ap, _∙_, subst}
+use mathlib.Core.Bool.{Bool, true, false, not, _&&_}
+use mathlib.Core.List.{List, [], _∷_}
+use Prim.Native.Nat.{ℕ, zero, suc, _≤_, _<_}
+use native.Mathlib.Omega.{arith}
+use lib.Dec.{eqb, ltb}
+use lib.ListN.{length, getD}
+use types.Run.{OneOf}
+use denote.Enum.Declared.{tagOf}
+use borrow.Author.Tests.{eq-eqb, ne-eqb, eqb-true}
+use Rattle.geom.specs.declared.Vec2.{Vec2}
+use Rattle.sketch.specs.declared.Curve.{Curve}
+use Rattle.sketch.specs.declared.CurveKind.the-variants.{Line}
+use Rattle.sketch.proofs.CurveKind as K
+use Rattle.sketch.specs.declared.Relation.the-variants.{Coincident, PointOnCurve}
+use Rattle.sketch.specs.declared.Sketch.{Sketch}
+use Rattle.sketch.specs.Lists.{pick, every}
+use Rattle.sketch.specs.Blanks.{noPoint}
+use Rattle.sketch.specs.Drawing.{Drawing, view, limits}
+use Rattle.sketch.specs.Facts.{Sized, Valid}
+use Rattle.sketch.specs.Valid.{sketchFault}
+use Rattle.sketch.proofs.Bools.{never}
+use Rattle.sketch.proofs.Sketches.{sketch-valid, valid-sketch}
+use Rattle.image.specs.declared.Operation.the-variants.{Extend}
+use Rattle.relations.specs.declared.Verdict.{Verdict}
+use Rattle.relations.specs.declared.Verdict.the-variants as Verdicts
+use Rattle.relations.specs.Met.{met, allMet, failsAt, unmetAt}
+use Rattle.relations.specs.Answer.{Told}
+use Rattle.carry.specs.declared.Pin.{Pin}
+use Rattle.carry.specs.declared.Pin.the-variants.{On, At}
+use Rattle.carry.specs.declared.Plan.the-variants as P
+use Rattle.carry.specs.declared.Edited.{Edited}
+use Rattle.carry.specs.declared.Removed.{Removed}
+use Rattle.carry.specs.Outcome.{Outcome, refused, accepted, _then_, need}
+use Rattle.carry.specs.Tables.{okPlace, movePoint, withRelation}
+use Rattle.carry.specs.Steps.{pin, nothing}
+use Rattle.carry.specs.CarryOut.{settle, extended, carried, carryAt, carryOut}
+use Rattle.carry.specs.Suited.{Pinned, outcomeOf, targetOf}
+use Rattle.carry.proofs.Tables.{look-some}
+use Rattle.chains.proofs.Edits.{plan-valid}
+use Rattle.modify.specs.declared.Choice.the-variants.{Refused, Chosen}
+use Rattle.modify.specs.declared.Ending.{Ending}
+use Rattle.modify.specs.declared.Ending.the-variants as N
+use Rattle.modify.specs.declared.Target.{Target}
+use Rattle.modify.specs.Choose.{unless}
+use Rattle.modify.specs.Edits.{onCurve, onFound, decided, editSketch, editUntested, Answered}
+use Rattle.modify.specs.Extend.{extendCurve}
+use Rattle.modify.specs.Told.{Begun, Tested}
+use Rattle.modify.specs.Seek.{choiceOf, EndStands, MovedTo, Settled}
+use Rattle.modify.proofs.Answers.{test-fault}
+use Rattle.modify.proofs.Moves.{extend-chosen}
+use Rattle.modify.proofs.Refusing as F
+use Rattle.modify.proofs.Refusing.{extend-number, fault-low}
+use Rattle.modify.proofs.Endings.{others-than-line, not-line, unmet-line}
+
+-- ---- whether the relations are met after the move
+
+not-every : {A : Type 0} (f : A → Bool) (l : List A) (k : ℕ) → failsAt f l k ≡ true → every f l ≡ false
+not-every f [] k h = sym h
+not-every f (a ∷ l) zero h = go (f a) h
+  where
+    go : (b : Bool) → not b ≡ true → (b && every f l) ≡ false
+    go true h = never h
+    go false h = refl
+not-every f (a ∷ l) (suc k) h = go (f a) (not-every f l k h)
+  where
+    go : (b : Bool) → every f l ≡ false → (b && every f l) ≡ false
+    go true h = h
+    go false h = refl
+
+pub not-all : (d : Drawing) (k : ℕ) → unmetAt d k ≡ true → allMet d ≡ false
+not-all d k h = not-every (met (d .points) (d .curves)) (d .relations) k h
+
+module _ {s : Sketch} {e r : Edited} where
+  pub settled-out : (e .refusal ≡ 0 → ⊥) → r .sketch ≡ s → r .refusal ≡ e .refusal → Settled s e r
+  settled-out h f g = record { turned = λ q. (g, f); met = λ q. absurd (h q); unmet = λ q. absurd (h q) }
+
+  module _ (z : e .refusal ≡ 0) (x : Verdict) (t : Told (e .sketch) x) where
+    pub settled-never : sketchFault (e .sketch) ≡ 0 → {n : ℕ} → x ≡ Verdicts.Refused n → Settled s e r
+    settled-never v {n} q = let u = subst (Told (e .sketch)) q t in absurd (u .1 (u .0 ∙ v))
+
+    pub settled-unmet : {k : ℕ} → x ≡ Verdicts.Unmet k → r .sketch ≡ s → r .refusal ≡ 19 → r .place ≡ k → Settled s e r
+    settled-unmet {k} q f g p =
+        let u = subst (Told (e .sketch)) q t in
+        record {
+          turned = λ y. absurd (y z);
+          met = λ y a. never (sym (not-all (view (e .sketch)) k (u .1)) ∙ a);
+          unmet = λ y a. record { number = g; sketch = f; place = ap (unmetAt (view (e .sketch))) p ∙ u .1 };
+        }
+
+pub settled-met : {s : Sketch} {e : Edited} → e .refusal ≡ 0 → (x : Verdict) → Told (e .sketch) x → x ≡ Verdicts.Met → Settled s e e
+settled-met {s} {e} z x t q =
+    let u = subst (Told (e .sketch)) q t in
+    record { turned = λ y. absurd (y z); met = λ y a. refl; unmet = λ y a. never (sym a ∙ u .1) }
+
+-- ---- what a verdict tells
+
+pub told-met : (s : Sketch) (x : Verdict) → Told s x → x ≡ Verdicts.Met → (sketchFault s ≡ 0) × (allMet (view s) ≡ true) × Sized s × Valid limits (view s)
+told-met s x t q = let u = subst (Told s) q t in let v = sketch-valid s (u .0) in (u .0, u .1, v .0, v .1)
+
+pub told-unmet : (s : Sketch) (x : Verdict) {k : ℕ} → Told s x → x ≡ Verdicts.Unmet k → (sketchFault s ≡ 0) × (unmetAt (view s) k ≡ true) × Sized s
+told-unmet s x t q = let u = subst (Told s) q t in (u .0, u .1, sketch-valid s (u .0) .0)
+
+-- ---- a move is refused by 24 or 22
+
+number-of : (b : Bool) (dr : Drawing) (i : ℕ) (pn : Pin) (n : ℕ) → need b 24 (pin limits dr i pn then (λ d′ u. accepted d′ nothing)) ≡ refused n → n ≡ 13 → ⊥
+unfolding need pin
+number-of false dr i pn n q y = let u : 24 ≡ n = cc in omega arith
+number-of true dr i (On b) n q y = go (ltb (length (dr .relations)) 256) q
+  where
+    go : (b′ : Bool) → (need b′ 22 (accepted (withRelation dr (PointOnCurve i b)) (tt {0})) then (λ d′ u. accepted d′ nothing)) ≡ refused n → ⊥
+    go true q = let u : _≡_ {A = ℕ} 0 1 = cc in omega arith
+    go false q = let u : 22 ≡ n = cc in omega arith
+number-of true dr i (At b) n q y = go (eqb b i) (ltb (length (dr .relations)) 256) q
+  where
+    go : (b″ b′ : Bool) → (pick b″ (accepted dr (tt {0})) (need b′ 22 (accepted (withRelation dr (Coincident i b)) (tt {0}))) then (λ d′ u. accepted d′ nothing)) ≡ refused n → ⊥
+    go true b′ q = let u : _≡_ {A = ℕ} 0 1 = cc in omega arith
+    go false true q = let u : _≡_ {A = ℕ} 0 1 = cc in omega arith
+    go false false q = let u : 22 ≡ n = cc in omega arith
+
+-- ---- answers
+
+module _ (s : Sketch) (t : ℕ) (p : Vec2) where
+  turned-by : {r : Edited} (n : ℕ) → r .sketch ≡ s → r .refusal ≡ n → F.Told n → editSketch Extend s t p ≡ refused n
+      → ((d′ : Drawing) (told : Removed) → n ≡ 19 → editUntested Extend limits (view s) t p ≡ accepted d′ told → ⊥) → Answered Extend s t p r
+  turned-by {r} n e f h o u =
+      record {
+        outcome = ap (λ m. pick (eqb m 0) (accepted (view (r .sketch)) (r .removed)) (refused m)) f ∙ ap (λ b. pick b (accepted (view (r .sketch)) (r .removed)) (refused n)) (ne-eqb n 0 (h .some-number)) ∙ sym o;
+        kept = λ z. e;
+        valid = λ z. absurd (h .some-number (sym f ∙ z));
+        unmet-before = λ z q. absurd (h .not-13 (sym f ∙ q));
+        unmet-after = λ z q d′ told a. absurd (u d′ told (sym f ∙ q) a);
+      }
+
+  -- by a test that comes before the choice
+  pub turned-early : {r : Edited} (n : ℕ) → r .sketch ≡ s → r .refusal ≡ n → n ≤ 12 → (n ≡ 0 → ⊥) → editSketch Extend s t p ≡ refused n → Answered Extend s t p r
+  turned-early n e f h k o = turned-by n e f (record { some-number = k; not-13 = λ z. omega arith }) o (λ d′ told z. absurd (omega arith))
+
+  pub fault-turned : {r : Edited} (x : Verdict) {n : ℕ} → Told s x → x ≡ Verdicts.Refused n → r .sketch ≡ s → r .refusal ≡ n → Answered Extend s t p r
+  fault-turned {r} x {n} w q e f =
+      let u = subst (Told s) q w in
+      let l = fault-low s in
+      turned-early n e f (omega (arith, u .0)) (u .1) (test-fault s t p {n = n} {k = 0} (u .0) (u .1) .turned (u .1) Extend)
+
+  pub test-turned : {r : Edited} {x : Target} → Tested s t p x → x .refusal ≤ 9 → (x .refusal ≡ 0 → ⊥) → r .sketch ≡ s → r .refusal ≡ x .refusal → Answered Extend s t p r
+  test-turned {r} {x} w l h e f = turned-early (x .refusal) e f (omega arith) h (w .turned h Extend)
+
+  module _ {x : Target} (w : Begun s t p x) where
+    abbrev c : Curve
+    c = targetOf s (x .place)
+
+    abbrev d : Drawing
+    d = view s
+
+    sketch-is : editSketch Extend s t p ≡ decided allMet limits d t (extendCurve d p c (c .kind))
+    unfolding need unless onFound onCurve
+    sketch-is = rw (w .valid, w .picked, w .found)
+
+    untested-is : editUntested Extend limits d t p ≡ decided (λ d′. true) limits d t (extendCurve d p c (c .kind))
+    unfolding unless onFound onCurve
+    untested-is = rw (w .picked, w .found)
+
+    -- ---- a relation is not met
+
+    pub kind-turned : {r : Edited} → OneOf others-than-line (tagOf K.the-type (c .kind)) → r .sketch ≡ s → r .refusal ≡ 10 → Answered Extend s t p r
+    unfolding decided
+    kind-turned h e f = turned-early 10 e f (omega arith) (λ z. omega arith) (sketch-is ∙ ap (decided allMet limits d t) (sym (not-line d p c (c .kind) h)))
+
+    pub unmet-turned : {r : Edited} {i j k : ℕ} → c .kind ≡ Line i j → unmetAt d k ≡ true → r .sketch ≡ s → r .refusal ≡ 13 → r .place ≡ k → Answered Extend s t p r
+    unfolding decided
+    unmet-turned {r} {i} {j} {k} q h e f g =
+        let o : editSketch Extend s t p ≡ refused 13 = sketch-is ∙ ap (decided allMet limits d t) (sym (unmet-line d p c q (not-all d k h))) in
+        record {
+          outcome = ap (λ m. pick (eqb m 0) (accepted (view (r .sketch)) (r .removed)) (refused m)) f ∙ sym o;
+          kept = λ z. e;
+          valid = λ z. absurd (omega arith);
+          unmet-before = λ z y. ap (unmetAt d) g ∙ h;
+          unmet-after = λ z y. absurd (omega arith);
+        }
+
+    -- ---- all relations are met
+
+    module _ (m : allMet d ≡ true) (y : Ending) (o : choiceOf y ≡ extendCurve d p c (c .kind)) where
+      pub choice-turned : {r : Edited} {n : ℕ} → y ≡ N.Refused n → r .sketch ≡ s → r .refusal ≡ n → Answered Extend s t p r
+      unfolding decided
+      choice-turned {r} {n} q e f =
+          let u : extendCurve d p c (c .kind) ≡ Refused n = sym o ∙ ap choiceOf q in
+          turned-by n e f (extend-number d p c (c .kind) n m u) (sketch-is ∙ ap (decided allMet limits d t) u)
+          (λ d′ told z a. let b : refused n ≡ accepted d′ told = sym (untested-is ∙ ap (decided (λ x. true) limits d t) u) ∙ a in let y : _≡_ {A = ℕ} 0 1 = cc in omega arith)
+
+      module _ {atB : Bool} {k : ℕ} {v : Vec2} {q : Pin} (g : y ≡ N.Move atB k v q) (h : EndStands s (x .place) y) where
+        stands : EndStands s (x .place) (N.Move atB k v q)
+        stands = subst (EndStands s (x .place)) g h
+
+        pub move-place : k < s .npoints
+        move-place = stands .2
+
+        plan-is : extendCurve d p c (c .kind) ≡ Chosen (P.Move atB v q)
+        plan-is = sym o ∙ ap choiceOf g
+
+        pinned : Pinned d t (P.Move atB v q)
+        pinned =
+            let u = extend-chosen d c p (P.Move atB v q) plan-is .1 in
+            subst (λ (i : ℕ). Pinned d i (P.Move atB v q)) (look-some (d .curves) t c (w .found) .1) (subst (Pinned d (c .id)) (sym (u .is)) (u .held))
+
+        module _ {e : Edited} (a : MovedTo d (getD (s .points) k noPoint .id) v q e) where
+          abbrev judged : (Drawing → Bool) → Outcome Drawing Removed
+          judged f = outcomeOf e then (λ d′ told. need (f d′) 19 (accepted d′ told))
+
+          settled-last : (f : Drawing → Bool) (b : Bool) (z : Outcome Drawing (Unit {0})) → need b 24 (z then (λ d′ u. settle f d′)) ≡ (need b 24 (z then (λ d′ u. accepted d′ nothing)) then (λ d′ told. need (f d′) 19 (accepted d′ told)))
+          unfolding need settle
+          settled-last f true (refused n) = refl
+          settled-last f true (accepted d′ u) = refl
+          settled-last f false z = refl
+
+          carries : (f : Drawing → Bool) → carryOut f limits d t (P.Move atB v q) ≡ judged f
+          unfolding carryAt carried extended
+          carries f =
+              let ends = stands .0 in
+              let i : ℕ = getD (s .points) k noPoint .id in
+              ap (carryAt f limits d (P.Move atB v q)) (w .found)
+              ∙ ap (extended f limits d atB v q) (stands .1)
+              ∙ ap (λ (j : ℕ). need (okPlace v) 24 (pin limits (movePoint j v d) j q then (λ d′ u. settle f d′))) (sym (stands .3))
+              ∙ settled-last f (okPlace v) (pin limits (movePoint i v d) i q)
+              ∙ ap (λ (z : Outcome Drawing Removed). z then (λ d′ told. need (f d′) 19 (accepted d′ told))) (sym (a .outcome))
+
+          edit-is : editSketch Extend s t p ≡ judged allMet
+          unfolding decided
+          edit-is = sketch-is ∙ ap (decided allMet limits d t) plan-is ∙ carries allMet
+
+          plain-is : editUntested Extend limits d t p ≡ judged (λ d′. true)
+          unfolding decided
+          plain-is = untested-is ∙ ap (decided (λ d′. true) limits d t) plan-is ∙ carries (λ d′. true)
+
+          -- ---- accepted before the test
+
+          module _ (z : e .refusal ≡ 0) where
+            out : outcomeOf e ≡ accepted (view (e .sketch)) (e .removed)
+            out = ap (λ n. pick (eqb n 0) (accepted (view (e .sketch)) (e .removed)) (refused n)) z
+
+            judged-is : (f : Drawing → Bool) → judged f ≡ need (f (view (e .sketch))) 19 (accepted (view (e .sketch)) (e .removed))
+            judged-is f = ap (λ (x : Outcome Drawing Removed). x then (λ d′ told. need (f d′) 19 (accepted d′ told))) out
+
+            pub moved-valid : sketchFault (e .sketch) ≡ 0
+            unfolding need
+            moved-valid =
+                valid-sketch (e .sketch) (a .sized z)
+                (plan-valid (λ d′. true) limits d (sketch-valid s (w .valid) .1) t (P.Move atB v q) (view (e .sketch)) (e .removed) (carries (λ d′. true) ∙ judged-is (λ d′. true)) pinned)
+
+          -- ---- refused before it
+
+          module _ (z : e .refusal ≡ 0 → ⊥) where
+            turned-out : outcomeOf e ≡ refused (e .refusal)
+            turned-out = ap (λ b. pick b (accepted (view (e .sketch)) (e .removed)) (refused (e .refusal))) (ne-eqb (e .refusal) 0 z)
+
+            judged-out : (f : Drawing → Bool) → judged f ≡ refused (e .refusal)
+            judged-out f = ap (λ (x : Outcome Drawing Removed). x then (λ d′ told. need (f d′) 19 (accepted d′ told))) turned-out
+
+            not-13 : e .refusal ≡ 13 → ⊥
+            not-13 = number-of (okPlace v) (movePoint (getD (s .points) k noPoint .id) v d) (getD (s .points) k noPoint .id) q (e .refusal) (sym (a .outcome) ∙ turned-out)
+
+          pub move-answered : {r : Edited} → Settled s e r → Answered Extend s t p r
+          unfolding need
+          move-answered {r} l = at-zero (eqb (e .refusal) 0) refl
+            where
+              moved-on : e .refusal ≡ 0 → (b : Bool) → allMet (view (e .sketch)) ≡ b → Answered Extend s t p r
+              moved-on z true j =
+                  let i : r ≡ e = l .met z j in
+                  let u : r .refusal ≡ 0 = ap (λ (x : Edited). x .refusal) i ∙ z in
+                  record {
+                    outcome = ap outcomeOf i ∙ out z ∙ sym (edit-is ∙ judged-is z allMet ∙ ap (λ b. need b 19 (accepted (view (e .sketch)) (e .removed))) j);
+                    kept = λ y. absurd (y u);
+                    valid = λ y. ap (λ (x : Edited). sketchFault (x .sketch)) i ∙ moved-valid z;
+                    unmet-before = λ y n. absurd (omega arith);
+                    unmet-after = λ y n. absurd (omega arith);
+                  }
+              moved-on z false j =
+                  let i = l .unmet z j in
+                  let n = i .number in
+                  record {
+                    outcome = ap (λ m. pick (eqb m 0) (accepted (view (r .sketch)) (r .removed)) (refused m)) n ∙ sym (edit-is ∙ judged-is z allMet ∙ ap (λ b. need b 19 (accepted (view (e .sketch)) (e .removed))) j);
+                    kept = λ y. i .sketch;
+                    valid = λ y. absurd (omega arith);
+                    unmet-before = λ y h. absurd (omega arith);
+                    unmet-after = λ y h d′ told u.
+                        let b : accepted (view (e .sketch)) (e .removed) ≡ accepted d′ told = sym (plain-is ∙ judged-is z (λ x. true)) ∙ u in
+                        let h : view (e .sketch) ≡ d′ = cc in
+                        ap (λ (x : Drawing). unmetAt x (r .place)) (sym h) ∙ i .place;
+                  }
+
+              moved-out : (e .refusal ≡ 0 → ⊥) → Answered Extend s t p r
+              moved-out z =
+                  let i = l .turned z in
+                  turned-by (e .refusal) (i .1) (i .0) (record { some-number = z; not-13 = not-13 z }) (edit-is ∙ judged-out z allMet)
+                  (λ d′ told y u. let b : refused (e .refusal) ≡ accepted d′ told = sym (plain-is ∙ judged-out z (λ x. true)) ∙ u in let h : _≡_ {A = ℕ} 0 1 = cc in omega arith)
+
+              at-zero : (b : Bool) → eqb (e .refusal) 0 ≡ b → Answered Extend s t p r
+              at-zero true j = moved-on (eqb-true (e .refusal) 0 j) (allMet (view (e .sketch))) refl
+              at-zero false j = moved-out (λ y. never (sym j ∙ eq-eqb (e .refusal) 0 y))

@@ -1,0 +1,178 @@
+-- What the code's stores make where a point is moved and held, one law for each way out. Assumes nothing.
+use mathlib.Core.Path.{_≡_, refl, sym, ap, _∙_, subst}
+use mathlib.Core.Bool.{Bool, true, false}
+use mathlib.Core.List.{List, [], _∷_, _++_, map}
+use Prim.Native.Nat.{ℕ, zero, suc, _+_, _≤_, _<_}
+use native.Mathlib.Numerals.{add-one}
+use native.Mathlib.Omega.{arith}
+use lib.Dec.{eqb, ltb}
+use lib.ListN.{length, take, getD, set, length-map, length-take}
+use lib.Seq.{getD-take, take-suc-set, take-set-lt}
+use borrow.Author.Tests.{eq-eqb, ne-eqb, lt-ltb, le-ltb}
+use Rattle.geom.specs.declared.Vec2.{Vec2}
+use Rattle.sketch.specs.declared.Point.{Point}
+use Rattle.sketch.specs.declared.Relation.{Relation}
+use Rattle.sketch.specs.declared.Relation.the-variants.{Coincident, PointOnCurve}
+use Rattle.sketch.specs.declared.RelationSlot.{RelationSlot}
+use Rattle.sketch.specs.declared.Sketch.{Sketch}
+use Rattle.sketch.specs.Lists.{pick}
+use Rattle.sketch.specs.Blanks.{noPoint}
+use Rattle.sketch.specs.Drawing.{Drawing, view, limits, pointIds}
+use Rattle.sketch.specs.Facts.{Rising, Sized, Valid}
+use Rattle.carry.specs.declared.Pin.{Pin}
+use Rattle.carry.specs.declared.Pin.the-variants.{On, At}
+use Rattle.carry.specs.declared.Edited.{Edited}
+use Rattle.carry.specs.declared.Removed.{Removed}
+use Rattle.carry.specs.Outcome.{Outcome, refused, accepted, _then_, need}
+use Rattle.carry.specs.Tables.{okPlace, addRelation, withRelation, moved, movePoint}
+use Rattle.carry.specs.Steps.{pin, nothing}
+use Rattle.carry.specs.Suited.{outcomeOf}
+use Rattle.carry.proofs.Loops.{map-append}
+use Rattle.modify.specs.Seek.{ShiftedTo, AddedTo, MovedTo}
+
+-- ---- ids rise, so that a store at a point's place moves that point alone
+
+above : (n b : ℕ) (l : List Point) (k : ℕ) → Rising n b (pointIds l) → k < length l → b < getD l k noPoint .id
+above n b [] k h q = absurd (omega arith)
+above n b (p ∷ l) zero h q = h .0
+above n b (p ∷ l) (suc k) h q = let u = above n (p .id) l k (h .2) (omega arith) in omega (arith, h .0)
+
+module _ (v : Vec2) (i : ℕ) where
+  stays : (p : Point) → (i ≡ p .id → ⊥) → moved i v p ≡ p
+  stays p ne = rw (ne-eqb i (p .id) ne)
+
+  none-moved : (n b : ℕ) (l : List Point) → Rising n b (pointIds l) → i ≤ b → map (moved i v) l ≡ l
+  none-moved n b [] h q = refl
+  none-moved n b (p ∷ l) h q =
+      ap (λ x. x ∷ map (moved i v) l) (stays p (λ e. omega (arith, h .0))) ∙ ap (λ t. p ∷ t) (none-moved n (p .id) l (h .2) (omega (arith, h .0)))
+
+  one-moved : (n b : ℕ) (l : List Point) (k : ℕ) → Rising n b (pointIds l) → k < length l → getD l k noPoint .id ≡ i → set l k (moved i v (getD l k noPoint)) ≡ map (moved i v) l
+  one-moved n b [] k h q e = absurd (omega arith)
+  one-moved n b (p ∷ l) zero h q e = ap (λ t. moved i v p ∷ t) (sym (none-moved n (p .id) l (h .2) (omega arith)))
+  one-moved n b (p ∷ l) (suc k) h q e =
+      let u = above n (p .id) l k (h .2) (omega arith) in
+      ap (λ t. p ∷ t) (one-moved n (p .id) l k (h .2) (omega arith) e) ∙ ap (λ x. x ∷ map (moved i v) l) (sym (stays p (λ j. omega arith)))
+
+outcome-is : (r : Edited) → r .refusal ≡ 0 → outcomeOf r ≡ accepted (view (r .sketch)) (r .removed)
+outcome-is r e = ap (λ n. pick (eqb n 0) (accepted (view (r .sketch)) (r .removed)) (refused n)) e
+
+module _ (s : Sketch) (k : ℕ) (v : Vec2) (z : Sized s) (d : Valid limits (view s)) (h : k < s .npoints) (g : length (s .points) ≡ 512) where
+  abbrev p : Point
+  p = getD (s .points) k noPoint
+
+  abbrev put : List Point
+  put = set (s .points) k (record { id = p .id; fixed = p .fixed; x = v .x; y = v .y })
+
+  points-moved : take (s .npoints) put ≡ map (moved (p .id) v) (view s .points)
+  points-moved =
+      let e : getD (view s .points) k noPoint ≡ p = getD-take (s .npoints) (s .points) k noPoint h in
+      let u : moved (p .id) v p ≡ record { id = p .id; fixed = p .fixed; x = v .x; y = v .y } = rw (eq-eqb (p .id) (p .id) refl) in
+      take-set-lt (s .npoints) (s .points) k (record { id = p .id; fixed = p .fixed; x = v .x; y = v .y }) h
+      ∙ ap (set (view s .points) k) (sym u ∙ ap (moved (p .id) v) (sym e))
+      ∙ one-moved v (p .id) (s .next) 0 (view s .points) k (d .points-rise) (rw length-take (omega (arith, z .points))) (ap (λ (x : Point). x .id) e)
+
+  abbrev shiftedTo : Sketch
+  shiftedTo =
+      record {
+        next = s .next;
+        npoints = s .npoints;
+        ncurves = s .ncurves;
+        nrelations = s .nrelations;
+        points = put;
+        curves = s .curves;
+        relations = s .relations;
+      }
+
+  view-shifted : view shiftedTo ≡ movePoint (p .id) v (view s)
+  view-shifted = ap (λ (l : List Point). record { next = s .next; points = l; curves = view s .curves; relations = view s .relations }) points-moved
+
+  pub shifted-is : {r : Edited} → r .sketch ≡ shiftedTo → r .refusal ≡ 0 → r .removed ≡ nothing → ShiftedTo (movePoint (p .id) v (view s)) r
+  shifted-is e f t =
+      record {
+        accepts = f;
+        nothing-gone = t;
+        sized = subst Sized (sym e) (record { points = z .points; curves = z .curves; relations = z .relations });
+        is = ap view e ∙ view-shifted;
+      }
+
+  -- ---- and a relation added
+
+  module _ (relation : Relation) (m : length (s .relations) ≡ 256) where
+    count : length (view s .relations) ≡ s .nrelations
+    count = simp (length-map, length-take) (omega (arith, z .relations))
+
+    pub full-is : {r : Edited} → r .refusal ≡ 22 → 256 ≤ s .nrelations → AddedTo (movePoint (p .id) v (view s)) relation r
+    unfolding need
+    full-is {r} e o =
+        record {
+          outcome =
+              ap (λ n. pick (eqb n 0) (accepted (view (r .sketch)) (r .removed)) (refused n)) e
+              ∙ sym (ap (λ b. need b 22 (accepted (withRelation (movePoint (p .id) v (view s)) relation) tt) then (λ d′ u. accepted d′ nothing)) (le-ltb (length (view s .relations)) 256 (omega (arith, count))));
+          sized = λ q. absurd (omega arith);
+        }
+
+    abbrev slot : RelationSlot
+    slot = record { relation = relation }
+
+    abbrev addedTo : Sketch
+    addedTo =
+        record {
+          next = s .next;
+          npoints = s .npoints;
+          ncurves = s .ncurves;
+          nrelations = s .nrelations + 1;
+          points = put;
+          curves = s .curves;
+          relations = set (s .relations) (s .nrelations) slot;
+        }
+
+    module _ (o : s .nrelations < 256) where
+      relations-added : view addedTo .relations ≡ view s .relations ++ (relation ∷ [])
+      relations-added =
+          let q : s .nrelations < length (s .relations) = omega arith in
+          ap (λ n. map (λ (r : RelationSlot). r .relation) (take n (set (s .relations) (s .nrelations) slot))) (add-one (s .nrelations))
+          ∙ ap (map (λ (r : RelationSlot). r .relation)) (take-suc-set (s .relations) (s .nrelations) slot q)
+          ∙ map-append (λ (r : RelationSlot). r .relation) (take (s .nrelations) (s .relations)) (slot ∷ [])
+
+      view-added : view addedTo ≡ withRelation (movePoint (p .id) v (view s)) relation
+      view-added =
+          ap (λ (l : List Point). record { next = s .next; points = l; curves = view s .curves; relations = view addedTo .relations }) points-moved
+          ∙ ap (λ (l : List Relation). record { next = s .next; points = map (moved (p .id) v) (view s .points); curves = view s .curves; relations = l }) relations-added
+
+      pub added-is : {r : Edited} → r .sketch ≡ addedTo → r .refusal ≡ 0 → r .removed ≡ nothing → AddedTo (movePoint (p .id) v (view s)) relation r
+      unfolding need
+      added-is {r} e f t =
+          record {
+            outcome =
+                outcome-is r f ∙ ap (λ x. accepted x (r .removed)) (ap view e ∙ view-added) ∙ ap (accepted (withRelation (movePoint (p .id) v (view s)) relation)) t
+                ∙ sym (ap (λ b. need b 22 (accepted (withRelation (movePoint (p .id) v (view s)) relation) tt) then (λ d′ u. accepted d′ nothing)) (lt-ltb (length (view s .relations)) 256 (omega (arith, count))));
+            sized = λ q. subst Sized (sym e) (record { points = z .points; curves = z .curves; relations = omega arith });
+          }
+
+-- ---- where it is held
+
+module _ (d : Drawing) (end : ℕ) (v : Vec2) (w : Pin) where
+  pub moved-out : {r : Edited} → okPlace v ≡ false → r .refusal ≡ 24 → MovedTo d end v w r
+  unfolding need
+  moved-out {r} h e =
+      record {
+        outcome = ap (λ n. pick (eqb n 0) (accepted (view (r .sketch)) (r .removed)) (refused n)) e ∙ sym (rw h);
+        sized = λ q. absurd (omega arith);
+      }
+
+  module _ (h : okPlace v ≡ true) where
+    pub moved-on : {c : ℕ} {r : Edited} → w ≡ On c → AddedTo (movePoint end v d) (PointOnCurve end c) r → MovedTo d end v w r
+    unfolding need pin
+    moved-on e a = record { outcome = a .outcome ∙ sym (rw (h, e)); sized = a .sized }
+
+    pub moved-at : {e : ℕ} {r : Edited} → w ≡ At e → (e ≡ end → ⊥) → AddedTo (movePoint end v d) (Coincident end e) r → MovedTo d end v w r
+    unfolding need pin
+    moved-at {e} f ne a = record { outcome = a .outcome ∙ sym (rw (h, f, ne-eqb e end ne)); sized = a .sized }
+
+    pub moved-there : {e : ℕ} {r : Edited} → w ≡ At e → e ≡ end → ShiftedTo (movePoint end v d) r → MovedTo d end v w r
+    unfolding need pin
+    moved-there {e} {r} f q a =
+        record {
+          outcome = outcome-is r (a .accepts) ∙ ap (λ x. accepted x (r .removed)) (a .is) ∙ ap (accepted (movePoint end v d)) (a .nothing-gone) ∙ sym (rw (h, f, eq-eqb e end q));
+          sized = λ z. a .sized;
+        }

@@ -1,0 +1,68 @@
+use mathlib.Core.Path.{sym}
+use native.Mathlib.Omega.{arith}
+use lib.Seq.{length-take-le}
+use borrow.Author.Needs.{needs}
+use Rattle.wall.proofs.main.Statement.{statement}
+use Rattle.wall.proofs.main.Tie as tie
+use Rattle.wall.proofs.main.Reads as reads
+use Rattle.wall.proofs.main.Lts as lts
+use Rattle.exhibit.proofs.play.Reads as play-reads
+use Rattle.io.proofs.read_full.Reads as read-full-reads
+use Rattle.io.proofs.write_all.Reads as write-all-reads
+
+-- src/main.rt:14:41
+slice-aggregate-read-full : tie.Need-slice-aggregate-read-full
+slice-aggregate-read-full c = search needs
+
+-- src/main.rt:14:9
+read-full-requires : tie.Need-read-full-requires
+read-full-requires c κs = search needs
+
+-- src/main.rt:15:30
+array-share-prefix-input : tie.Need-array-share-prefix-input
+array-share-prefix-input c = search needs
+
+-- src/main.rt:15:30
+slice-aggregate-play : tie.Need-slice-aggregate-play
+slice-aggregate-play c = search needs
+
+-- src/main.rt:15:43
+slice-aggregate-play-2 : tie.Need-slice-aggregate-play-2
+slice-aggregate-play-2 c = search needs
+
+-- src/main.rt:15:9
+play-requires : tie.Need-play-requires
+play-requires c κs = search needs
+
+-- src/main.rt:16:34
+array-share-prefix-out : tie.Need-array-share-prefix-out
+array-share-prefix-out c = search needs
+
+-- src/main.rt:16:34
+slice-aggregate-write-all : tie.Need-slice-aggregate-write-all
+slice-aggregate-write-all c =
+    let h = c .before .out2 .given in
+    sym (length-take-le (c .before .before .play .result) (c .before .before .play .last .1 .0) (omega (arith, c .before .before .play .ensures .within)))
+
+-- src/main.rt:16:5
+write-all-requires : tie.Need-write-all-requires
+write-all-requires c κs = search needs
+
+-- src/main.rt:11:1
+returns : tie.Need-returns
+returns c = search needs
+
+pub main-spec : {M : Type 1} → statement M
+main-spec =
+    tie.close
+    (tie.spec
+    slice-aggregate-read-full
+    read-full-requires
+    array-share-prefix-input
+    slice-aggregate-play
+    slice-aggregate-play-2
+    play-requires
+    array-share-prefix-out
+    slice-aggregate-write-all
+    write-all-requires
+    returns)

@@ -1,0 +1,17 @@
+// The wall as a program: an image and the messages after it on standard input, the last image on standard output.
+use libc::STDIN_FILENO;
+use libc::STDOUT_FILENO;
+
+// As much of the input as is looked at.
+const INPUT: usize = 65536;
+
+// Room for the largest image, 21,135 bytes, and some more.
+const OUTPUT: usize = 21504;
+
+fn main() {
+    let mut input = [0u8; INPUT];
+    let mut out = [0u8; OUTPUT];
+    let n = io::read_full(STDIN_FILENO, &mut input);
+    let size = exhibit::play(&input[..n], &mut out);
+    io::write_all(STDOUT_FILENO, &out[..size]);
+}
