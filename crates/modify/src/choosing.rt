@@ -217,7 +217,7 @@ fn choose_from<'a>(
 }
 
 // What is chosen for the curve at a place: of a split or (false) of a trim.
-pub fn choose(sk: Sketch, splits: bool, place: usize, at: Vec2) -> Choice
+pub(crate) fn choose(sk: Sketch, splits: bool, place: usize, at: Vec2) -> Choice
     requires { ⌜ Sized sk × Valid limits (view sk) × (place < sk .ncurves) ⌝ }
     ensures { λ r. ⌜ r ≡ onCurve (cond splits Operation.Split Operation.Trim) (view sk) at (targetOf sk place) ⌝ }
 {

@@ -12,7 +12,7 @@ ghost use lib.ListN.{length};
 ghost use Rattle.modify.specs.Told.{Sought, Gathers};
 
 // The place of the curve with an id, n where none of the first n has it.
-pub fn curve_place(curves: [Curve; 128], n: usize, id: u32) -> usize
+pub(crate) fn curve_place(curves: [Curve; 128], n: usize, id: u32) -> usize
     requires { ⌜ n ≤ 128 ⌝ }
     ensures { λ r. ⌜ Sought curves n id r ⌝ }
 {
@@ -39,7 +39,7 @@ fn no_others() -> [Other; 128]
 }
 
 // All but the curve with an id as shapes, from the columns of points.
-pub fn gather<'a>(
+pub(crate) fn gather<'a>(
     curves: [Curve; 128],
     n: usize,
     id: u32,

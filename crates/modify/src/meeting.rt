@@ -59,7 +59,7 @@ fn controls<'a>(
 }
 
 // The hits with a curve, put to the front of hx and hy, under a budget.
-pub fn meet<'a, 'b>(
+pub(crate) fn meet<'a, 'b>(
     a: Vec2,
     b: Vec2,
     foot: Vec2,

@@ -19,7 +19,7 @@ ghost use Rattle.carry.specs.Steps.{nothing};
 ghost use Rattle.modify.specs.Seek.{ShiftedTo, AddedTo, MovedTo};
 
 // An answer of an edit after which no curve is gone.
-pub fn answer(sketch: Sketch, refusal: u8, place: usize) -> Edited
+pub(crate) fn answer(sketch: Sketch, refusal: u8, place: usize) -> Edited
     ensures { λ r. ⌜ (r .sketch ≡ sketch) × (r .refusal ≡ refusal) × (r .place ≡ place) × (r .removed ≡ nothing) ⌝ }
 {
     Edited {
@@ -73,7 +73,7 @@ fn shifted_with(sk: Sketch, k: usize, v: Vec2, relation: Relation) -> Edited
 }
 
 // The point at place k moved to v, where the pin holds it, unless that is the point itself. Whether relations are met is not asked.
-pub fn move_end(sk: Sketch, k: usize, v: Vec2, pin: Pin) -> Edited
+pub(crate) fn move_end(sk: Sketch, k: usize, v: Vec2, pin: Pin) -> Edited
     requires { ⌜ Sized sk × Valid limits (view sk) × (k < sk .npoints) ⌝ }
     ensures { λ r. ⌜ MovedTo (view sk) (getD (sk .points) k noPoint .id) v pin r ⌝ }
 {

@@ -32,7 +32,7 @@ fn pin_to<'a>(
     Pin::On(by)
 }
 
-pub fn pin_at<'a>(
+pub(crate) fn pin_at<'a>(
     q: Vec2,
     by: u32,
     curves: [Curve; 128],

@@ -138,7 +138,7 @@ fn look<'a>(
 }
 
 // All of the first n curves but the one with an id, in order, within one budget.
-pub fn seek<'a>(
+pub(crate) fn seek<'a>(
     a: Vec2,
     b: Vec2,
     atb: bool,

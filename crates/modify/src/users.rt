@@ -40,7 +40,7 @@ fn curve_uses(c: Curve, p: u32) -> bool
 }
 
 // Whether one of the first n curves, but for the one with an id, uses the point p.
-pub fn used_beside(curves: [Curve; 128], n: usize, id: u32, p: u32) -> bool
+pub(crate) fn used_beside(curves: [Curve; 128], n: usize, id: u32, p: u32) -> bool
     requires { ⌜ n ≤ 128 ⌝ }
     ensures { λ r. ⌜ r ≡ among p (uses (others id (take n curves))) ⌝ }
 {
