@@ -4,14 +4,49 @@
 use oracle::bytes::u32_at;
 use oracle::recording::{self, SEED};
 
+/// Trim, split, extend.
+const OPERATIONS: [u32; 3] = [1, 2, 3];
+/// No such curve, line, arc, circle, Bézier, conic, infinite line.
+const KINDS: [u8; 7] = [0, 1, 2, 3, 4, 5, 11];
+
 #[test]
 fn the_recorded_edits_are_the_same_each_time_and_hold_every_outcome() {
     let edits = recording::edits(SEED);
     assert_eq!(edits.bytes(), recording::edits(SEED).bytes());
-    assert!(edits.bytes().len() < 400 << 10);
+    assert!(edits.bytes().len() < 600 << 10);
     // A message's 7 and the search's 20 and 21 are met by no edit.
     for outcome in (0..=6).chain(8..=19).chain(22..=25) {
         assert!(edits.outcomes().contains(&outcome), "no edit with outcome {outcome}");
+    }
+}
+
+/// The outcomes that an operation can have on a kind of target, besides those of its image, of a
+/// pick that is none and of a short buffer.
+fn possible(operation: u32, kind: u8) -> &'static [u8] {
+    match (operation, kind) {
+        (_, 0) => &[8],
+        (1, 1) => &[0, 11, 22, 23],
+        (1, 2) => &[0, 10, 11, 22, 23, 24],
+        (1, 3) => &[0, 11, 22, 23, 24],
+        (2, 1 | 11) => &[0, 12, 22, 23],
+        (2, 2) => &[0, 10, 12, 22, 23, 24],
+        (2, 3) => &[0, 11, 12, 22, 23, 24],
+        (3, 1 | 11) => &[0, 13, 14, 15, 16, 17, 18, 19, 22, 24],
+        _ => &[10],
+    }
+}
+
+#[test]
+fn each_operation_on_each_kind_of_target_has_every_outcome() {
+    let coverage = recording::edit_coverage(&recording::edits(SEED));
+    for kind in KINDS {
+        assert!(coverage[&(0, kind)].contains_key(&6), "no unknown operation on kind {kind}");
+        for operation in OPERATIONS {
+            for outcome in possible(operation, kind).iter().chain(&[9]) {
+                let recorded = coverage[&(operation, kind)].contains_key(outcome);
+                assert!(recorded, "operation {operation}, kind {kind}: no {outcome}");
+            }
+        }
     }
 }
 

@@ -19,7 +19,22 @@ fn main() -> std::io::Result<()> {
         return Ok(());
     }
     write(folder, "roots.bin", &recording::root_searches(SEED))?;
-    write(folder, "edits.bin", &recording::edits(SEED))
+    let edits = recording::edits(SEED);
+    write(folder, "edits.bin", &edits)?;
+    print_coverage(&edits);
+    let runs = recording::runs(SEED);
+    write(folder, "runs.bin", &runs)?;
+    println!("  deliveries: {:?}", recording::run_coverage(&runs));
+    Ok(())
+}
+
+/// One line for each operation and kind of target: the outcomes, each with its number of entries.
+fn print_coverage(edits: &List<()>) {
+    for ((operation, kind), outcomes) in recording::edit_coverage(edits) {
+        print!("  operation {operation}, kind {kind}:");
+        outcomes.iter().for_each(|(outcome, count)| print!(" {outcome}:{count}"));
+        println!();
+    }
 }
 
 fn write<T>(folder: &Path, name: &str, list: &List<T>) -> std::io::Result<()> {

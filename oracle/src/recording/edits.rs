@@ -17,21 +17,23 @@
 //! removed curve, its start and its end (4 each), and the image after the edit. The entry ends
 //! there: its length is 38 and the two sizes.
 
+use super::edit_sorts::{kind_of_target, sort};
 use super::List;
 use crate::bytes::{f64_at, put, u32_at};
 use crate::call::{self, Call};
 use crate::drawing::*;
 use crate::edit::Refused;
-use crate::examples::{l, line, point, t};
+use crate::examples::{curve, l, line, point, t};
 use crate::generate::{calls, random::Random};
-use crate::image;
 use crate::message::{Edit, Operation};
 use crate::refusal::Refusal;
-use std::collections::BTreeMap;
+use std::collections::{BTreeMap, BTreeSet};
 
 pub const HEADER: usize = 38;
 /// Generated calls from which the list is chosen.
-const CHOICE: usize = 30_000;
+const CHOICE: usize = 60_000;
+/// How large the images of calls may be that are recorded a second time, spoilt.
+const SPOILT: usize = 300;
 
 pub fn edits(seed: u64) -> List<()> {
     let mut list = List::new(judge);
@@ -39,7 +41,7 @@ pub fn edits(seed: u64) -> List<()> {
         add(&mut list, &Call::new(&drawing, &edit), usize::MAX);
     }
     add_short_buffers(&mut list);
-    let mut taken = BTreeMap::new();
+    let (mut taken, mut spoilt_once) = (BTreeMap::new(), BTreeSet::new());
     let mut random = Random::new(seed);
     for at in 0..CHOICE {
         let call =
@@ -50,8 +52,26 @@ pub fn edits(seed: u64) -> List<()> {
             *count += 1;
             add(&mut list, &call, usize::MAX);
         }
+        let (Some(operation), Some(kind)) = (call.operation(), kind_of_target(&call)) else {
+            continue;
+        };
+        if call.image.len() <= SPOILT && spoilt_once.insert((operation.code(), kind)) {
+            spoilt(&mut random, &call).iter().for_each(|call| add(&mut list, call, usize::MAX));
+        }
     }
     list
+}
+
+/// How often each outcome came up, by operation (0 where there is none such) and kind of target.
+pub fn edit_coverage(list: &List<()>) -> BTreeMap<(u32, u8), BTreeMap<u8, usize>> {
+    let mut counts: BTreeMap<_, BTreeMap<_, _>> = BTreeMap::new();
+    for (outcome, input) in list.entries() {
+        let (call, _) = read(input);
+        let operation = call.operation().map_or(0, |operation| operation.code().into());
+        let kind = kind_of_target(&call).unwrap_or(0);
+        *counts.entry((operation, kind)).or_default().entry(outcome).or_insert(0) += 1;
+    }
+    counts
 }
 
 /// The call of an entry's input, and the room lent to it.
@@ -97,59 +117,6 @@ fn add(list: &mut List<()>, call: &Call, most: usize) {
     list.add(input);
 }
 
-/// Operation, kind of target, outcome, and a detail: the first relation's kind where one is not
-/// met, what an accepted edit did to the size of each table, what it pinned an end to.
-type Sort = (u32, u8, u8, [usize; 3], u8);
-
-/// The sort of a call, how many of that sort are recorded, and how large their images may be.
-fn sort(call: &Call) -> (Sort, usize, usize) {
-    const SMALL: usize = 450;
-    // Room for one full table.
-    const LARGE: usize = 12_500;
-    let (operation, judged) = (call.operation.min(4), call.judge());
-    let Ok(before) = image::read(&call.image) else {
-        let number = judged.map_or_else(|refused| refused.refusal.number(), |_| 0);
-        return ((0, 0, number, [0; 3], 0), 3, SMALL);
-    };
-    let kind = before.curve(call.curve).map_or(0, |curve| curve.kind.code());
-    let sizes = |of: &Drawing| [of.points.len(), of.curves.len(), of.relations.len()];
-    match judged {
-        Err(Refused { refusal: Refusal::TableFull, .. }) => {
-            let full = [MAX_POINTS, MAX_CURVES, MAX_RELATIONS].map(|limit| limit - 4);
-            let full =
-                std::array::from_fn(|table| usize::from(sizes(&before)[table] > full[table]));
-            ((operation, 0, 22, full, 0), 1, LARGE)
-        }
-        Err(Refused { refusal, place }) => {
-            let first = before.relations.first().map_or(0, Relation::code);
-            let unmet = if place.is_some() { first } else { 0 };
-            let wanted = match refusal.number() {
-                6..=10 => 1,
-                12 | 14..=18 => 8,
-                _ => 2,
-            };
-            ((operation, kind, refusal.number(), [0; 3], unmet), wanted, SMALL)
-        }
-        Ok((after, _)) => {
-            let (was, is) = (sizes(&before), sizes(&after));
-            let changes =
-                std::array::from_fn(|table| 9 + is[table] - was[table].min(9 + is[table]));
-            let pinned = if operation == 3 { pinned_to(&after) } else { 0 };
-            ((operation, kind, 0, changes, pinned), if operation == 3 { 6 } else { 2 }, SMALL)
-        }
-    }
-}
-
-fn pinned_to(after: &Drawing) -> u8 {
-    match after.relations.last() {
-        Some(Relation::PointOnCurve { c, .. }) => {
-            after.curve(*c).map_or(0, |curve| curve.kind.code() + 10 * u8::from(curve.infinite))
-        }
-        Some(relation) => 20 + relation.code(),
-        None => 0,
-    }
-}
-
 /// The edits that the exhibit is agreed on.
 fn examples() -> Vec<(Drawing, Edit)> {
     let edit = |operation, x, y| Edit { operation, curve: 3, x, y };
@@ -173,12 +140,43 @@ fn examples() -> Vec<(Drawing, Edit)> {
         (apart.clone(), edit(extend, 2.0, 0.0)),
         (apart, edit(extend, 0.0, 0.0)),
         (tied, edit(extend, 2.0, 0.0)),
+        (bulging(), edit(split, MAX_COORDINATE, 0.0)),
+        (endless(Id::MAX, 1), edit(split, 1.0, 0.0)),
+        (endless(Id::MAX - 1, 1), edit(split, 1.0, 0.0)),
+        (endless(1000, MAX_CURVES), edit(split, 1.0, 0.0)),
+    ]
+}
+
+/// The line of `l` without ends, among so many curves. Few such are generated without room.
+fn endless(next_id: Id, curves: usize) -> Drawing {
+    let mut drawing = l();
+    drawing.curves.extend((4..).map(|id| line(id, 1, 2)).take(curves - 1));
+    drawing.curves[0].infinite = true;
+    drawing.next_id = next_id;
+    drawing
+}
+
+/// An arc between good points that runs past the greatest coordinate. Few such are generated.
+fn bulging() -> Drawing {
+    let c = MAX_COORDINATE - 1.0;
+    let points = vec![point(1, c, 0.0), point(2, c, -5.0), point(4, c, 5.0)];
+    let curves = vec![curve(3, CurveKind::Arc { c: 1, a: 2, b: 4 })];
+    Drawing { next_id: 5, points, curves, relations: vec![] }
+}
+
+/// The same call with picks that are none, and with an operation that is none.
+fn spoilt(random: &mut Random, call: &Call) -> [Call; 3] {
+    const NONE: [f64; 4] = [f64::NAN, f64::INFINITY, f64::NEG_INFINITY, -1_000_000.1];
+    [
+        Call { x: random.pick(&NONE), ..call.clone() },
+        Call { y: random.pick(&NONE), ..call.clone() },
+        Call { operation: random.pick(&[0, 4, 257, 1 << 16, u32::MAX]), ..call.clone() },
     ]
 }
 
 /// Accepted edits with a buffer one byte short, of a report's size, and of none.
 fn add_short_buffers(list: &mut List<()>) {
-    for (drawing, edit) in examples().into_iter().take(4) {
+    for (drawing, edit) in examples().into_iter().take(7) {
         let call = Call::new(&drawing, &edit);
         let needed = call.judge().map_or(1, |(after, _)| call::size(&after));
         for room in [0, call::REPORT_SIZE - 1, call::REPORT_SIZE, needed - 1] {

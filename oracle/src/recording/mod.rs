@@ -3,24 +3,31 @@
 //! A list is a run of entries, each an outcome byte (a refusal's number, 0 for acceptance), the
 //! input's length in four big-endian bytes, and the input.
 
+mod edit_sorts;
 mod edits;
 mod faults;
 mod images;
 mod messages;
 mod roots;
+mod runs;
 mod square_roots;
 
+use crate::bytes::u32_at;
 use crate::refusal::{number_of, Refusal};
 use std::collections::BTreeSet;
 
-pub use edits::edits;
+pub use edits::{edit_coverage, edits};
 pub use images::images;
 pub use messages::messages;
 pub use roots::root_searches;
+pub use runs::{run_coverage, runs, OLD};
 pub use square_roots::square_roots;
 
 /// The seed of the recorded lists: the same seed gives the same bytes.
 pub const SEED: u64 = 1;
+
+/// Bytes of an entry before its input.
+const HEAD: usize = 5;
 
 /// A list under construction; an input stands in it once.
 pub struct List<T> {
@@ -73,6 +80,16 @@ impl<T> List<T> {
 
     pub fn bytes(&self) -> &[u8] {
         &self.bytes
+    }
+
+    /// The outcome and the input of each entry, in order.
+    pub fn entries(&self) -> impl Iterator<Item = (u8, &[u8])> {
+        let mut rest = self.bytes();
+        self.outcomes.iter().map(move |outcome| {
+            let (input, behind) = rest[HEAD..].split_at(u32_at(rest, 1) as usize);
+            rest = behind;
+            (*outcome, input)
+        })
     }
 
     /// The outcome of each entry, in order.

@@ -1,0 +1,54 @@
+//! The recorded list of runs: the same each time, every outcome of images and of deliveries, and
+//! what the program writes.
+#![cfg(upstream)]
+
+use oracle::bytes::u32_at;
+use oracle::program::{self, MAX_INPUT};
+use oracle::recording::{self, OLD, SEED};
+
+#[test]
+fn the_recorded_runs_are_the_same_each_time_and_hold_every_outcome() {
+    let runs = recording::runs(SEED);
+    assert_eq!(runs.bytes(), recording::runs(SEED).bytes());
+    assert!(runs.bytes().len() < 600 << 10);
+    for outcome in 0..=5 {
+        assert!(runs.outcomes().contains(&outcome), "no image with outcome {outcome}");
+    }
+    // A delivery brings no image (3 to 5), no search of its own (20, 21) and no buffer (25).
+    let coverage = recording::run_coverage(&runs);
+    for outcome in (0..=2).chain(6..=19).chain(22..=24).chain([OLD]) {
+        assert!(coverage.contains_key(&outcome), "no delivery with outcome {outcome}");
+    }
+}
+
+#[test]
+fn an_entry_holds_a_run_and_what_it_writes() {
+    let runs = recording::runs(SEED);
+    let mut longest = 0;
+    for (outcome, entry) in runs.entries() {
+        let (input, written) = entry[4..].split_at(u32_at(entry, 0) as usize);
+        assert_eq!(written, program::run(input));
+        assert_eq!(outcome != 0, written == [0, 0, 0, 2, 1, outcome]);
+        longest = longest.max(input.len());
+    }
+    assert!(longest > MAX_INPUT);
+}
+
+/// A message more is read than fits, or one fewer: either would show.
+#[test]
+fn the_runs_about_the_limit_depend_on_it() {
+    let runs = recording::runs(SEED);
+    let near = runs.entries().map(|(_, entry)| &entry[4..][..u32_at(entry, 0) as usize]);
+    let mut count = 0;
+    for input in near.filter(|input| input.len() > MAX_INPUT) {
+        let shorter = &input[..MAX_INPUT - 30];
+        assert_ne!(program::run(input), program::run(shorter));
+        // The last two messages moved to the front, where they are read.
+        let last = [30, 60].map(|from_end| &input[input.len() - from_end..][..30]);
+        let image_end = program::image_end(input);
+        let whole = [&input[..image_end + 30], last[1], last[0]].concat();
+        assert_ne!(program::run(input), program::run(&whole));
+        count += 1;
+    }
+    assert_eq!(count, 2);
+}
