@@ -1,10 +1,12 @@
 // Replays the oracle's recorded answers on the engine and writes how many came out alike.
+mod edits;
 mod entries;
 mod images;
 mod messages;
 mod patterns;
 mod report;
 mod roots;
+mod runs;
 mod square_roots;
 mod tally;
 mod walk;
@@ -13,7 +15,7 @@ mod written;
 use walk::Subject;
 
 // Room for a list, and some more.
-const ROOM: usize = 262144;
+const ROOM: usize = 655360;
 
 // Reads a list, replays it and writes what came of it. A further read tells a whole list from one that is longer than
 // the buffer or that can't be read to its end.
@@ -40,4 +42,6 @@ fn main() {
     replay_file(b"messages", b"messages.bin", Subject::Messages);
     replay_file(b"square roots", b"square_roots.bin", Subject::SquareRoots);
     replay_file(b"roots", b"roots.bin", Subject::Roots);
+    replay_file(b"edits", b"edits.bin", Subject::Edits);
+    replay_file(b"runs", b"runs.bin", Subject::Runs);
 }

@@ -1,9 +1,11 @@
 // The walk over a list: each entry replayed as its subject has it, and counted.
+use crate::edits;
 use crate::entries::Entry;
 use crate::entries::entry_at;
 use crate::images;
 use crate::messages;
 use crate::roots;
+use crate::runs;
 use crate::square_roots;
 use crate::tally::Tally;
 use crate::tally::counted;
@@ -18,6 +20,8 @@ pub(crate) enum Subject {
     Messages,
     SquareRoots,
     Roots,
+    Edits,
+    Runs,
 }
 
 fn alike(subject: Subject, outcome: u8, input: &[u8]) -> bool {
@@ -26,6 +30,8 @@ fn alike(subject: Subject, outcome: u8, input: &[u8]) -> bool {
         Subject::Messages => messages::alike(outcome, input),
         Subject::SquareRoots => square_roots::alike(outcome, input),
         Subject::Roots => roots::alike(outcome, input),
+        Subject::Edits => edits::alike(outcome, input),
+        Subject::Runs => runs::alike(outcome, input),
     }
 }
 

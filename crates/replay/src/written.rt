@@ -1,6 +1,10 @@
 // Buffers that a writer was lent: filled with a pattern before, so that bytes it should leave alone can be told.
+use sketch::Sketch;
 
 pub(crate) const PATTERN: u8 = 0xa5;
+
+// Room for the largest image, 21,135 bytes, and some more.
+const ROOM: usize = 21504;
 
 // Whether a buffer of the pattern was overwritten with some bytes at its front, and only there.
 pub(crate) fn holds_just(buf: &[u8], bytes: &[u8]) -> bool {
@@ -16,6 +20,15 @@ pub(crate) fn holds_just(buf: &[u8], bytes: &[u8]) -> bool {
         i += 1;
     }
     true
+}
+
+// Whether a sketch has an image, and it is these bytes.
+pub(crate) fn holds_image(sk: Sketch, bytes: &[u8]) -> bool {
+    let mut buf = [PATTERN; ROOM];
+    if image::write(sk, &mut buf) != 0 {
+        return false;
+    }
+    holds_just(&buf, bytes)
 }
 
 fn byte_or_pattern(bytes: &[u8], at: usize) -> u8 {

@@ -15,7 +15,7 @@ fn main() -> std::io::Result<()> {
     write(folder, "messages.bin", &recording::messages(SEED))?;
     write(folder, "square_roots.bin", &recording::square_roots(SEED))?;
     if !upstream::PRESENT {
-        println!("roots.bin, edits.bin: the upstream source is absent, skipped");
+        println!("roots.bin, edits.bin, runs.bin: the upstream source is absent, skipped");
         return Ok(());
     }
     write(folder, "roots.bin", &recording::root_searches(SEED))?;
