@@ -37,7 +37,7 @@ const SPOILT: usize = 300;
 
 pub fn edits(seed: u64) -> List<()> {
     let mut list = List::new(judge);
-    for (drawing, edit) in examples() {
+    for (drawing, edit) in examples().into_iter().chain(rare()) {
         add(&mut list, &Call::new(&drawing, &edit), usize::MAX);
     }
     add_short_buffers(&mut list);
@@ -140,14 +140,21 @@ fn examples() -> Vec<(Drawing, Edit)> {
         (apart.clone(), edit(extend, 2.0, 0.0)),
         (apart, edit(extend, 0.0, 0.0)),
         (tied, edit(extend, 2.0, 0.0)),
-        (bulging(), edit(split, MAX_COORDINATE, 0.0)),
-        (endless(Id::MAX, 1), edit(split, 1.0, 0.0)),
-        (endless(Id::MAX - 1, 1), edit(split, 1.0, 0.0)),
-        (endless(1000, MAX_CURVES), edit(split, 1.0, 0.0)),
     ]
 }
 
-/// The line of `l` without ends, among so many curves. Few such are generated without room.
+/// Splits with outcomes that few generated ones have.
+fn rare() -> [(Drawing, Edit); 4] {
+    let split = |x| Edit { operation: Operation::Split, curve: 3, x, y: 0.0 };
+    [
+        (bulging(), split(MAX_COORDINATE)),
+        (endless(Id::MAX, 1), split(1.0)),
+        (endless(Id::MAX - 1, 1), split(1.0)),
+        (endless(1000, MAX_CURVES), split(1.0)),
+    ]
+}
+
+/// The line of `l` without ends, among so many curves.
 fn endless(next_id: Id, curves: usize) -> Drawing {
     let mut drawing = l();
     drawing.curves.extend((4..).map(|id| line(id, 1, 2)).take(curves - 1));
@@ -156,7 +163,7 @@ fn endless(next_id: Id, curves: usize) -> Drawing {
     drawing
 }
 
-/// An arc between good points that runs past the greatest coordinate. Few such are generated.
+/// An arc between good points that runs past the greatest coordinate.
 fn bulging() -> Drawing {
     let c = MAX_COORDINATE - 1.0;
     let points = vec![point(1, c, 0.0), point(2, c, -5.0), point(4, c, 5.0)];
@@ -176,7 +183,7 @@ fn spoilt(random: &mut Random, call: &Call) -> [Call; 3] {
 
 /// Accepted edits with a buffer one byte short, of a report's size, and of none.
 fn add_short_buffers(list: &mut List<()>) {
-    for (drawing, edit) in examples().into_iter().take(7) {
+    for (drawing, edit) in examples() {
         let call = Call::new(&drawing, &edit);
         let needed = call.judge().map_or(1, |(after, _)| call::size(&after));
         for room in [0, call::REPORT_SIZE - 1, call::REPORT_SIZE, needed - 1] {
