@@ -1,0 +1,169 @@
+//! The two bridges of the hall, as a visitor left them: hangers too long or too short, arches drawn
+//! as whole circles. The script finishes them.
+//!
+//! Nothing is trimmed while a freeform curve is in a drawing, so the bridge of lines, arcs and
+//! circles is trimmed, and the one with the Bézier arch is split and extended.
+
+use mulkefi::{Drawing, Edit, Id, Kind, Operation};
+
+pub struct Bridge {
+    pub name: &'static str,
+    pub drawing: Drawing,
+    pub script: Vec<Edit>,
+}
+
+pub fn all() -> [Bridge; 2] {
+    [round_arch(), free_arch()]
+}
+
+const DECK: f64 = 20.0;
+const UNDERSIDE: f64 = 18.0;
+const WEST: f64 = -20.0;
+const EAST: f64 = 140.0;
+
+impl Bridge {
+    fn new(name: &'static str) -> Bridge {
+        let mut bridge = Bridge { name, drawing: Drawing::new(), script: Vec::new() };
+        let water = bridge.line((WEST - 4.0, 0.0), (EAST + 4.0, 0.0));
+        bridge.mark_construction(water);
+        bridge.line((WEST, UNDERSIDE), (EAST, UNDERSIDE));
+        bridge
+    }
+
+    fn point(&mut self, (x, y): (f64, f64)) -> Id {
+        self.drawing.add_point(x, y)
+    }
+
+    fn line(&mut self, from: (f64, f64), to: (f64, f64)) -> Id {
+        let (a, b) = (self.point(from), self.point(to));
+        self.drawing.add_curve(Kind::Line { a, b })
+    }
+
+    fn circle(&mut self, centre: (f64, f64), radius: f64) -> Id {
+        let c = self.point(centre);
+        self.drawing.add_curve(Kind::Circle { c, radius })
+    }
+
+    fn mark_construction(&mut self, id: Id) {
+        let curve = self.drawing.curves.iter_mut().find(|curve| curve.id == id);
+        curve.expect("it was just added").construction = true;
+    }
+
+    fn then(&mut self, operation: Operation, curve: Id, (x, y): (f64, f64)) {
+        self.script.push(Edit { operation, curve, x, y });
+    }
+
+    /// A pier of two lines from the water to the deck.
+    fn pier(&mut self, x: f64) {
+        self.line((x - 1.5, 0.0), (x - 1.5, UNDERSIDE));
+        self.line((x + 1.5, 0.0), (x + 1.5, UNDERSIDE));
+    }
+
+    /// A cart on the deck: a box, a shaft, and two wheels that it half hides.
+    fn cart(&mut self, x: f64) -> [Id; 2] {
+        let (low, high) = (DECK + 2.6, DECK + 6.0);
+        let corners = [(x, low), (x + 8.0, low), (x + 8.0, high), (x, high)];
+        let corners = corners.map(|corner| self.point(corner));
+        for side in 0..4 {
+            let (a, b) = (corners[side], corners[(side + 1) % 4]);
+            self.drawing.add_curve(Kind::Line { a, b });
+        }
+        [x + 2.0, x + 6.0].map(|hub| self.circle((hub, DECK + 1.6), 1.6))
+    }
+}
+
+/// Two tied ribs of arcs over the river, four round arches on the banks.
+fn round_arch() -> Bridge {
+    let mut bridge = Bridge::new("round arch");
+    let deck = bridge.line((WEST, DECK), (EAST, DECK));
+    [18.5, 101.5].into_iter().for_each(|x| bridge.pier(x));
+    let centre = bridge.point((60.0, -10.0));
+    let (a, b) = (bridge.point((100.0, DECK)), bridge.point((20.0, DECK)));
+    let rib = bridge.drawing.add_curve(Kind::Arc { c: centre, a, b });
+    let hangers = [30.0, 40.0, 50.0, 60.0, 70.0, 80.0, 90.0].map(|x: f64| match x as i64 {
+        50..=70 => (x, bridge.line((x, DECK), (x, 48.0))),
+        40 | 80 => (x, bridge.line((x, 13.0), (x, 30.0))),
+        _ => (x, bridge.line((x, DECK), (x, 24.0))),
+    });
+    for (x, hanger) in hangers {
+        match x as i64 {
+            50..=70 => bridge.then(Operation::Trim, hanger, (x, 46.0)),
+            40 | 80 => {
+                bridge.then(Operation::Extend, hanger, (x, 30.0));
+                bridge.then(Operation::Trim, hanger, (x, 14.0));
+                bridge.then(Operation::Trim, hanger, (x, 19.0));
+            }
+            _ => bridge.then(Operation::Extend, hanger, (x, 24.0)),
+        }
+    }
+    [-10.5, 7.5, 112.5, 130.5].into_iter().for_each(|x| bank_arch(&mut bridge, x));
+    [-16.0, 136.0].into_iter().for_each(|x| round_lamp(&mut bridge, x));
+    let wheels = bridge.cart(41.0);
+    for (hub, wheel) in [43.0, 47.0].into_iter().zip(wheels) {
+        bridge.then(Operation::Trim, wheel, (hub, DECK + 3.2));
+    }
+    bridge.then(Operation::Split, deck, (60.0, DECK));
+    bridge.then(Operation::Split, rib, (60.0, 40.0));
+    bridge
+}
+
+/// A circle whose lower half is cut off at the springing.
+fn bank_arch(bridge: &mut Bridge, x: f64) {
+    let (radius, springing) = (7.5, 8.0);
+    let course = bridge.line((x - radius - 0.7, springing), (x + radius + 0.7, springing));
+    bridge.mark_construction(course);
+    let ring = bridge.circle((x, springing), radius);
+    bridge.line((x - radius, 0.0), (x - radius, springing));
+    bridge.line((x + radius, 0.0), (x + radius, springing));
+    bridge.then(Operation::Trim, ring, (x, springing - radius));
+}
+
+/// A post that is drawn into its lamp and trimmed at the glass.
+fn round_lamp(bridge: &mut Bridge, x: f64) {
+    let post = bridge.line((x, DECK), (x, 31.0));
+    bridge.circle((x, 31.0), 2.0);
+    bridge.then(Operation::Trim, post, (x, 30.5));
+}
+
+/// A Bézier arch through the deck, conics on the banks; all that is too short is extended to them.
+fn free_arch() -> Bridge {
+    let mut bridge = Bridge::new("free arch");
+    let deck = bridge.line((WEST, DECK), (EAST, DECK));
+    let feet = [(8.0, 0.0), (36.0, 56.0), (84.0, 56.0), (112.0, 0.0)];
+    let points = feet.map(|foot| bridge.point(foot)).to_vec();
+    bridge.drawing.add_curve(Kind::Bezier { points });
+    for x in [35.0, 45.0, 55.0, 65.0, 75.0, 85.0] {
+        let hanger = bridge.line((x, DECK), (x, 24.0));
+        bridge.then(Operation::Extend, hanger, (x, 24.0));
+    }
+    for x in [16.0, 104.0] {
+        let column = bridge.line((x, UNDERSIDE), (x, 16.5));
+        bridge.then(Operation::Extend, column, (x, 16.5));
+    }
+    [-6.0, 126.0].into_iter().for_each(|x| bank_conic(&mut bridge, x));
+    [-16.0, 136.0].into_iter().for_each(|x| free_lamp(&mut bridge, x));
+    let [wheel, _] = bridge.cart(56.0);
+    // Refused by 11, as is every trim here.
+    bridge.then(Operation::Trim, wheel, (58.0, DECK + 3.2));
+    bridge.then(Operation::Split, wheel, (58.0, DECK + 3.2));
+    bridge.then(Operation::Split, deck, (60.0, DECK));
+    bridge
+}
+
+/// A conic under the deck, and a column that is extended down to its crown.
+fn bank_conic(bridge: &mut Bridge, x: f64) {
+    let [a, apex, b] =
+        [(x - 11.0, 0.0), (x, 24.0), (x + 11.0, 0.0)].map(|place| bridge.point(place));
+    bridge.drawing.add_curve(Kind::Conic { a, apex, b, rho: 0.55 });
+    for across in [-5.0, 0.0, 5.0] {
+        let column = bridge.line((x + across, UNDERSIDE), (x + across, 16.0));
+        bridge.then(Operation::Extend, column, (x + across, 16.0));
+    }
+}
+
+/// A post that is extended up to its lamp.
+fn free_lamp(bridge: &mut Bridge, x: f64) {
+    let post = bridge.line((x, DECK), (x, 25.0));
+    bridge.circle((x, 31.0), 2.0);
+    bridge.then(Operation::Extend, post, (x, 25.0));
+}

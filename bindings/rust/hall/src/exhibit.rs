@@ -1,0 +1,168 @@
+//! One bridge with its desk, its wall and the radio between them.
+
+use crate::bridges::Bridge;
+use crate::cut_away::cut_away;
+use crate::edits;
+use crate::radio::{Message, Radio};
+use crate::random::Random;
+use mulkefi::{read, Delivery, Desk, Drawing, Edit, Refusal, Report, Stroke, Wall};
+use std::collections::BTreeMap;
+
+/// How many random edits are asked after the list.
+const RANDOM_EDITS: usize = 24;
+
+#[derive(Default)]
+pub struct Tally {
+    pub asked: usize,
+    pub accepted: usize,
+    pub cut_away: usize,
+    refused: BTreeMap<u16, usize>,
+    pub sent: usize,
+    pub lost: usize,
+    pub repeated: usize,
+    pub overtaken: usize,
+    pub old: usize,
+    pub ahead: usize,
+    /// The wall's count before the lost messages were sent again.
+    pub wall_before: u32,
+}
+
+impl Tally {
+    /// Each number with how often it came.
+    pub fn refusals(&self) -> String {
+        let each = self.refused.iter().map(|(number, times)| format!("{number}x{times}"));
+        each.collect::<Vec<_>>().join(" ")
+    }
+}
+
+/// A screen's pieces that were cut away, and its drawing.
+pub struct Shown {
+    pub drawing: Drawing,
+    pub away: Vec<Stroke>,
+}
+
+pub struct Exhibit {
+    bridge: Bridge,
+    desk: Desk,
+    wall: Wall,
+    radio: Radio,
+    random: Random,
+    /// What the desk wrote, kept until the wall has it.
+    messages: Vec<Message>,
+    desk_away: Vec<Stroke>,
+    wall_away: Vec<Stroke>,
+    pub tally: Tally,
+}
+
+impl Exhibit {
+    pub fn open(bridge: Bridge, seed: u64) -> Result<Exhibit, Refusal> {
+        let image = bridge.drawing.to_image();
+        Ok(Exhibit {
+            desk: Desk::start(&image)?,
+            wall: Wall::start(&image)?,
+            radio: Radio::new(seed ^ 0x5eed),
+            random: Random::new(seed),
+            bridge,
+            messages: Vec::new(),
+            desk_away: Vec::new(),
+            wall_away: Vec::new(),
+            tally: Tally::default(),
+        })
+    }
+
+    pub fn run(&mut self) -> Result<(), Refusal> {
+        for edit in self.bridge.script.clone() {
+            self.ask(&edit)?;
+        }
+        for _ in 0..RANDOM_EDITS {
+            let edit = edits::random(&mut self.random, &shown(self.desk.image()));
+            self.ask(&edit)?;
+        }
+        self.radio.rest().iter().try_for_each(|message| self.arrive(message))?;
+        self.tally.wall_before = self.wall.count();
+        self.catch_up()
+    }
+
+    /// The desk's host: an accepted edit's message goes to the radio, and some arrive.
+    fn ask(&mut self, edit: &Edit) -> Result<(), Refusal> {
+        self.tally.asked += 1;
+        let before = shown(self.desk.image());
+        match self.desk.edit(edit) {
+            Err(refusal) => *self.tally.refused.entry(refusal.number()).or_default() += 1,
+            Ok(done) => {
+                self.tally.accepted += 1;
+                let after = shown(self.desk.image());
+                let away = cut_away(&before, &after, edit.curve, &done.report);
+                self.tally.cut_away += usize::from(away.is_some());
+                self.desk_away.extend(away);
+                self.messages.push(done.message);
+                self.send(done.message)?;
+            }
+        }
+        Ok(())
+    }
+
+    fn send(&mut self, message: Message) -> Result<(), Refusal> {
+        self.tally.sent += 1;
+        let arrived = self.radio.carry(message);
+        (self.tally.lost, self.tally.repeated) = (self.radio.lost, self.radio.repeated);
+        self.tally.overtaken = self.radio.overtaken;
+        arrived.iter().try_for_each(|message| self.arrive(message))
+    }
+
+    /// The wall's host. That a message is ahead is told by number and waited out.
+    fn arrive(&mut self, message: &Message) -> Result<(), Refusal> {
+        let before = shown(self.wall.image());
+        match self.wall.deliver(message) {
+            Ok(Delivery::Old) => self.tally.old += 1,
+            Ok(Delivery::Done(report)) => self.note_at_wall(&before, message, &report),
+            Err(Refusal::Ahead) => self.tally.ahead += 1,
+            Err(refusal) => return Err(refusal),
+        }
+        Ok(())
+    }
+
+    fn note_at_wall(&mut self, before: &Drawing, message: &Message, report: &Report) {
+        let curve = u32::from_be_bytes([message[10], message[11], message[12], message[13]]);
+        let after = shown(self.wall.image());
+        self.wall_away.extend(cut_away(before, &after, curve, report));
+    }
+
+    /// Sends again from the wall's count on, by the same radio, until nothing is missing.
+    fn catch_up(&mut self) -> Result<(), Refusal> {
+        while self.wall.count() < self.desk.count() {
+            let missing = self.messages[self.wall.count() as usize..].to_vec();
+            missing.into_iter().try_for_each(|message| self.send(message))?;
+            self.radio.rest().iter().try_for_each(|message| self.arrive(message))?;
+        }
+        Ok(())
+    }
+
+    pub fn name(&self) -> &'static str {
+        self.bridge.name
+    }
+
+    pub fn agrees(&self) -> bool {
+        self.desk.image() == self.wall.image() && self.desk.count() == self.wall.count()
+    }
+
+    pub fn desk_count(&self) -> u32 {
+        self.desk.count()
+    }
+
+    pub fn wall_count(&self) -> u32 {
+        self.wall.count()
+    }
+
+    pub fn desk_shown(&self) -> Shown {
+        Shown { drawing: shown(self.desk.image()), away: self.desk_away.clone() }
+    }
+
+    pub fn wall_shown(&self) -> Shown {
+        Shown { drawing: shown(self.wall.image()), away: self.wall_away.clone() }
+    }
+}
+
+fn shown(image: &[u8]) -> Drawing {
+    read(image).expect("desk and wall hold good images")
+}

@@ -1,0 +1,102 @@
+//! The desk, where edits are made.
+
+use crate::edit::{Edit, Report};
+use crate::format::{LARGEST_IMAGE, MESSAGE_SIZE};
+use crate::raw;
+use crate::refusal::Refusal;
+use crate::screen::{Answer, Screen};
+use std::fmt;
+
+/// A drawing's image and how many edits it has taken.
+#[derive(Clone)]
+pub struct Desk(Screen);
+
+/// What an accepted edit gives.
+#[derive(Clone, Copy, Debug, PartialEq, Eq)]
+pub struct Done {
+    /// For the wall.
+    pub message: [u8; MESSAGE_SIZE],
+    pub report: Report,
+}
+
+impl Desk {
+    /// A desk that has taken no edits yet, or the refusal of its image.
+    pub fn start(image: &[u8]) -> Result<Desk, Refusal> {
+        Desk::resume(image, 0)
+    }
+
+    /// A desk as it was left: its image and count.
+    ///
+    /// ```
+    /// use mulkefi::{Desk, Drawing, Edit, Operation, Refusal};
+    ///
+    /// let desk = Desk::start(&Drawing::new().to_image())?;
+    /// let mut last = Desk::resume(desk.image(), u32::MAX)?;
+    /// let edit = Edit { operation: Operation::Trim, curve: 1, x: 0.0, y: 0.0 };
+    /// assert_eq!(last.edit(&edit), Err(Refusal::Numbers));
+    /// # Ok::<(), Refusal>(())
+    /// ```
+    pub fn resume(image: &[u8], count: u32) -> Result<Desk, Refusal> {
+        Screen::new(image, count).map(Desk)
+    }
+
+    pub fn image(&self) -> &[u8] {
+        self.0.image()
+    }
+
+    pub fn count(&self) -> u32 {
+        self.0.count
+    }
+
+    /// Makes an edit. A refusal leaves the desk as it was.
+    ///
+    /// ```
+    /// use mulkefi::{Desk, Drawing, Edit, Kind, Operation, Refusal};
+    ///
+    /// let mut drawing = Drawing::new();
+    /// let (a, b) = (drawing.add_point(0.0, 0.0), drawing.add_point(4.0, 0.0));
+    /// let curve = drawing.add_curve(Kind::Line { a, b });
+    /// let mut desk = Desk::start(&drawing.to_image())?;
+    ///
+    /// let extend = Edit { operation: Operation::Extend, curve, x: 4.0, y: 0.0 };
+    /// assert_eq!(desk.edit(&extend), Err(Refusal::NothingMet));
+    ///
+    /// let trim = Edit { operation: Operation::Trim, ..extend };
+    /// let report = desk.edit(&trim)?.report;
+    /// assert_eq!((report.removed, report.start, report.end), (curve, a, b));
+    /// assert_eq!(desk.count(), 1);
+    /// # Ok::<(), Refusal>(())
+    /// ```
+    pub fn edit(&mut self, edit: &Edit) -> Result<Done, Refusal> {
+        let Edit { operation, curve, x, y } = *edit;
+        let Screen { buffer, len, count } = &mut self.0;
+        assert!(*len <= LARGEST_IMAGE, "an image keeps within its buffer");
+        let mut message = [0; MESSAGE_SIZE];
+        let mut answer: Answer = [0; 5];
+        // SAFETY: the three buffers are apart, lent for the call with their own lengths, and the
+        // engine stays within these; `answer` has the five numbers that it writes.
+        let refused = unsafe {
+            raw::mulkefi_desk_edit(
+                buffer.as_mut_ptr(),
+                buffer.len(),
+                *len,
+                *count,
+                operation.code().into(),
+                curve,
+                x,
+                y,
+                message.as_mut_ptr(),
+                message.len(),
+                answer.as_mut_ptr(),
+            )
+        };
+        Refusal::of_answer(refused)?;
+        Ok(Done { message, report: self.0.take(answer) })
+    }
+}
+
+impl fmt::Debug for Desk {
+    fn fmt(&self, f: &mut fmt::Formatter<'_>) -> fmt::Result {
+        write!(f, "Desk {{ image: {} bytes, count: {} }}", self.0.len, self.0.count)
+    }
+}

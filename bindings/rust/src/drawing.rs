@@ -1,0 +1,177 @@
+//! A drawing as a host makes and shows it: three tables whose records name each other by id.
+
+pub type Id = u32;
+
+/// Points, curves and relations. Ids rise in each table, below the next id.
+///
+/// A drawing may hold anything; whether its image is good is for [`crate::test`] to say.
+#[derive(Clone, Debug, PartialEq)]
+pub struct Drawing {
+    pub next: Id,
+    pub points: Vec<Point>,
+    pub curves: Vec<Curve>,
+    pub relations: Vec<Relation>,
+}
+
+#[derive(Clone, Copy, Debug, PartialEq)]
+pub struct Point {
+    pub id: Id,
+    pub x: f64,
+    pub y: f64,
+    pub fixed: bool,
+}
+
+#[derive(Clone, Debug, PartialEq)]
+pub struct Curve {
+    pub id: Id,
+    pub kind: Kind,
+    pub construction: bool,
+    pub centerline: bool,
+    pub infinite: bool,
+}
+
+#[derive(Clone, Debug, PartialEq)]
+pub enum Kind {
+    Line {
+        a: Id,
+        b: Id,
+    },
+    /// About `c`, counter-clockwise from `a` to `b`.
+    Arc {
+        c: Id,
+        a: Id,
+        b: Id,
+    },
+    Circle {
+        c: Id,
+        radius: f64,
+    },
+    /// Two to eight points.
+    Bezier {
+        points: Vec<Id>,
+    },
+    Conic {
+        a: Id,
+        apex: Id,
+        b: Id,
+        rho: f64,
+    },
+}
+
+impl Kind {
+    pub fn name(&self) -> &'static str {
+        match self {
+            Kind::Line { .. } => "line",
+            Kind::Arc { .. } => "arc",
+            Kind::Circle { .. } => "circle",
+            Kind::Bezier { .. } => "Bézier",
+            Kind::Conic { .. } => "conic",
+        }
+    }
+
+    /// The points that it names, in a record's order.
+    pub fn points(&self) -> Vec<Id> {
+        match self {
+            Kind::Line { a, b } => vec![*a, *b],
+            Kind::Arc { c, a, b } => vec![*c, *a, *b],
+            Kind::Circle { c, .. } => vec![*c],
+            Kind::Bezier { points } => points.clone(),
+            Kind::Conic { a, apex, b, .. } => vec![*a, *apex, *b],
+        }
+    }
+}
+
+#[derive(Clone, Copy, Debug, PartialEq)]
+pub enum Relation {
+    Coincident { p: Id, q: Id },
+    PointOnCurve { p: Id, curve: Id },
+    Collinear { a: Id, b: Id },
+    Equal { a: Id, b: Id },
+    Length { line: Id, value: f64 },
+    Distance { p: Id, q: Id, value: f64 },
+    Midpoint { p: Id, line: Id },
+    ArcLength { round: Id, value: f64 },
+    ArcSweep { round: Id, value: f64 },
+}
+
+impl Relation {
+    pub fn name(&self) -> &'static str {
+        match self {
+            Relation::Coincident { .. } => "Coincident",
+            Relation::PointOnCurve { .. } => "PointOnCurve",
+            Relation::Collinear { .. } => "Collinear",
+            Relation::Equal { .. } => "Equal",
+            Relation::Length { .. } => "Length",
+            Relation::Distance { .. } => "Distance",
+            Relation::Midpoint { .. } => "Midpoint",
+            Relation::ArcLength { .. } => "ArcLength",
+            Relation::ArcSweep { .. } => "ArcSweep",
+        }
+    }
+
+    /// The two ids of its record, the second 0 where the kind has one.
+    pub fn ids(&self) -> [Id; 2] {
+        match *self {
+            Relation::Coincident { p, q } | Relation::Distance { p, q, .. } => [p, q],
+            Relation::PointOnCurve { p, curve } => [p, curve],
+            Relation::Collinear { a, b } | Relation::Equal { a, b } => [a, b],
+            Relation::Midpoint { p, line } => [p, line],
+            Relation::Length { line, .. } => [line, 0],
+            Relation::ArcLength { round, .. } | Relation::ArcSweep { round, .. } => [round, 0],
+        }
+    }
+
+    /// The value of one that measures.
+    pub fn value(&self) -> Option<f64> {
+        match *self {
+            Relation::Length { value, .. }
+            | Relation::Distance { value, .. }
+            | Relation::ArcLength { value, .. }
+            | Relation::ArcSweep { value, .. } => Some(value),
+            _ => None,
+        }
+    }
+}
+
+impl Drawing {
+    /// An empty drawing.
+    pub fn new() -> Drawing {
+        Drawing { next: 1, points: Vec::new(), curves: Vec::new(), relations: Vec::new() }
+    }
+
+    /// Adds a point that is not fixed, and answers its id.
+    pub fn add_point(&mut self, x: f64, y: f64) -> Id {
+        let id = self.take_id();
+        self.points.push(Point { id, x, y, fixed: false });
+        id
+    }
+
+    /// Adds a curve without flags, and answers its id.
+    pub fn add_curve(&mut self, kind: Kind) -> Id {
+        let id = self.take_id();
+        let (construction, centerline, infinite) = (false, false, false);
+        self.curves.push(Curve { id, kind, construction, centerline, infinite });
+        id
+    }
+
+    /// Past the last id the engine refuses the image, since ids no longer rise.
+    fn take_id(&mut self) -> Id {
+        let id = self.next;
+        self.next = id.saturating_add(1);
+        id
+    }
+
+    pub fn point(&self, id: Id) -> Option<&Point> {
+        self.points.binary_search_by_key(&id, |point| point.id).ok().map(|at| &self.points[at])
+    }
+
+    pub fn curve(&self, id: Id) -> Option<&Curve> {
+        self.curves.binary_search_by_key(&id, |curve| curve.id).ok().map(|at| &self.curves[at])
+    }
+}
+
+impl Default for Drawing {
+    fn default() -> Drawing {
+        Drawing::new()
+    }
+}

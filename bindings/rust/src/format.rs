@@ -1,0 +1,32 @@
+//! Sizes, places and limits of the two formats.
+
+use std::ops::RangeInclusive;
+
+/// The size of a message.
+pub const MESSAGE_SIZE: usize = 30;
+/// The size of the image whose tables are full.
+pub const LARGEST_IMAGE: usize = image_size([MOST_POINTS, MOST_CURVES, MOST_RELATIONS]);
+
+pub const MOST_POINTS: usize = 512;
+pub const MOST_CURVES: usize = 128;
+pub const MOST_RELATIONS: usize = 256;
+
+pub const VERSION: u8 = 1;
+/// The length field counts the bytes behind it.
+pub const LENGTH_SIZE: usize = 4;
+/// Length, version, next id and three counts.
+pub const HEADER_SIZE: usize = 15;
+pub const POINT_SIZE: usize = 21;
+pub const CURVE_SIZE: usize = 47;
+pub const RELATION_SIZE: usize = 17;
+/// Points that a curve's record has room for.
+pub const SLOTS: usize = 8;
+
+pub const GREATEST_COORDINATE: f64 = 1e6;
+pub const RADIUS: RangeInclusive<f64> = 1e-6..=1e6;
+pub const VALUE: RangeInclusive<f64> = 0.0..=4e6;
+
+/// The size of an image with so many points, curves and relations.
+pub const fn image_size(counts: [usize; 3]) -> usize {
+    HEADER_SIZE + POINT_SIZE * counts[0] + CURVE_SIZE * counts[1] + RELATION_SIZE * counts[2]
+}

@@ -1,0 +1,95 @@
+//! Two screens that cut one drawing alike, to the bit: the proved engine as safe Rust calls.
+//!
+//! A [`Desk`] and a [`Wall`] start from one image. Each accepted edit at the desk gives a message of
+//! thirty bytes; the wall that gets it makes the same cut. Messages may be lost, come twice or out of
+//! order: the wall then waits, and asks for nothing but the message after its count.
+//!
+//! ```
+//! use mulkefi::{Delivery, Desk, Drawing, Edit, Kind, Operation, Wall};
+//!
+//! let mut drawing = Drawing::new();
+//! let (a, b) = (drawing.add_point(0.0, 0.0), drawing.add_point(4.0, 0.0));
+//! let deck = drawing.add_curve(Kind::Line { a, b });
+//! let image = drawing.to_image();
+//!
+//! let mut desk = Desk::start(&image)?;
+//! let mut wall = Wall::start(&image)?;
+//! let edit = Edit { operation: Operation::Split, curve: deck, x: 1.0, y: 3.0 };
+//! let done = desk.edit(&edit)?;
+//! assert_eq!(wall.deliver(&done.message)?, Delivery::Done(done.report));
+//! assert_eq!(wall.deliver(&done.message)?, Delivery::Old);
+//! assert_eq!(desk.image(), wall.image());
+//! assert_eq!(desk.count(), wall.count());
+//! # Ok::<(), mulkefi::Refusal>(())
+//! ```
+//!
+//! Nothing is altered by a call that is refused. A [`Refusal`] has the number that the formats'
+//! document gives it, and a sentence for the person at the screen.
+//!
+//! The engine itself is the static library `kiosk`; [`raw`] declares its calls. [`Drawing`], [`read`]
+//! and [`svg`] are plain Rust for making, showing and drawing images, and no part of the proof.
+
+pub mod raw;
+pub mod svg;
+
+mod desk;
+mod drawing;
+mod edit;
+mod fault;
+mod format;
+mod lend;
+mod place;
+mod reader;
+mod refusal;
+mod roots;
+mod screen;
+mod stroke;
+mod text;
+mod wall;
+mod writer;
+
+pub use desk::{Desk, Done};
+pub use drawing::{Curve, Drawing, Id, Kind, Point, Relation};
+pub use edit::{Edit, Operation, Report};
+pub use fault::{Fault, Table};
+pub use format::{LARGEST_IMAGE, MESSAGE_SIZE};
+pub use place::{Bounds, Place};
+pub use reader::read;
+pub use refusal::Refusal;
+pub use roots::{roots, Roots, MOST_ROOTS};
+pub use stroke::Stroke;
+pub use wall::{Delivery, Wall};
+
+/// The versions of the two formats that the engine reads and writes.
+#[derive(Clone, Copy, Debug, PartialEq, Eq)]
+pub struct Versions {
+    pub image: u8,
+    pub message: u8,
+}
+
+/// Asks the engine for its versions.
+///
+/// ```
+/// assert_eq!(mulkefi::versions(), mulkefi::Versions { image: 1, message: 1 });
+/// ```
+pub fn versions() -> Versions {
+    // SAFETY: the call takes nothing and only answers a number.
+    let [.., image, message] = unsafe { raw::mulkefi_versions() }.to_be_bytes();
+    Versions { image, message }
+}
+
+/// Asks the engine whether bytes are an image.
+///
+/// ```
+/// use mulkefi::{test, Refusal};
+///
+/// let empty = [0, 0, 0, 11, 1, 0, 0, 0, 1, 0, 0, 0, 0, 0, 0];
+/// assert_eq!(test(&empty), Ok(()));
+/// assert_eq!(test(&empty[..14]), Err(Refusal::Length));
+/// assert_eq!(test(&[]), Err(Refusal::Length));
+/// ```
+pub fn test(image: &[u8]) -> Result<(), Refusal> {
+    let (bytes, len) = lend::bytes(image);
+    // SAFETY: the bytes are lent for the call, which only reads them.
+    Refusal::of_answer(unsafe { raw::mulkefi_test(bytes, len) })
+}

@@ -1,0 +1,52 @@
+//! The calls of the static library as its header declares them.
+//!
+//! Each answers 0, or a refusal's number with the place of a relation not met times 65,536 added,
+//! and a refusal alters nothing of the caller's. Slices go over as pointer and length; a length of 0
+//! still wants a pointer that is not null. Lent memory must not overlap.
+
+extern "C" {
+    /// The image's version, times 256, and the message's.
+    pub fn mulkefi_versions() -> u32;
+
+    /// The number that an image is refused by, or 0.
+    pub fn mulkefi_test(image: *const u8, len: usize) -> u32;
+
+    /// The desk's call on the image in the first `len` of `room` bytes. Accepted, it writes the new
+    /// image and the message to the buffers' fronts and gives count, image's length, removed curve,
+    /// its start and its end.
+    pub fn mulkefi_desk_edit(
+        buffer: *mut u8,
+        room: usize,
+        len: usize,
+        count: u32,
+        operation: u32,
+        curve: u32,
+        x: f64,
+        y: f64,
+        message: *mut u8,
+        message_room: usize,
+        answer: *mut u32,
+    ) -> u32;
+
+    /// The wall's call, likewise. An old message is accepted and leaves count and image.
+    pub fn mulkefi_wall_deliver(
+        buffer: *mut u8,
+        room: usize,
+        len: usize,
+        count: u32,
+        message: *const u8,
+        message_len: usize,
+        answer: *mut u32,
+    ) -> u32;
+
+    /// The search for roots. Accepted, it writes them to the front of `found` and gives how many
+    /// there are and the budget left.
+    pub fn mulkefi_roots(
+        coefficients: *const f64,
+        n: usize,
+        found: *mut f64,
+        room: usize,
+        budget: usize,
+        answer: *mut u64,
+    ) -> u32;
+}

@@ -1,0 +1,90 @@
+//! Desk, wall, the C interface and the search for roots against the oracle, on generated input.
+//!
+//! `cargo test --release --test compare -- CASES SEED`; the cases are also taken from MULKEFI_CASES.
+//! Of so many cases a quarter each are desk calls, deliveries, calls with rooms of every size and
+//! searches; a further one in forty is a whole run. What came up is printed by outcome.
+
+mod boundary;
+mod cases;
+mod coverage;
+mod runs;
+mod searches;
+mod side;
+
+use coverage::Coverage;
+use oracle::generate::random::Random;
+use oracle::upstream;
+use side::{Engine, Oracle, Planted, Side};
+use std::process::ExitCode;
+
+const CASES: usize = 20_000;
+
+fn main() -> ExitCode {
+    if !upstream::PRESENT {
+        println!("no upstream source: the comparison of desk and wall is skipped");
+        return ExitCode::SUCCESS;
+    }
+    // Other arguments are the test harness's.
+    let mut numbers = std::env::args().skip(1).filter_map(|text| text.parse::<usize>().ok());
+    let asked = std::env::var("MULKEFI_CASES").ok().and_then(|text| text.parse().ok());
+    let cases = numbers.next().or(asked).unwrap_or(CASES);
+    let seed = numbers.next().unwrap_or(1) as u64;
+    match compare(cases, seed).and_then(|()| planted_fault_is_seen()) {
+        Ok(()) => ExitCode::SUCCESS,
+        Err(difference) => {
+            println!("{difference}");
+            ExitCode::FAILURE
+        }
+    }
+}
+
+fn compare(cases: usize, seed: u64) -> Result<(), String> {
+    let random = &mut Random::new(seed);
+    let share = cases / 4;
+    report("desk calls", share, |seen| steps::<Engine>(random, share, cases::desk, seen))?;
+    report("deliveries", share, |seen| steps::<Engine>(random, share, cases::wall, seen))?;
+    report("rooms", share, |seen| boundary::compare(random, share, seen))?;
+    report("searches", share, |seen| searches::compare(random, share, seen))?;
+    report("runs", cases / 40, |seen| runs::compare(random, cases / 40, seen))
+}
+
+fn report(
+    name: &str,
+    count: usize,
+    compared: impl FnOnce(&mut Coverage) -> Result<(), String>,
+) -> Result<(), String> {
+    let mut seen = Coverage::default();
+    compared(&mut seen).map_err(|difference| format!("{name}: {difference}"))?;
+    print!("{name}: {count} compared, no difference\n{seen}");
+    Ok(())
+}
+
+/// Single calls, each from a state of its own.
+fn steps<S: Side>(
+    random: &mut Random,
+    count: usize,
+    case: fn(&mut Random) -> cases::Case,
+    seen: &mut Coverage,
+) -> Result<(), String> {
+    for _ in 0..count {
+        let case = case(random);
+        let (expected, found) = (case.put_to::<Oracle>(), case.put_to::<S>());
+        if expected != found {
+            return Err(format!("{case:?}\n  oracle {expected:?}\n  engine {found:?}"));
+        }
+        seen.add(case.name(), expected.number());
+    }
+    Ok(())
+}
+
+/// The comparison must be able to fail.
+fn planted_fault_is_seen() -> Result<(), String> {
+    let seen = &mut Coverage::default();
+    for case in [cases::desk, cases::wall] {
+        if steps::<Planted>(&mut Random::new(3), 4_000, case, seen).is_ok() {
+            return Err("a planted fault was not seen".into());
+        }
+    }
+    println!("planted fault: seen at desk and wall");
+    Ok(())
+}

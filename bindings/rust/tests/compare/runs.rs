@@ -1,0 +1,44 @@
+//! Whole runs on one desk and one wall, whose buffers keep what earlier and longer images left.
+
+use super::coverage::Coverage;
+use super::side::{Engine, Oracle, Outcome, Side};
+use mulkefi::{Desk, Wall};
+use oracle::generate::{random::Random, runs::Run};
+use oracle::image;
+use oracle::steps::State;
+
+pub fn compare(random: &mut Random, count: usize, seen: &mut Coverage) -> Result<(), String> {
+    (0..count).try_for_each(|_| compare_run(&Run::any(random), seen))
+}
+
+fn compare_run(run: &Run, seen: &mut Coverage) -> Result<(), String> {
+    let start = State { image: image::to_bytes(&run.start), count: 0 };
+    let (mut desk, mut wall) =
+        (begin(Desk::start(&start.image))?, begin(Wall::start(&start.image))?);
+    let mut state = start.clone();
+    for (edit, _) in &run.calls {
+        let expected = Oracle::edit(&state, edit);
+        same(&expected, &Engine::edit_at(&mut desk, edit))?;
+        seen.add("desk", expected.number());
+        state = expected.state;
+    }
+    state = start;
+    for message in &run.deliveries {
+        let expected = Oracle::deliver(&state, message);
+        same(&expected, &Engine::deliver_to(&mut wall, message))?;
+        seen.add("wall", expected.number());
+        state = expected.state;
+    }
+    Ok(())
+}
+
+fn begin<T>(started: Result<T, mulkefi::Refusal>) -> Result<T, String> {
+    started.map_err(|refusal| format!("a good image is refused: {refusal}"))
+}
+
+fn same(expected: &Outcome, found: &Outcome) -> Result<(), String> {
+    match expected == found {
+        true => Ok(()),
+        false => Err(format!("\n  oracle {expected:?}\n  engine {found:?}")),
+    }
+}

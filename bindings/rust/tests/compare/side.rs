@@ -1,0 +1,150 @@
+//! The two sides, as calls that take a state and give the next one.
+
+use mulkefi::{Delivery, Desk, Report, Wall, MESSAGE_SIZE};
+use oracle::message::{Edit, Operation};
+use oracle::steps::{State, Step};
+use std::fmt;
+
+/// All that a call tells and leaves.
+#[derive(Clone, PartialEq)]
+pub struct Outcome {
+    /// 0, or the refusal's number and 65,536 times the place that comes with it.
+    pub answer: u32,
+    pub old: bool,
+    pub report: [u32; 3],
+    pub message: Vec<u8>,
+    pub state: State,
+}
+
+impl Outcome {
+    pub fn number(&self) -> u32 {
+        match (self.answer, self.old) {
+            (0, true) => super::coverage::OLD,
+            (answer, _) => answer & 0xffff,
+        }
+    }
+
+    fn refused(refusal: mulkefi::Refusal, state: &State) -> Outcome {
+        let place = refusal.place().unwrap_or(0) as u32;
+        let answer = u32::from(refusal.number()) + (place << 16);
+        let (report, message) = ([0; 3], Vec::new());
+        Outcome { answer, old: false, report, message, state: state.clone() }
+    }
+}
+
+impl fmt::Debug for Outcome {
+    fn fmt(&self, f: &mut fmt::Formatter<'_>) -> fmt::Result {
+        let Outcome { answer, old, report, message, state } = self;
+        let (number, place) = (answer & 0xffff, answer >> 16);
+        write!(
+            f,
+            "{number}, place {place}, old {old}, report {report:?}, message {message:02x?}, "
+        )?;
+        write!(f, "count {}, image {:02x?}", state.count, state.image)
+    }
+}
+
+pub trait Side {
+    fn edit(state: &State, edit: &Edit) -> Outcome;
+    fn deliver(state: &State, message: &[u8]) -> Outcome;
+}
+
+pub struct Oracle;
+
+impl Oracle {
+    fn outcome(step: Step, message: Vec<u8>) -> Outcome {
+        let Step { answer, old, report, state } = step;
+        let [start, end] = report.ends;
+        Outcome { answer, old, report: [report.removed, start, end], message, state }
+    }
+}
+
+impl Side for Oracle {
+    fn edit(state: &State, edit: &Edit) -> Outcome {
+        let mut message = vec![0; MESSAGE_SIZE];
+        let step = state.edit(edit, &mut message);
+        let message = if step.answer == 0 { message } else { Vec::new() };
+        Oracle::outcome(step, message)
+    }
+
+    fn deliver(state: &State, message: &[u8]) -> Outcome {
+        Oracle::outcome(state.deliver(message), Vec::new())
+    }
+}
+
+pub fn numbers(report: Report) -> [u32; 3] {
+    [report.removed, report.start, report.end]
+}
+
+pub fn edit_of(edit: &Edit) -> mulkefi::Edit {
+    let operation = match edit.operation {
+        Operation::Trim => mulkefi::Operation::Trim,
+        Operation::Split => mulkefi::Operation::Split,
+        Operation::Extend => mulkefi::Operation::Extend,
+    };
+    mulkefi::Edit { operation, curve: edit.curve, x: edit.x, y: edit.y }
+}
+
+/// The crate under test.
+pub struct Engine;
+
+impl Engine {
+    pub fn edit_at(desk: &mut Desk, edit: &Edit) -> Outcome {
+        let done = desk.edit(&edit_of(edit));
+        let state = State { image: desk.image().to_vec(), count: desk.count() };
+        match done {
+            Err(refusal) => Outcome::refused(refusal, &state),
+            Ok(done) => {
+                let (report, message) = (numbers(done.report), done.message.to_vec());
+                Outcome { answer: 0, old: false, report, message, state }
+            }
+        }
+    }
+
+    pub fn deliver_to(wall: &mut Wall, message: &[u8]) -> Outcome {
+        let done = wall.deliver(message);
+        let state = State { image: wall.image().to_vec(), count: wall.count() };
+        let (old, report) = match done {
+            Err(refusal) => return Outcome::refused(refusal, &state),
+            Ok(Delivery::Old) => (true, [0; 3]),
+            Ok(Delivery::Done(report)) => (false, numbers(report)),
+        };
+        Outcome { answer: 0, old, report, message: Vec::new(), state }
+    }
+}
+
+impl Side for Engine {
+    fn edit(state: &State, edit: &Edit) -> Outcome {
+        match Desk::resume(&state.image, state.count) {
+            Ok(mut desk) => Engine::edit_at(&mut desk, edit),
+            Err(refusal) => Outcome::refused(refusal, state),
+        }
+    }
+
+    fn deliver(state: &State, message: &[u8]) -> Outcome {
+        match Wall::resume(&state.image, state.count) {
+            Ok(mut wall) => Engine::deliver_to(&mut wall, message),
+            Err(refusal) => Outcome::refused(refusal, state),
+        }
+    }
+}
+
+/// The crate with a fault: a removed piece's ends are told the wrong way round.
+pub struct Planted;
+
+impl Planted {
+    fn swapped(mut outcome: Outcome) -> Outcome {
+        outcome.report.swap(1, 2);
+        outcome
+    }
+}
+
+impl Side for Planted {
+    fn edit(state: &State, edit: &Edit) -> Outcome {
+        Planted::swapped(Engine::edit(state, edit))
+    }
+
+    fn deliver(state: &State, message: &[u8]) -> Outcome {
+        Planted::swapped(Engine::deliver(state, message))
+    }
+}
