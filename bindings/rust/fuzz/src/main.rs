@@ -1,1 +1,99 @@
-fn main() {}
+//! Any bytes through the engine's C interface: `fuzz [SECONDS [SEED]] [--planted FAULT]`.
+//!
+//! Every buffer lies against a page that may not be touched, before it or behind it, and what is only
+//! lent for reading may not be written. After each call: nothing outside of what an accepted call may
+//! write has changed, a refused one has changed nothing, and the call has ended in time. A planted
+//! fault stands in for the engine's call, to show that it is seen.
+
+mod asked;
+mod calls;
+mod desk;
+mod guard;
+mod inputs;
+mod planted;
+mod roots;
+mod tally;
+mod test;
+mod wall;
+mod watch;
+
+use calls::{Calls, ENGINE};
+use oracle::generate::random::Random;
+use std::process::ExitCode;
+use std::time::{Duration, Instant};
+use tally::Tally;
+
+const SECONDS: u64 = 40;
+/// How long a single call may take.
+const PATIENCE: u32 = 30;
+/// A planted fault is to be seen sooner.
+const PATIENCE_WITH_A_FAULT: u32 = 2;
+
+struct Options {
+    seconds: u64,
+    seed: u64,
+    calls: Calls,
+    patience: u32,
+}
+
+fn main() -> ExitCode {
+    let Some(options) = options() else {
+        eprintln!("fuzz [SECONDS [SEED]] [--planted FAULT]");
+        planted::ALL.iter().for_each(|(name, what)| eprintln!("  {name:<18} {what}"));
+        return ExitCode::from(2);
+    };
+    watch::begin(options.seed, options.patience);
+    let mut tally = Tally::default();
+    let outcome = run(&options, &mut tally);
+    print!("{tally}");
+    match outcome {
+        Ok(()) => {
+            println!("no fault in {} s, seed {}", options.seconds, options.seed);
+            ExitCode::SUCCESS
+        }
+        Err(fault) => {
+            println!("fault in case {}, seed {}: {fault}", watch::case(), options.seed);
+            ExitCode::FAILURE
+        }
+    }
+}
+
+fn options() -> Option<Options> {
+    let mut arguments: Vec<String> = std::env::args().skip(1).collect();
+    let (mut calls, mut patience) = (ENGINE, PATIENCE);
+    if let Some(at) = arguments.iter().position(|argument| argument == "--planted") {
+        calls = planted::by_name(arguments.get(at + 1)?)?;
+        patience = PATIENCE_WITH_A_FAULT;
+        arguments.drain(at..at + 2);
+    }
+    let number = |at: usize, default: u64| match arguments.get(at) {
+        None => Some(default),
+        Some(text) => text.parse().ok(),
+    };
+    let seconds = number(0, SECONDS)?;
+    let seed = number(1, 1)?;
+    (arguments.len() <= 2).then_some(Options { seconds, seed, calls, patience })
+}
+
+fn run(options: &Options, tally: &mut Tally) -> Result<(), String> {
+    let end = Instant::now() + Duration::from_secs(options.seconds);
+    let mut random = Random::new(options.seed);
+    let mut desk = desk::Subject::new();
+    let mut wall = wall::Subject::new();
+    let mut test = test::Subject::new();
+    let mut roots = roots::Subject::new();
+    let calls = &options.calls;
+    while Instant::now() < end {
+        for _ in 0..64 {
+            watch::next_case();
+            let (name, outcome) = match random.below(8) {
+                0..=2 => ("desk_edit", desk.try_one(calls, &mut random)),
+                3..=5 => ("wall_deliver", wall.try_one(calls, &mut random)),
+                6 => ("test", test.try_one(calls, &mut random)),
+                _ => ("roots", roots.try_one(calls, &mut random)),
+            };
+            tally.add(name, outcome.map_err(|fault| format!("mulkefi_{name}: {fault}"))?);
+        }
+    }
+    Ok(())
+}

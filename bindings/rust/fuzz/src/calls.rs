@@ -1,0 +1,37 @@
+//! The exported calls as values, so that another callee can stand in for the engine's.
+
+use mulkefi::raw;
+
+pub type Test = unsafe extern "C" fn(*const u8, usize) -> u32;
+pub type DeskEdit = unsafe extern "C" fn(
+    *mut u8,
+    usize,
+    usize,
+    u32,
+    u32,
+    u32,
+    f64,
+    f64,
+    *mut u8,
+    usize,
+    *mut u32,
+) -> u32;
+pub type WallDeliver =
+    unsafe extern "C" fn(*mut u8, usize, usize, u32, *const u8, usize, *mut u32) -> u32;
+pub type Roots = unsafe extern "C" fn(*const f64, usize, *mut f64, usize, usize, *mut u64) -> u32;
+
+/// `mulkefi_versions` takes nothing, so there is nothing to try in it.
+#[derive(Clone, Copy)]
+pub struct Calls {
+    pub test: Test,
+    pub desk_edit: DeskEdit,
+    pub wall_deliver: WallDeliver,
+    pub roots: Roots,
+}
+
+pub const ENGINE: Calls = Calls {
+    test: raw::mulkefi_test,
+    desk_edit: raw::mulkefi_desk_edit,
+    wall_deliver: raw::mulkefi_wall_deliver,
+    roots: raw::mulkefi_roots,
+};

@@ -1,0 +1,138 @@
+//! Wrong callees, each the engine's call with one fault.
+
+use crate::calls::{Calls, ENGINE};
+use mulkefi::raw;
+
+/// Names, and what each does.
+pub const ALL: [(&str, &str); 9] = [
+    ("writes-behind", "an accepted edit writes the byte behind its buffer"),
+    ("writes-before", "an accepted edit writes the byte before its buffer"),
+    ("writes-rest", "an accepted edit writes the byte behind the new image"),
+    ("refused-message", "a refused edit writes to the message"),
+    ("refused-answer", "a refused delivery writes to the answer"),
+    ("reads-behind", "a delivery reads the byte behind the message"),
+    ("writes-input", "the test writes to its image"),
+    ("writes-roots", "a search writes one root more than it found"),
+    ("endless", "the test does not end for an empty slice"),
+];
+
+pub fn by_name(name: &str) -> Option<Calls> {
+    Some(match name {
+        "writes-behind" => Calls { desk_edit: edit_with::<WRITES_BEHIND>, ..ENGINE },
+        "writes-before" => Calls { desk_edit: edit_with::<WRITES_BEFORE>, ..ENGINE },
+        "writes-rest" => Calls { desk_edit: edit_with::<WRITES_REST>, ..ENGINE },
+        "refused-message" => Calls { desk_edit: edit_with::<REFUSED_MESSAGE>, ..ENGINE },
+        "refused-answer" => Calls { wall_deliver: refused_answer, ..ENGINE },
+        "reads-behind" => Calls { wall_deliver: reads_behind, ..ENGINE },
+        "writes-input" => Calls { test: writes_input, ..ENGINE },
+        "writes-roots" => Calls { roots: writes_roots, ..ENGINE },
+        "endless" => Calls { test: endless, ..ENGINE },
+        _ => return None,
+    })
+}
+
+const WRITES_BEHIND: u8 = 0;
+const WRITES_BEFORE: u8 = 1;
+const WRITES_REST: u8 = 2;
+const REFUSED_MESSAGE: u8 = 3;
+
+unsafe extern "C" fn edit_with<const FAULT: u8>(
+    buffer: *mut u8,
+    room: usize,
+    len: usize,
+    count: u32,
+    operation: u32,
+    curve: u32,
+    x: f64,
+    y: f64,
+    message: *mut u8,
+    message_room: usize,
+    answer: *mut u32,
+) -> u32 {
+    let told = raw::mulkefi_desk_edit(
+        buffer,
+        room,
+        len,
+        count,
+        operation,
+        curve,
+        x,
+        y,
+        message,
+        message_room,
+        answer,
+    );
+    match (FAULT, told) {
+        (WRITES_BEHIND, 0) => buffer.add(room).write_volatile(0),
+        (WRITES_BEFORE, 0) => buffer.sub(1).write_volatile(0),
+        (WRITES_REST, 0) if (*answer.add(1) as usize) < room => {
+            let rest = buffer.add(*answer.add(1) as usize);
+            rest.write_volatile(!rest.read());
+        }
+        (REFUSED_MESSAGE, 1..) if message_room > 0 => message.write_volatile(0),
+        _ => {}
+    }
+    told
+}
+
+unsafe extern "C" fn refused_answer(
+    buffer: *mut u8,
+    room: usize,
+    len: usize,
+    count: u32,
+    message: *const u8,
+    message_len: usize,
+    answer: *mut u32,
+) -> u32 {
+    let told = raw::mulkefi_wall_deliver(buffer, room, len, count, message, message_len, answer);
+    if told != 0 {
+        answer.write_volatile(count);
+    }
+    told
+}
+
+unsafe extern "C" fn reads_behind(
+    buffer: *mut u8,
+    room: usize,
+    len: usize,
+    count: u32,
+    message: *const u8,
+    message_len: usize,
+    answer: *mut u32,
+) -> u32 {
+    message.add(message_len).read_volatile();
+    raw::mulkefi_wall_deliver(buffer, room, len, count, message, message_len, answer)
+}
+
+unsafe extern "C" fn writes_input(image: *const u8, len: usize) -> u32 {
+    let told = raw::mulkefi_test(image, len);
+    if len > 0 {
+        // The byte that is there already: only the page's protection can tell.
+        image.cast_mut().write_volatile(image.read());
+    }
+    told
+}
+
+unsafe extern "C" fn writes_roots(
+    coefficients: *const f64,
+    n: usize,
+    found: *mut f64,
+    room: usize,
+    budget: usize,
+    answer: *mut u64,
+) -> u32 {
+    let told = raw::mulkefi_roots(coefficients, n, found, room, budget, answer);
+    if told == 0 && (*answer as usize) < room {
+        found.add(*answer as usize).write_volatile(0.5);
+    }
+    told
+}
+
+unsafe extern "C" fn endless(image: *const u8, len: usize) -> u32 {
+    if len == 0 {
+        loop {
+            std::hint::spin_loop();
+        }
+    }
+    raw::mulkefi_test(image, len)
+}

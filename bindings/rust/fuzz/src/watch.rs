@@ -1,0 +1,78 @@
+//! Ends the program with a line where a call touches guarded memory or does not end.
+
+use std::ffi::{c_int, c_uint, c_void};
+use std::sync::atomic::{AtomicU32, AtomicU64, Ordering::Relaxed};
+
+extern "C" {
+    fn signal(number: c_int, handler: extern "C" fn(c_int)) -> *const c_void;
+    fn alarm(seconds: c_uint) -> c_uint;
+    fn write(file: c_int, bytes: *const u8, len: usize) -> isize;
+    fn _exit(status: c_int) -> !;
+}
+
+// Linux's values.
+const BUS: c_int = 7;
+const SEGMENT: c_int = 11;
+const ALARM: c_int = 14;
+
+static CASE: AtomicU64 = AtomicU64::new(0);
+static SEED: AtomicU64 = AtomicU64::new(0);
+static PATIENCE: AtomicU32 = AtomicU32::new(0);
+
+/// The status that a caught signal ends with.
+const CAUGHT: c_int = 1;
+
+pub fn begin(seed: u64, patience: u32) {
+    SEED.store(seed, Relaxed);
+    PATIENCE.store(patience, Relaxed);
+    for number in [BUS, SEGMENT, ALARM] {
+        // SAFETY: the handler only writes a line and ends the program.
+        unsafe { signal(number, caught) };
+    }
+}
+
+/// Counts a case and gives it its time.
+pub fn next_case() {
+    CASE.fetch_add(1, Relaxed);
+    // SAFETY: the call sets a timer, whose signal is handled.
+    unsafe { alarm(PATIENCE.load(Relaxed)) };
+}
+
+pub fn case() -> u64 {
+    CASE.load(Relaxed)
+}
+
+extern "C" fn caught(number: c_int) {
+    let what: &[u8] = match number {
+        ALARM => b"a call did not end",
+        _ => b"a call touched memory that it was not lent",
+    };
+    say(b"fault in case ");
+    say_number(CASE.load(Relaxed));
+    say(b", seed ");
+    say_number(SEED.load(Relaxed));
+    say(b": ");
+    say(what);
+    say(b"\n");
+    // SAFETY: ends the program without running anything more of it.
+    unsafe { _exit(CAUGHT) }
+}
+
+/// A handler may not allocate, nor use locked streams.
+fn say(text: &[u8]) {
+    // SAFETY: the bytes are lent for the call. That it may fail leaves nothing to be done.
+    let _ = unsafe { write(1, text.as_ptr(), text.len()) };
+}
+
+fn say_number(mut number: u64) {
+    let mut digits = [0; 20];
+    let mut first = digits.len();
+    loop {
+        first -= 1;
+        digits[first] = b'0' + (number % 10) as u8;
+        number /= 10;
+        if number == 0 {
+            return say(&digits[first..]);
+        }
+    }
+}

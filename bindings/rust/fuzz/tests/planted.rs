@@ -1,0 +1,44 @@
+//! Every planted fault is seen by the program, and the engine as it is passes.
+
+use std::process::{Command, Output};
+
+fn fuzz(arguments: &[&str]) -> (Output, String) {
+    let output = Command::new(env!("CARGO_BIN_EXE_fuzz")).args(arguments).output();
+    let output = output.expect("the program runs");
+    let said = String::from_utf8_lossy(&output.stdout).into_owned();
+    (output, said)
+}
+
+#[test]
+fn planted_faults_are_seen() {
+    // Memory around a buffer is guarded on one side, and compared on the other.
+    let around = ["memory that it was not lent", "of the buffer altered"];
+    let faults = [
+        ("writes-behind", around),
+        ("writes-before", around),
+        ("writes-rest", ["of the buffer altered"; 2]),
+        ("refused-message", ["of the message, on refusal altered"; 2]),
+        ("refused-answer", ["of the answer, on refusal altered"; 2]),
+        ("reads-behind", ["memory that it was not lent"; 2]),
+        ("writes-input", ["memory that it was not lent"; 2]),
+        ("writes-roots", ["of the roots altered"; 2]),
+        ("endless", ["did not end"; 2]),
+    ];
+    for (fault, expected) in faults {
+        let (output, said) = fuzz(&["20", "1", "--planted", fault]);
+        assert_eq!(output.status.code(), Some(1), "{fault}: {said}");
+        let told = expected.iter().any(|words| said.contains(words));
+        assert!(said.contains("fault in case ") && told, "{fault}: {said}");
+    }
+}
+
+#[test]
+fn the_engine_passes() {
+    let (output, said) = fuzz(&["2"]);
+    assert_eq!(output.status.code(), Some(0), "{said}");
+}
+
+#[test]
+fn an_unknown_fault_is_no_fault() {
+    assert_eq!(fuzz(&["--planted", "none"]).0.status.code(), Some(2));
+}
