@@ -21,6 +21,10 @@ pub struct Done {
 
 impl Desk {
     /// A desk that has taken no edits yet, or the refusal of its image.
+    ///
+    /// # Panics
+    ///
+    /// If the library is of other versions than this crate, as in [`Desk::resume`].
     pub fn start(image: &[u8]) -> Result<Desk, Refusal> {
         Desk::resume(image, 0)
     }

@@ -67,10 +67,13 @@ pub struct Versions {
     pub message: u8,
 }
 
+/// The versions that this crate is written for.
+pub const VERSIONS: Versions = Versions { image: 1, message: 1 };
+
 /// Asks the engine for its versions.
 ///
 /// ```
-/// assert_eq!(mulkefi::versions(), mulkefi::Versions { image: 1, message: 1 });
+/// assert_eq!(mulkefi::versions(), mulkefi::VERSIONS);
 /// ```
 pub fn versions() -> Versions {
     // SAFETY: the call takes nothing and only answers a number.

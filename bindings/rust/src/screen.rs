@@ -16,7 +16,11 @@ pub struct Screen {
 pub type Answer = [u32; 5];
 
 impl Screen {
+    /// # Panics
+    ///
+    /// If the library is of other versions than the sizes of this crate's buffers.
     pub fn new(image: &[u8], count: u32) -> Result<Screen, Refusal> {
+        assert_eq!(crate::versions(), crate::VERSIONS, "the library is of the crate's versions");
         crate::test(image)?;
         let mut buffer = Box::new([0; LARGEST_IMAGE]);
         // The engine accepts nothing longer; were it otherwise, that is a refusal too.

@@ -22,6 +22,10 @@ pub enum Delivery {
 
 impl Wall {
     /// A wall that has taken no edits yet, or the refusal of its image.
+    ///
+    /// # Panics
+    ///
+    /// If the library is of other versions than this crate, as in [`Wall::resume`].
     pub fn start(image: &[u8]) -> Result<Wall, Refusal> {
         Wall::resume(image, 0)
     }

@@ -20,7 +20,7 @@ pub type WallDeliver =
     unsafe extern "C" fn(*mut u8, usize, usize, u32, *const u8, usize, *mut u32) -> u32;
 pub type Roots = unsafe extern "C" fn(*const f64, usize, *mut f64, usize, usize, *mut u64) -> u32;
 
-/// `mulkefi_versions` takes nothing, so there is nothing to try in it.
+/// All but `mulkefi_versions`, which takes nothing.
 #[derive(Clone, Copy)]
 pub struct Calls {
     pub test: Test,

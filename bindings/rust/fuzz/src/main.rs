@@ -84,6 +84,9 @@ fn run(options: &Options, tally: &mut Tally) -> Result<(), String> {
     let mut roots = roots::Subject::new();
     let calls = &options.calls;
     while Instant::now() < end {
+        if mulkefi::versions() != mulkefi::VERSIONS {
+            return Err("mulkefi_versions: other versions".into());
+        }
         for _ in 0..64 {
             watch::next_case();
             let (name, outcome) = match random.below(8) {

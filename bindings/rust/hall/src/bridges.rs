@@ -59,7 +59,7 @@ impl Bridge {
         self.line((x + 1.5, 0.0), (x + 1.5, UNDERSIDE));
     }
 
-    /// A cart on the deck: a box, a shaft, and two wheels that it half hides.
+    /// A cart on the deck: a box and two wheels whose tops it hides.
     fn cart(&mut self, x: f64) -> [Id; 2] {
         let (low, high) = (DECK + 2.6, DECK + 6.0);
         let corners = [(x, low), (x + 8.0, low), (x + 8.0, high), (x, high)];
@@ -72,7 +72,7 @@ impl Bridge {
     }
 }
 
-/// Two tied ribs of arcs over the river, four round arches on the banks.
+/// An arc over the river with hangers to the deck, four round arches on the banks.
 fn round_arch() -> Bridge {
     let mut bridge = Bridge::new("round arch");
     let deck = bridge.line((WEST, DECK), (EAST, DECK));
@@ -166,4 +166,23 @@ fn free_lamp(bridge: &mut Bridge, x: f64) {
     let post = bridge.line((x, DECK), (x, 25.0));
     bridge.circle((x, 31.0), 2.0);
     bridge.then(Operation::Extend, post, (x, 25.0));
+}
+
+#[cfg(test)]
+mod tests {
+    use super::*;
+    use mulkefi::Desk;
+
+    /// The numbers by which edits of a script are refused.
+    fn refusals(bridge: &Bridge) -> Vec<u16> {
+        let mut desk = Desk::start(&bridge.drawing.to_image()).expect("a bridge is a good image");
+        let outcomes = bridge.script.iter().map(|edit| desk.edit(edit));
+        outcomes.filter_map(|done| done.err().map(|refusal| refusal.number())).collect()
+    }
+
+    #[test]
+    fn scripts_are_carried_out() {
+        assert_eq!(refusals(&round_arch()), []);
+        assert_eq!(refusals(&free_arch()), [11, 11]);
+    }
 }

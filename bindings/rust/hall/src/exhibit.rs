@@ -10,13 +10,15 @@ use std::collections::BTreeMap;
 
 /// How many random edits are asked after the list.
 const RANDOM_EDITS: usize = 24;
+/// How many messages are sent again before the wall's count is asked.
+const AT_A_TIME: usize = 3;
 
 #[derive(Default)]
 pub struct Tally {
     pub asked: usize,
     pub accepted: usize,
     pub cut_away: usize,
-    refused: BTreeMap<u16, usize>,
+    pub refused: BTreeMap<u16, usize>,
     pub sent: usize,
     pub lost: usize,
     pub repeated: usize,
@@ -30,8 +32,8 @@ pub struct Tally {
 impl Tally {
     /// Each number with how often it came.
     pub fn refusals(&self) -> String {
-        let each = self.refused.iter().map(|(number, times)| format!("{number}x{times}"));
-        each.collect::<Vec<_>>().join(" ")
+        let each = self.refused.iter().map(|(number, times)| format!("{number} ({times})"));
+        each.collect::<Vec<_>>().join(", ")
     }
 }
 
@@ -128,10 +130,12 @@ impl Exhibit {
         self.wall_away.extend(cut_away(before, &after, curve, report));
     }
 
-    /// Sends again from the wall's count on, by the same radio, until nothing is missing.
+    /// Sends again from the wall's count on, a few at a time and by the same radio, until nothing is
+    /// missing.
     fn catch_up(&mut self) -> Result<(), Refusal> {
         while self.wall.count() < self.desk.count() {
-            let missing = self.messages[self.wall.count() as usize..].to_vec();
+            let missing = self.messages.iter().skip(self.wall.count() as usize);
+            let missing: Vec<Message> = missing.take(AT_A_TIME).copied().collect();
             missing.into_iter().try_for_each(|message| self.send(message))?;
             self.radio.rest().iter().try_for_each(|message| self.arrive(message))?;
         }
@@ -165,4 +169,23 @@ impl Exhibit {
 
 fn shown(image: &[u8]) -> Drawing {
     read(image).expect("desk and wall hold good images")
+}
+
+#[cfg(test)]
+mod tests {
+    use super::*;
+    use crate::bridges;
+
+    #[test]
+    fn walls_catch_up_whatever_the_radio_does() {
+        for seed in 0..100 {
+            for bridge in bridges::all() {
+                let mut exhibit = Exhibit::open(bridge, seed).expect("a bridge is a good image");
+                exhibit.run().expect("the wall is refused nothing but what is ahead");
+                assert!(exhibit.agrees(), "seed {seed}");
+                assert_eq!(exhibit.desk_away, exhibit.wall_away, "seed {seed}");
+                assert!(exhibit.tally.lost > 0 && exhibit.tally.repeated > 0, "seed {seed}");
+            }
+        }
+    }
 }

@@ -1,4 +1,5 @@
-//! A hall to try desk and wall in: `hall [SEED [PICTURE]]`.
+//! A hall to try desk and wall in: `hall [SEED [PICTURE]]`, the picture being `target/hall.svg` where
+//! none is named.
 //!
 //! Two bridges each have a desk, a wall and a radio between them that loses, repeats and reorders.
 //! The desk gets a list of edits that make the bridge whole, then random ones; the wall catches up.
@@ -16,7 +17,7 @@ use exhibit::{Exhibit, Tally};
 use std::process::ExitCode;
 
 const SEED: u64 = 1;
-const PICTURE: &str = "hall.svg";
+const PICTURE: &str = "target/hall.svg";
 
 fn main() -> ExitCode {
     let arguments: Vec<String> = std::env::args().skip(1).collect();
@@ -45,7 +46,7 @@ fn play(seed: u64, file: &str) -> Result<bool, Box<dyn std::error::Error>> {
         shown.push(exhibit);
     }
     print_table(&shown);
-    std::fs::write(file, picture::of(&shown))?;
+    std::fs::write(file, picture::of(&shown)).map_err(|error| format!("{file}: {error}"))?;
     println!("picture: {file}");
     Ok(shown.iter().all(Exhibit::agrees))
 }
@@ -60,7 +61,7 @@ fn print_table(shown: &[Exhibit]) {
     count("edits asked at the desk", |tally| tally.asked);
     count("accepted", |tally| tally.accepted);
     count("pieces cut away", |tally| tally.cut_away);
-    row("refused, number x times", &|exhibit| exhibit.tally.refusals());
+    count("refused", |tally| tally.refused.values().sum());
     count("messages sent", |tally| tally.sent);
     count("lost by the radio", |tally| tally.lost);
     count("repeated", |tally| tally.repeated);
@@ -71,4 +72,7 @@ fn print_table(shown: &[Exhibit]) {
     row("wall's count caught up", &|exhibit| exhibit.wall_count().to_string());
     row("desk's count", &|exhibit| exhibit.desk_count().to_string());
     row("same image", &|exhibit| if exhibit.agrees() { "yes".into() } else { "no".into() });
+    for exhibit in shown {
+        println!("{} refused by number: {}", exhibit.name(), exhibit.tally.refusals());
+    }
 }
