@@ -1,12 +1,12 @@
 //! A reader that says where bytes are no image. The engine says whether they are.
 
-use crate::drawing::{Curve, Drawing, Id, Kind, Point, Relation};
+use crate::drawing::{Curve, Drawing, Id, Kind, Point};
 use crate::fault::{Fault, Table};
 use crate::format::*;
+use crate::record::{u16_at, u32_at, Reading, Record};
 use crate::refusal::Refusal;
+use crate::relation_reader::read_relation;
 use std::ops::Range;
-
-type Reading<T> = Result<T, Fault>;
 
 /// Reads an image, or tells where the first fault in it is.
 ///
@@ -85,65 +85,6 @@ fn header(bytes: &[u8]) -> Reading<([usize; 3], Id)> {
     }
 }
 
-/// A record's bytes, by where it begins.
-struct Record<'b> {
-    bytes: &'b [u8],
-    at: usize,
-    table: Table,
-    place: usize,
-}
-
-impl Record<'_> {
-    fn byte(&self, at: usize) -> u8 {
-        self.bytes[self.at + at]
-    }
-
-    fn id(&self, at: usize) -> Id {
-        u32_at(self.bytes, self.at + at)
-    }
-
-    fn bits(&self, at: usize) -> u64 {
-        u64::from_be_bytes(field(self.bytes, self.at + at))
-    }
-
-    fn float(&self, at: usize) -> f64 {
-        f64::from_bits(self.bits(at))
-    }
-
-    fn fault<T>(&self, refusal: Refusal, field: Range<usize>, why: &'static str) -> Reading<T> {
-        let alone = refusal == Refusal::Value;
-        let record = Some((self.table, self.place));
-        let field = self.at + field.start..self.at + field.end;
-        Err(Fault { refusal, field, record, alone, why })
-    }
-
-    /// The rule of a value: 4 where it is broken.
-    fn value(&self, holds: bool, field: Range<usize>, why: &'static str) -> Reading<()> {
-        if holds {
-            Ok(())
-        } else {
-            self.fault(Refusal::Value, field, why)
-        }
-    }
-
-    /// The rule of an id: 5 where it is broken.
-    fn named(&self, holds: bool, field: Range<usize>, why: &'static str) -> Reading<()> {
-        if holds {
-            Ok(())
-        } else {
-            self.fault(Refusal::Reference, field, why)
-        }
-    }
-
-    /// The rules of the record's own id, behind the one before.
-    fn own_id(&self, before: Option<Id>, next: Id) -> Reading<Id> {
-        let id = self.id(0);
-        self.named(before.unwrap_or(0) < id, 0..4, "id is not above the one before")?;
-        self.named(id < next, 0..4, "id is not below the next id")?;
-        Ok(id)
-    }
-}
-
 fn read_point(record: &Record, drawing: &Drawing) -> Reading<Point> {
     let (x, y, flags) = (record.float(4), record.float(12), record.byte(20));
     let within = |v: f64| v.abs() <= GREATEST_COORDINATE;
@@ -205,100 +146,4 @@ fn read_slots(record: &Record, drawing: &Drawing, used: usize, differ: bool) -> 
         points.push(id);
     }
     Ok(points)
-}
-
-fn read_relation(record: &Record, drawing: &Drawing) -> Reading<Relation> {
-    let (code, [first, second]) = (record.byte(0), [1, 5].map(|at| record.id(at)));
-    let value = record.float(9);
-    record.value((1..=9).contains(&code), 0..1, "unknown kind of relation")?;
-    record.value(![5, 8, 9].contains(&code) || second == 0, 5..9, "unused id is not 0")?;
-    match code {
-        5 | 6 | 8 | 9 => {
-            record.value(VALUE.contains(&value), 9..17, "value is not from 0 to 4e6")?
-        }
-        _ => record.value(record.bits(9) == 0, 9..17, "unused value is not 0")?,
-    }
-    let relation = match code {
-        1 => Relation::Coincident { p: first, q: second },
-        2 => Relation::PointOnCurve { p: first, curve: second },
-        3 => Relation::Collinear { a: first, b: second },
-        4 => Relation::Equal { a: first, b: second },
-        5 => Relation::Length { line: first, value },
-        6 => Relation::Distance { p: first, q: second, value },
-        7 => Relation::Midpoint { p: first, line: second },
-        8 => Relation::ArcLength { round: first, value },
-        _ => Relation::ArcSweep { round: first, value },
-    };
-    check_ids(record, drawing, &relation)?;
-    Ok(relation)
-}
-
-/// What a relation's id must lead to.
-#[derive(Clone, Copy, PartialEq)]
-enum Sort {
-    Point,
-    Curve,
-    Line,
-    Round,
-    LineOrRound,
-}
-
-fn sorts(relation: &Relation) -> (Sort, Option<Sort>) {
-    match relation {
-        Relation::Coincident { .. } | Relation::Distance { .. } => (Sort::Point, Some(Sort::Point)),
-        Relation::PointOnCurve { .. } => (Sort::Point, Some(Sort::Curve)),
-        Relation::Collinear { .. } => (Sort::Line, Some(Sort::Line)),
-        Relation::Equal { .. } => (Sort::LineOrRound, Some(Sort::LineOrRound)),
-        Relation::Length { .. } => (Sort::Line, None),
-        Relation::Midpoint { .. } => (Sort::Point, Some(Sort::Line)),
-        Relation::ArcLength { .. } | Relation::ArcSweep { .. } => (Sort::Round, None),
-    }
-}
-
-fn check_ids(record: &Record, drawing: &Drawing, relation: &Relation) -> Reading<()> {
-    let [first, second] = relation.ids();
-    let (sort, other) = sorts(relation);
-    record.named(leads_to(drawing, first, sort), 1..5, missing(sort))?;
-    let Some(other) = other else { return Ok(()) };
-    record.named(leads_to(drawing, second, other), 5..9, missing(other))?;
-    record.named(sort != other || first != second, 5..9, "the same id a second time")?;
-    let alike = leads_to(drawing, first, Sort::Line) == leads_to(drawing, second, Sort::Line);
-    record.named(sort != Sort::LineOrRound || alike, 5..9, "one is a line, the other a round")
-}
-
-fn leads_to(drawing: &Drawing, id: Id, sort: Sort) -> bool {
-    let kind = drawing.curve(id).map(|curve| &curve.kind);
-    let line = matches!(kind, Some(Kind::Line { .. }));
-    let round = matches!(kind, Some(Kind::Arc { .. } | Kind::Circle { .. }));
-    match sort {
-        Sort::Point => drawing.point(id).is_some(),
-        Sort::Curve => kind.is_some(),
-        Sort::Line => line,
-        Sort::Round => round,
-        Sort::LineOrRound => line || round,
-    }
-}
-
-fn missing(sort: Sort) -> &'static str {
-    match sort {
-        Sort::Point => "there is no such point",
-        Sort::Curve => "there is no such curve",
-        Sort::Line => "there is no such line",
-        Sort::Round => "there is no such arc or circle",
-        Sort::LineOrRound => "there is no such line, arc or circle",
-    }
-}
-
-fn u16_at(bytes: &[u8], at: usize) -> u16 {
-    u16::from_be_bytes(field(bytes, at))
-}
-
-fn u32_at(bytes: &[u8], at: usize) -> u32 {
-    u32::from_be_bytes(field(bytes, at))
-}
-
-fn field<const N: usize>(bytes: &[u8], at: usize) -> [u8; N] {
-    let mut value = [0; N];
-    value.copy_from_slice(&bytes[at..at + N]);
-    value
 }
