@@ -2,7 +2,6 @@
 use crate::Screen;
 use crate::WallAnswer;
 use crate::WallTold;
-use crate::dispatch::edited;
 use crate::dispatch::first_fault;
 use crate::dispatch::place_told;
 use geom::Vec2;
@@ -56,7 +55,7 @@ fn follow(screen: Screen, m: Message) -> WallAnswer
         x: f64::from_bits(m.x),
         y: f64::from_bits(m.y),
     };
-    let e = edited(operation, sk, m.curve, at);
+    let e = modify::edit(operation, sk, m.curve, at);
     if e.refusal != 0 {
         return WallAnswer {
             screen,

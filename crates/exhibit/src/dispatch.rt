@@ -1,21 +1,7 @@
-// What both sides do with an edit: the operation's function, the sketch's own refusals first, the place that is told.
-use carry::Edited;
-use geom::Vec2;
-use image::Operation;
+// What both sides tell of a refusal: the sketch's own number first, and the place.
 use sketch::Sketch;
 ghost use mathlib.Core.Path.{_≡_};
-ghost use Rattle.modify.specs.Edits.{Answered};
 ghost use Rattle.exhibit.specs.Answers.{placeOf, firstFault};
-
-pub(crate) fn edited(operation: Operation, sk: Sketch, curve: u32, at: Vec2) -> Edited
-    ensures { λ r. ⌜ Answered operation sk curve at r ⌝ }
-{
-    match operation {
-        Operation::Trim => modify::trim(sk, curve, at),
-        Operation::Split => modify::split(sk, curve, at),
-        Operation::Extend => modify::extend(sk, curve, at),
-    }
-}
 
 // The number that a sketch is refused by, or else the number given.
 pub(crate) fn first_fault(sk: Sketch, number: u8) -> u8

@@ -3,7 +3,6 @@ use crate::DeskAnswer;
 use crate::DeskTold;
 use crate::MESSAGE;
 use crate::Screen;
-use crate::dispatch::edited;
 use crate::dispatch::first_fault;
 use crate::dispatch::place_told;
 use geom::Vec2;
@@ -39,7 +38,7 @@ pub fn desk_edit(
             told: DeskTold::Declined(first_fault(sk, 23), 0),
         };
     }
-    let e = edited(operation, sk, curve, Vec2 { x, y });
+    let e = modify::edit(operation, sk, curve, Vec2 { x, y });
     if e.refusal != 0 {
         return DeskAnswer {
             screen,

@@ -1,5 +1,6 @@
 // Trim, split and extend: the tests, the choice of a plan, and carrying it out.
 mod choosing;
+mod dispatch;
 mod edits;
 mod extending;
 mod gathering;
@@ -12,6 +13,7 @@ mod users;
 use carry::Pin;
 use carry::Plan;
 use cuts::Other;
+pub use dispatch::edit;
 pub use edits::split;
 pub use edits::trim;
 pub use extending::extend;

@@ -8,7 +8,7 @@ use Rattle.exhibit.proofs.deliver.follow.Tie as tie
 use Rattle.exhibit.proofs.deliver.follow.Reads as reads
 use Rattle.exhibit.proofs.deliver.follow.Lts as lts
 use Rattle.exhibit.proofs.deliver.is_number.Reads as is-number-reads
-use Rattle.exhibit.proofs.dispatch.edited.Reads as edited-reads
+use Rattle.modify.proofs.edit.Reads as edit-reads
 use Rattle.exhibit.proofs.dispatch.first_fault.Reads as first-fault-reads
 use Rattle.exhibit.proofs.dispatch.place_told.Reads as place-told-reads
 use Rattle.sketch.proofs.fault.Reads as fault-reads
@@ -62,8 +62,8 @@ float-from-bits-t25 : tie.Need-float-from-bits-t25
 float-from-bits-t25 c = may-float (c .before .before .before .before .before .before .before .before .before .before .args .m .x) (c .before .before .before .before .before .before .before .before .before .before .args .m .y) (both-numbers (c .before .before .before .before .before .before .before .before .before .before .args .m .x) (c .before .before .before .before .before .before .before .before .before .before .args .m .y) (c .before .before .before .before .is-number .ensures) (c .before .before .before .is-number2 .ensures) (not-false _ (c .before .before .if4 .left))) .1
 
 -- src/deliver.rt:59:9
-edited-requires : tie.Need-edited-requires
-edited-requires c κs = search needs
+edit-requires : tie.Need-edit-requires
+edit-requires c κs = search needs
 
 -- src/deliver.rt:63:49
 place-told-requires : tie.Need-place-told-requires
@@ -71,11 +71,11 @@ place-told-requires c κs = search needs
 
 -- src/deliver.rt:61:9
 returns-5 : tie.Need-returns-5
-returns-5 c = λ bytes is. wall-declined (c .before .before .before .before .before .before .before .before .before .before .before .before .before .before .args .screen) bytes (c .before .before .before .before .before .before .before .before .before .before .before .before .before .before .args .m) is (c .before .before .before .before .before .before .before .before .before .before .before .if1 .left) (omega arith) _ (c .before .before .before .edited .ensures) (c .before .if5 .taken) _ (c .place-told .ensures)
+returns-5 c = λ bytes is. wall-declined (c .before .before .before .before .before .before .before .before .before .before .before .before .before .before .args .screen) bytes (c .before .before .before .before .before .before .before .before .before .before .before .before .before .before .args .m) is (c .before .before .before .before .before .before .before .before .before .before .before .if1 .left) (omega arith) _ (c .before .before .before .edit .ensures) (c .before .if5 .taken) _ (c .place-told .ensures)
 
 -- src/deliver.rt:24:1
 returns-6 : tie.Need-returns-6
-returns-6 c = λ bytes is. wall-applied (c .before .before .before .before .before .before .before .before .before .before .before .before .before .before .before .args .screen) bytes (c .before .before .before .before .before .before .before .before .before .before .before .before .before .before .before .args .m) is (c .before .before .before .before .before .before .before .before .before .before .before .before .if1 .left) (omega arith) _ (c .before .before .before .before .edited .ensures) (c .before .before .if5 .left)
+returns-6 c = λ bytes is. wall-applied (c .before .before .before .before .before .before .before .before .before .before .before .before .before .before .before .args .screen) bytes (c .before .before .before .before .before .before .before .before .before .before .before .before .before .before .before .args .m) is (c .before .before .before .before .before .before .before .before .before .before .before .before .if1 .left) (omega arith) _ (c .before .before .before .before .edit .ensures) (c .before .before .if5 .left)
 
 pub follow-spec : {M : Type 1} → statement M
 follow-spec =
@@ -93,7 +93,7 @@ follow-spec =
     returns-4
     float-from-bits-t24
     float-from-bits-t25
-    edited-requires
+    edit-requires
     place-told-requires
     returns-5
     returns-6)

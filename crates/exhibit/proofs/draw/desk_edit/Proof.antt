@@ -5,7 +5,7 @@ use Rattle.exhibit.proofs.draw.desk_edit.Statement.{statement}
 use Rattle.exhibit.proofs.draw.desk_edit.Tie as tie
 use Rattle.exhibit.proofs.draw.desk_edit.Reads as reads
 use Rattle.exhibit.proofs.draw.desk_edit.Lts as lts
-use Rattle.exhibit.proofs.dispatch.edited.Reads as edited-reads
+use Rattle.modify.proofs.edit.Reads as edit-reads
 use Rattle.exhibit.proofs.dispatch.first_fault.Reads as first-fault-reads
 use Rattle.exhibit.proofs.dispatch.place_told.Reads as place-told-reads
 use Rattle.image.proofs.write_message.Reads as write-message-reads
@@ -27,8 +27,8 @@ returns-2 : tie.Need-returns-2
 returns-2 c = desk-full (c .before .before .before .before .before .args .screen) _ (c .before .before .before .before .before .args .out .now) (c .before .before .if1 .left) (c .before .if2 .taken) _ (c .first-fault2 .ensures)
 
 -- src/draw.rt:36:9
-edited-requires : tie.Need-edited-requires
-edited-requires c κs = search needs
+edit-requires : tie.Need-edit-requires
+edit-requires c κs = search needs
 
 -- src/draw.rt:40:49
 place-told-requires : tie.Need-place-told-requires
@@ -38,7 +38,7 @@ place-told-requires c κs = search needs
 returns-3 : tie.Need-returns-3
 returns-3 c =
     let at = c .before .before .before .before .before .before .before .before in
-    desk-declined (at .args .screen) _ (at .args .out .now) (c .before .before .before .before .before .if1 .left) (c .before .before .before .before .if2 .left) _ (c .before .before .before .edited .ensures)
+    desk-declined (at .args .screen) _ (at .args .out .now) (c .before .before .before .before .before .if1 .left) (c .before .before .before .before .if2 .left) _ (c .before .before .before .edit .ensures)
     (pick-of _ _ (at .good .1 .1 .1 .0 .1) (at .good .1 .1 .1 .1 .0 .1)) (c .before .if3 .taken) _ (c .place-told .ensures)
 
 -- src/draw.rt:43:18
@@ -47,11 +47,11 @@ add-number c = search needs
 
 -- src/draw.rt:48:12
 float-to-bits-t24 : tie.Need-float-to-bits-t24
-float-to-bits-t24 c = is-number _ (accepted-place _ _ _ (c .before .before .edited .ensures) (c .if3 .left) .0)
+float-to-bits-t24 c = is-number _ (accepted-place _ _ _ (c .before .before .edit .ensures) (c .if3 .left) .0)
 
 -- src/draw.rt:49:12
 float-to-bits-t25 : tie.Need-float-to-bits-t25
-float-to-bits-t25 c = is-number _ (accepted-place _ _ _ (c .before .before .edited .ensures) (c .if3 .left) .1)
+float-to-bits-t25 c = is-number _ (accepted-place _ _ _ (c .before .before .edit .ensures) (c .if3 .left) .1)
 
 -- src/draw.rt:51:5
 write-message-requires : tie.Need-write-message-requires
@@ -65,7 +65,7 @@ same-length c = search needs
 returns-4 : tie.Need-returns-4
 returns-4 c =
     let at = c .before .before .before .before .before .before .before .before .before .before .before .before .before in
-    desk-done (at .args .screen) _ (at .args .out .now) (c .before .before .before .before .before .before .before .before .before .before .if1 .left) (c .before .before .before .before .before .before .before .before .before .if2 .left) _ (c .before .before .before .before .before .before .before .before .edited .ensures)
+    desk-done (at .args .screen) _ (at .args .out .now) (c .before .before .before .before .before .before .before .before .before .before .if1 .left) (c .before .before .before .before .before .before .before .before .before .if2 .left) _ (c .before .before .before .before .before .before .before .before .edit .ensures)
     (pick-of _ _ (at .good .1 .1 .1 .0 .1) (at .good .1 .1 .1 .1 .0 .1)) (c .before .before .before .before .before .before .if3 .left) _ _ (c .before .before .before .before .write-message .ensures)
 
 pub desk-edit-spec : {M : Type 1} → statement M
@@ -76,7 +76,7 @@ desk-edit-spec =
     returns
     first-fault-requires-2
     returns-2
-    edited-requires
+    edit-requires
     place-told-requires
     returns-3
     add-number

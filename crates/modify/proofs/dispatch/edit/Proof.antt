@@ -1,13 +1,13 @@
 use Rattle.modify.specs.Edits.{Answered}
 use mathlib.Core.Path.{sym, subst}
 use borrow.Author.Needs.{needs}
-use Rattle.exhibit.proofs.dispatch.edited.Statement.{statement}
-use Rattle.exhibit.proofs.dispatch.edited.Tie as tie
-use Rattle.exhibit.proofs.dispatch.edited.Reads as reads
-use Rattle.exhibit.proofs.dispatch.edited.Lts as lts
-use Rattle.modify.proofs.extend.Reads as extend-reads
-use Rattle.modify.proofs.split.Reads as split-reads
-use Rattle.modify.proofs.trim.Reads as trim-reads
+use Rattle.modify.proofs.dispatch.edit.Statement.{statement}
+use Rattle.modify.proofs.dispatch.edit.Tie as tie
+use Rattle.modify.proofs.dispatch.edit.Reads as reads
+use Rattle.modify.proofs.dispatch.edit.Lts as lts
+use Rattle.modify.proofs.extending.extend.Reads as extend-reads
+use Rattle.modify.proofs.edits.split.Reads as split-reads
+use Rattle.modify.proofs.edits.trim.Reads as trim-reads
 
 -- src/dispatch.rt:14:28
 enum-told : tie.Need-enum-told
@@ -45,8 +45,8 @@ returns-2 c = let a = c .before .before .before .args in subst (λ op. Answered 
 returns-3 : tie.Need-returns-3
 returns-3 c = let a = c .before .before .before .args in subst (λ op. Answered op (a .sk) (a .curve) (a .at) (c .extend .result)) (sym (c .before .enum-told3 .given .1)) (c .extend .ensures)
 
-pub edited-spec : {M : Type 1} → statement M
-edited-spec =
+pub edit-spec : {M : Type 1} → statement M
+edit-spec =
     tie.close
     (tie.spec
     enum-told
