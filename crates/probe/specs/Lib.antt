@@ -1,4 +1,6 @@
+pub mod Edits
 pub mod Polynomials
 pub mod Probe
-pub mod Shapes
 pub mod Relations
+pub mod Screens
+pub mod Shapes

@@ -1,6 +1,8 @@
 // Entry points in C's convention, through which the comparison and the benchmarks reach the engine.
+mod edits;
 mod numbers;
 mod polynomials;
+mod screens;
 mod shapes;
 mod verdicts;
 

@@ -1,14 +1,62 @@
-//! The wall's program as a call: its whole input in, its whole output out.
+//! Desk and wall: the wall's program as a call, its whole input in, its whole output out; a desk's
+//! edit and a delivery many times over, for timing.
 
 mod interface {
     extern "C" {
         pub fn mulkefi_wall(input: *const u8, len: usize, out: *mut u8, out_len: usize) -> usize;
+        pub fn mulkefi_desk_repeated(
+            image: *const u8,
+            len: usize,
+            count: u32,
+            operation: u32,
+            curve: u32,
+            x: f64,
+            y: f64,
+            times: u32,
+        ) -> u32;
+        pub fn mulkefi_deliver_repeated(
+            image: *const u8,
+            len: usize,
+            count: u32,
+            message: *const u8,
+            message_len: usize,
+            times: u32,
+        ) -> u32;
     }
 }
+
+/// What an edit that was made adds to a sum beside the count after it, and what an old message adds.
+pub const MADE: u32 = 256;
 
 /// Answers how many bytes it wrote to the front of `out`.
 #[inline]
 pub fn wall(input: &[u8], out: &mut [u8]) -> usize {
     // SAFETY: both slices are lent for the call, and the engine stays within their lengths.
     unsafe { interface::mulkefi_wall(input.as_ptr(), input.len(), out.as_mut_ptr(), out.len()) }
+}
+
+/// Reads the image once, then edits at a desk with its sketch and the count so many times. Each adds
+/// a refusal's number, or `MADE` and the count after it, to the sum that is answered.
+#[inline]
+pub fn desk_repeated(
+    image: &[u8],
+    count: u32,
+    operation: u32,
+    curve: u32,
+    [x, y]: [f64; 2],
+    times: u32,
+) -> u32 {
+    let (bytes, len) = (image.as_ptr(), image.len());
+    // SAFETY: the slice is lent for the call, and the engine stays within its length.
+    unsafe { interface::mulkefi_desk_repeated(bytes, len, count, operation, curve, x, y, times) }
+}
+
+/// Reads the image once, then delivers a message to a wall with its sketch and the count so many
+/// times. Each adds a refusal's number, `MADE` where it is old, or `MADE` and the count after it.
+#[inline]
+pub fn deliver_repeated(image: &[u8], count: u32, message: &[u8], times: u32) -> u32 {
+    let (bytes, len) = (image.as_ptr(), image.len());
+    let (message, message_len) = (message.as_ptr(), message.len());
+    // SAFETY: both slices are lent for the call, and the engine stays within their lengths.
+    unsafe { interface::mulkefi_deliver_repeated(bytes, len, count, message, message_len, times) }
 }

@@ -1,0 +1,174 @@
+-- An edit of an image: one law for each way out.
+use mathlib.Core.Path.{_≡_, refl, sym, ap, _∙_, subst}
+use mathlib.Core.Bool.{Bool, true, false}
+use mathlib.Core.Logic.{_⊎_, inl, inr}
+use mathlib.Core.List.{List}
+use Prim.Native.Nat.{ℕ, _+_, _*_, _-_, _/_, _%_, _^_, _<_}
+use native.Mathlib.Omega.{arith}
+use lib.ListN.{length}
+use lib.Dec.{leb, eqb}
+use borrow.Author.Tests.{eq-eqb, ne-eqb}
+use Rattle.geom.specs.declared.Vec2.{Vec2}
+use Rattle.sketch.specs.declared.Sketch.{Sketch}
+use Rattle.sketch.specs.Drawing.{Drawing, view, limits}
+use Rattle.sketch.specs.Valid.{sketchFault}
+use Rattle.sketch.proofs.Sketches.{sketch-valid}
+use Rattle.image.specs.Image.{imageFault, drawingOf}
+use Rattle.image.specs.Encode.{drawingSize}
+use Rattle.image.specs.Message.{operationOf}
+use Rattle.image.specs.declared.Operation.{Operation}
+use Rattle.image.specs.declared.Operation.the-variants.{Extend}
+use Rattle.relations.specs.Met.{unmetAt}
+use Rattle.carry.specs.declared.Edited.{Edited}
+use Rattle.carry.specs.Outcome.{refused, accepted, need}
+use Rattle.carry.specs.Suited.{outcomeOf}
+use Rattle.modify.specs.Edits.{editOf, editUntested, Answered}
+use Rattle.exhibit.specs.Answers.{placeOf}
+use Rattle.probe.specs.Edits.{isOperation, editImage, numberOf, leftIn, Wrote, EditMade, editAdds, repeated}
+use Rattle.probe.proofs.Places.{place-low, untested-valid}
+
+-- ---- the place above the number
+
+pub with-13 : (k p : ℕ) → k ≡ 13 → k + p % 65536 * 65536 ≡ k + placeOf k p % 65536 * 65536
+with-13 k p h = rw (eq-eqb k 13 h)
+
+pub with-19 : (k p : ℕ) → k ≡ 19 → k + p % 65536 * 65536 ≡ k + placeOf k p % 65536 * 65536
+with-19 k p h = rw (ne-eqb k 13 (λ z. omega arith), eq-eqb k 19 h)
+
+pub with-none : (k p : ℕ) → (k ≡ 13 → ⊥) → (k ≡ 19 → ⊥) → k ≡ k + placeOf k p % 65536 * 65536
+with-none k p a b = rw (ne-eqb k 13 a, ne-eqb k 19 b) (omega arith)
+
+place-is : (k p : ℕ) → (k ≡ 13) ⊎ (k ≡ 19) → p < 65536 → placeOf k p % 65536 ≡ p
+place-is k p (inl h) l = rw (eq-eqb k 13 h) (omega arith)
+place-is k p (inr h) l = rw (ne-eqb k 13 (λ z. omega arith), eq-eqb k 19 h) (omega arith)
+
+-- ---- no edit
+
+module _ (op : ℕ) (s : List ℕ) (t : ℕ) (p : Vec2) (before : List ℕ) where
+  pub image-refused : (r : ℕ) → r < 256 → r ≡ imageFault s → (r ≡ 0 → ⊥) → EditMade op s t p before before r
+  unfolding need numberOf leftIn
+  image-refused r low e n =
+      let f : eqb (imageFault s) 0 ≡ false = ne-eqb (imageFault s) 0 (λ z. n (e ∙ z)) in
+      let m : r % 65536 ≡ r = omega arith in
+      record {
+        number = rw f (m ∙ e);
+        buffer = rw f;
+        quiet = λ x y. omega arith;
+        unmet-before = λ i o k. absurd (n (e ∙ i));
+        unmet-after = λ i o k d′ told q. absurd (n (e ∙ i));
+      }
+
+  module _ (i : imageFault s ≡ 0) where
+    pub no-operation : isOperation op ≡ false → EditMade op s t p before before 6
+    unfolding need numberOf leftIn
+    no-operation o =
+        let f : eqb (imageFault s) 0 ≡ true = eq-eqb (imageFault s) 0 i in
+        record {
+          number = rw (f, o);
+          buffer = rw (f, o);
+          quiet = λ x y. refl;
+          unmet-before = λ j o k. absurd (omega arith);
+          unmet-after = λ j o k d′ told q. absurd (omega arith);
+        }
+
+    -- ---- an edit
+
+    module _ (o : isOperation op ≡ true) (sk : Sketch) (v : view sk ≡ drawingOf s) (f : sketchFault sk ≡ 0) (r : Edited) (a : Answered (operationOf op) sk t p r) where
+      outcome-is : editImage op s t p ≡ outcomeOf r
+      unfolding need
+      outcome-is =
+          let g : eqb (imageFault s) 0 ≡ true = eq-eqb (imageFault s) 0 i in
+          let h : outcomeOf r ≡ editOf (operationOf op) limits (view sk) t p = a .outcome ∙ rw (eq-eqb (sketchFault sk) 0 f) in
+          rw (g, o) (sym (h ∙ ap (λ d. editOf (operationOf op) limits d t p) v))
+
+      extends : op ≡ 3 → operationOf op ≡ Extend
+      unfolding operationOf
+      extends e = ap operationOf e
+
+      pub edit-refused : (n : ℕ) → r .refusal < 256 → (r .refusal ≡ 0 → ⊥) → n ≡ r .refusal + placeOf (r .refusal) (r .place) % 65536 * 65536 → EditMade op s t p before before n
+      unfolding numberOf leftIn
+      edit-refused n low z is =
+          let k = r .refusal in
+          let w = placeOf k (r .place) % 65536 in
+          let number-is : n % 65536 ≡ k = omega arith in
+          let place-told : n / 65536 ≡ w = omega arith in
+          let q : editImage op s t p ≡ refused k = outcome-is ∙ rw (ne-eqb k 0 z) in
+          let u = sketch-valid sk f .1 in
+          record {
+            number = rw q number-is;
+            buffer = rw q;
+            quiet = λ x y. place-told ∙ sym (nothing (λ h. x (number-is ∙ h)) (λ h. y (number-is ∙ h)));
+            unmet-before = λ j e h.
+                let m = a .unmet-before (extends e) (sym number-is ∙ h) in
+                let l = place-low (view sk) (r .place) u m in
+                subst (λ d. unmetAt d (n / 65536) ≡ true) v (subst (λ (j : ℕ). unmetAt (view sk) j ≡ true) (sym (place-told ∙ place-is k (r .place) (inl (sym number-is ∙ h)) (omega arith))) m);
+            unmet-after = λ j e h d′ told g.
+                let g1 : editUntested Extend limits (view sk) t p ≡ accepted d′ told = ap (λ d. editUntested Extend limits d t p) v ∙ g in
+                let g2 : editUntested (operationOf op) limits (view sk) t p ≡ accepted d′ told = ap (λ o. editUntested o limits (view sk) t p) (extends e) ∙ g1 in
+                let m = a .unmet-after (extends e) (sym number-is ∙ h) d′ told g2 in
+                let u2 = untested-valid (view sk) t p d′ told u g1 in
+                let l = place-low d′ (r .place) u2 m in
+                subst (λ (j : ℕ). unmetAt d′ j ≡ true) (sym (place-told ∙ place-is k (r .place) (inr (sym number-is ∙ h)) (omega arith))) m;
+          }
+        where
+          nothing : (r .refusal ≡ 13 → ⊥) → (r .refusal ≡ 19 → ⊥) → 0 ≡ placeOf (r .refusal) (r .place) % 65536
+          nothing x y = rw (ne-eqb (r .refusal) 13 x, ne-eqb (r .refusal) 19 y)
+
+      pub edit-written : r .refusal ≡ 0 → (later : List ℕ) (n : ℕ) → Wrote (accepted (view (r .sketch)) (r .removed)) before later n → EditMade op s t p before later n
+      unfolding need numberOf
+      edit-written z later n w =
+          let q : editImage op s t p ≡ accepted (view (r .sketch)) (r .removed) = outcome-is ∙ rw (eq-eqb (r .refusal) 0 z) in
+          let c = number-of (leb (12 + drawingSize (view (r .sketch))) (length before)) (w .number) in
+          record {
+            number = rw q (low c ∙ w .number);
+            buffer = rw q (w .buffer);
+            quiet = λ x y. above c;
+            unmet-before = λ j e h. absurd (not-13 c h);
+            unmet-after = λ j e h d′ told g. absurd (not-19 c h);
+          }
+        where
+          number-of : (b : Bool) → n ≡ numberOf (need b 25 (accepted (view (r .sketch)) (r .removed))) → (n ≡ 0) ⊎ (n ≡ 25)
+          number-of true e = inl e
+          number-of false e = inr e
+
+          low : (n ≡ 0) ⊎ (n ≡ 25) → n % 65536 ≡ n
+          low (inl e) = omega arith
+          low (inr e) = omega arith
+
+          above : (n ≡ 0) ⊎ (n ≡ 25) → n / 65536 ≡ 0
+          above (inl e) = omega arith
+          above (inr e) = omega arith
+
+          not-13 : (n ≡ 0) ⊎ (n ≡ 25) → n % 65536 ≡ 13 → ⊥
+          not-13 (inl e) h = omega arith
+          not-13 (inr e) h = omega arith
+
+          not-19 : (n ≡ 0) ⊎ (n ≡ 25) → n % 65536 ≡ 19 → ⊥
+          not-19 (inl e) h = omega arith
+          not-19 (inr e) h = omega arith
+
+-- an operation by another name
+pub named : {o o′ : Operation} {sk : Sketch} {t : ℕ} {p : Vec2} {r : Edited} → o ≡ o′ → Answered o sk t p r → Answered o′ sk t p r
+named {o} {o′} {sk} {t} {p} {r} e a = subst (λ x. Answered x sk t p r) e a
+
+-- ---- what an edit adds to a sum
+
+module _ (op : Operation) (sk : Sketch) (t : ℕ) (p : Vec2) (f : sketchFault sk ≡ 0) (r : Edited) (a : Answered op sk t p r) where
+  made : outcomeOf r ≡ editOf op limits (view sk) t p
+  unfolding need
+  made = a .outcome ∙ rw (eq-eqb (sketchFault sk) 0 f)
+
+  pub adds-number : (r .refusal ≡ 0 → ⊥) → r .refusal ≡ editAdds (editOf op limits (view sk) t p)
+  unfolding editAdds
+  adds-number z = let q : outcomeOf r ≡ refused (r .refusal) = rw (ne-eqb (r .refusal) 0 z) in sym (ap editAdds (sym made ∙ q))
+
+  pub adds-sum : r .refusal ≡ 0 → {n : ℕ} → n ≡ (r .sketch .next + r .removed .curve) % 2 ^ 32 → n ≡ editAdds (editOf op limits (view sk) t p)
+  unfolding editAdds
+  adds-sum z e = let q : outcomeOf r ≡ accepted (view (r .sketch)) (r .removed) = rw (eq-eqb (r .refusal) 0 z) in e ∙ sym (ap editAdds (sym made ∙ q))
+
+-- and so many edits of what an image gives
+pub adds-read :
+    (op : ℕ) (s : List ℕ) (t : ℕ) (p : Vec2) (times : ℕ) {d : Drawing} {o : Operation} {n : ℕ} → d ≡ drawingOf s → o ≡ operationOf op
+    → n ≡ repeated times (editAdds (editOf o limits d t p)) → n ≡ repeated times (editAdds (editOf (operationOf op) limits (drawingOf s) t p))
+adds-read op s t p times {d} {o} v e q =
+    q ∙ ap (λ x. repeated times (editAdds (editOf x limits d t p))) e ∙ ap (λ x. repeated times (editAdds (editOf (operationOf op) limits x t p))) v

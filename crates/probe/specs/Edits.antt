@@ -1,0 +1,81 @@
+-- What an edit of an image answers, once and many times over. Definitions only.
+use Prim.Native.Nat.{ℕ, _+_, _*_, _/_, _%_, _^_}
+use mathlib.Core.Path.{_≡_}
+use mathlib.Core.Bool.{Bool, true, _&&_}
+use mathlib.Core.List.{List, _++_}
+use lib.ListN.{length}
+use lib.Dec.{leb, eqb}
+use Rattle.big_endian.specs.Fields.{bytes, over}
+use Rattle.geom.specs.declared.Vec2.{Vec2}
+use Rattle.sketch.specs.Lists.{rule}
+use Rattle.sketch.specs.Drawing.{Drawing, limits}
+use Rattle.image.specs.Image.{imageFault, drawingOf}
+use Rattle.image.specs.Encode.{encode, drawingSize}
+use Rattle.image.specs.Message.{operationOf}
+use Rattle.image.specs.declared.Operation.the-variants.{Extend}
+use Rattle.relations.specs.Met.{unmetAt}
+use Rattle.carry.specs.declared.Removed.{Removed}
+use Rattle.carry.specs.Outcome.{Outcome, refused, accepted, _then_, need}
+use Rattle.modify.specs.Edits.{editOf, editUntested}
+
+-- ---- one edit
+
+abbrev pub isOperation : ℕ → Bool
+isOperation n = leb 1 n && leb n 3
+
+-- by its operation's number; 6 where none has it
+abbrev pub editBy : ℕ → Drawing → ℕ → Vec2 → Outcome Drawing Removed
+editBy op d t p = need (isOperation op) 6 (editOf (operationOf op) limits d t p)
+
+-- the image's own refusal first
+abbrev pub editImage : ℕ → List ℕ → ℕ → Vec2 → Outcome Drawing Removed
+editImage op s t p = need (eqb (imageFault s) 0) (imageFault s) (editBy op (drawingOf s) t p)
+
+-- last, a buffer that is too short for the report and the image (25)
+abbrev pub fitting : ℕ → Outcome Drawing Removed → Outcome Drawing Removed
+fitting room o = o then (λ d r. need (leb (12 + drawingSize d) room) 25 (accepted d r))
+
+-- the report: the curve that went and its ends
+abbrev pub report : Removed → List ℕ
+report r = bytes 4 (r .curve) ++ (bytes 4 (r .from) ++ bytes 4 (r .to))
+
+-- the refusal's number, or 0
+unfoldable pub numberOf : Outcome Drawing Removed → ℕ
+numberOf (refused n) = n
+numberOf (accepted d r) = 0
+
+-- the report and then the image at the buffer's front, the rest as it was; or all as it was
+unfoldable pub leftIn : Outcome Drawing Removed → List ℕ → List ℕ
+leftIn (refused n) before = before
+leftIn (accepted d r) before = over before 0 (report r ++ encode d)
+
+-- a buffer after a write of what was made, and the number
+pub record Wrote (o : Outcome Drawing Removed) (before later : List ℕ) (r : ℕ) : Type 0 where
+  pub number : r ≡ numberOf (fitting (length before) o)
+  pub buffer : later ≡ leftIn (fitting (length before) o) before
+
+-- the number in the low 16 bits; above them the place of a relation that is not met, with an extend's 13 before the edit and with its 19 after it
+pub record EditMade (op : ℕ) (s : List ℕ) (t : ℕ) (p : Vec2) (before later : List ℕ) (r : ℕ) : Type 0 where
+  pub number : r % 65536 ≡ numberOf (fitting (length before) (editImage op s t p))
+  pub buffer : later ≡ leftIn (fitting (length before) (editImage op s t p)) before
+  pub quiet : (r % 65536 ≡ 13 → ⊥) → (r % 65536 ≡ 19 → ⊥) → r / 65536 ≡ 0
+  pub unmet-before : imageFault s ≡ 0 → op ≡ 3 → r % 65536 ≡ 13 → unmetAt (drawingOf s) (r / 65536) ≡ true
+  pub unmet-after : imageFault s ≡ 0 → op ≡ 3 → r % 65536 ≡ 19 → (d′ : Drawing) (told : Removed) → editUntested Extend limits (drawingOf s) t p ≡ accepted d′ told → unmetAt d′ (r / 65536) ≡ true
+
+-- ---- many times over
+
+-- the image's refusal, or the number
+abbrev pub ofImage : List ℕ → ℕ → ℕ
+ofImage s k = rule (eqb (imageFault s) 0) (imageFault s) k
+
+-- so many times a number, in 32 bits
+abbrev pub repeated : ℕ → ℕ → ℕ
+repeated times k = times * k % 2 ^ 32
+
+-- what one edit adds: a refusal's number, or the next id and the id of the curve that went
+unfoldable pub editAdds : Outcome Drawing Removed → ℕ
+editAdds (refused n) = n
+editAdds (accepted d r) = (d .next + r .curve) % 2 ^ 32
+
+abbrev pub editsSum : ℕ → List ℕ → ℕ → Vec2 → ℕ → ℕ
+editsSum op s t p times = ofImage s (rule (isOperation op) 6 (repeated times (editAdds (editOf (operationOf op) limits (drawingOf s) t p))))

@@ -1,0 +1,155 @@
+// Edits of an image: one a call, and one many times over for timing.
+use big_endian::put4;
+use carry::Edited;
+use carry::Removed;
+use geom::Vec2;
+use image::Operation;
+use sketch::Sketch;
+ghost use mathlib.Core.Path.{_≡_};
+ghost use Prim.Native.Nat.{_+_, _*_, _%_};
+ghost use Rattle.geom.specs.Plane.{vec};
+ghost use Rattle.sketch.specs.Drawing.{view, limits};
+ghost use Rattle.sketch.specs.Valid.{sketchFault};
+ghost use Rattle.image.specs.Message.{operationOf};
+ghost use Rattle.carry.specs.Outcome.{accepted};
+ghost use Rattle.modify.specs.Edits.{editOf, Answered};
+ghost use Rattle.exhibit.specs.Answers.{placeOf};
+ghost use Rattle.probe.specs.Edits.{isOperation, Wrote, EditMade, editAdds, repeated, editsSum};
+
+// A report's size in bytes.
+const REPORT: usize = 12;
+
+pub(crate) fn is_operation(number: u32) -> bool
+    ensures { λ r. ⌜ r ≡ isOperation number ⌝ }
+{
+    (1 <= number) & (number <= 3)
+}
+
+pub(crate) fn operation_of(number: u32) -> Operation
+    ensures { λ r. ⌜ r ≡ operationOf number ⌝ }
+{
+    match number {
+        1 => Operation::Trim,
+        2 => Operation::Split,
+        _ => Operation::Extend,
+    }
+}
+
+fn edited(operation: Operation, sk: Sketch, curve: u32, at: Vec2) -> Edited
+    ensures { λ r. ⌜ Answered operation sk curve at r ⌝ }
+{
+    match operation {
+        Operation::Trim => modify::trim(sk, curve, at),
+        Operation::Split => modify::split(sk, curve, at),
+        Operation::Extend => modify::extend(sk, curve, at),
+    }
+}
+
+// A refusal's number, and above its 16 bits the place that comes with 13 and 19.
+fn with_place(refusal: u8, place: usize) -> u32
+    ensures { λ r. ⌜ r ≡ refusal + placeOf refusal place % 65536 * 65536 ⌝ }
+{
+    let number = refusal as u32;
+    match refusal {
+        13 => number + (place % 65536) as u32 * 65536,
+        19 => number + (place % 65536) as u32 * 65536,
+        _ => number,
+    }
+}
+
+// The report and then the image to the buffer's front; or 25, and the buffer is left.
+fn write_edited(sk: Sketch, removed: Removed, out: &mut [u8]) -> u32
+    requires { ⌜ sketchFault sk ≡ 0 ⌝ }
+    ensures { λ r. ⌜ Wrote (accepted (view sk) removed) (now (out .entry)) (now (out .exit)) r ⌝ }
+{
+    if out.len() < REPORT {
+        return 25;
+    }
+    let number = image::write(sk, &mut out[REPORT..]);
+    if number != 0 {
+        return number as u32;
+    }
+    put4(out, 0, removed.curve as u64);
+    put4(out, 4, removed.from as u64);
+    put4(out, 8, removed.to as u64);
+    0
+}
+
+// Reads an image and makes an edit by its operation's number.
+#[no_mangle]
+pub extern "C" fn mulkefi_edit(
+    operation: u32,
+    bytes: &[u8],
+    curve: u32,
+    x: f64,
+    y: f64,
+    out: &mut [u8],
+) -> u32
+    ensures { λ r. ⌜ EditMade operation (now (bytes .entry)) curve (vec x y) (now (out .entry)) (now (out .exit)) r ⌝ }
+{
+    let r = image::read(bytes);
+    if r.refusal != 0 {
+        return r.refusal as u32;
+    }
+    if !is_operation(operation) {
+        return 6;
+    }
+    let sk = r.sketch;
+    let e = edited(operation_of(operation), sk, curve, Vec2 { x, y });
+    if e.refusal != 0 {
+        return with_place(e.refusal, e.place);
+    }
+    let after = e.sketch;
+    let removed = e.removed;
+    write_edited(after, removed, out)
+}
+
+// What one edit adds to a sum: a refusal's number, or the next id and the id of the curve that went.
+fn edit_adds(operation: Operation, sk: Sketch, curve: u32, at: Vec2) -> u32
+    requires { ⌜ sketchFault sk ≡ 0 ⌝ }
+    ensures { λ r. ⌜ r ≡ editAdds (editOf operation limits (view sk) curve at) ⌝ }
+{
+    let e = edited(operation, sk, curve, at);
+    if e.refusal != 0 {
+        return e.refusal as u32;
+    }
+    let after = e.sketch;
+    let removed = e.removed;
+    std::num::wrapping_add_u32(after.next, removed.curve)
+}
+
+fn edits_sum(operation: Operation, sk: Sketch, curve: u32, at: Vec2, times: u32) -> u32
+    requires { ⌜ sketchFault sk ≡ 0 ⌝ }
+    ensures { λ r. ⌜ r ≡ repeated times (editAdds (editOf operation limits (view sk) curve at)) ⌝ }
+{
+    let mut sum = 0u32;
+    let mut i = 0u32;
+    while i < times {
+        sum = std::num::wrapping_add_u32(sum, edit_adds(operation, sk, curve, at));
+        i += 1;
+    }
+    sum
+}
+
+// Reads an image and makes an edit of its sketch so many times, each on what was read.
+#[no_mangle]
+pub extern "C" fn mulkefi_edit_repeated(
+    operation: u32,
+    bytes: &[u8],
+    curve: u32,
+    x: f64,
+    y: f64,
+    times: u32,
+) -> u32
+    ensures { λ r. ⌜ r ≡ editsSum operation (now (bytes .entry)) curve (vec x y) times ⌝ }
+{
+    let r = image::read(bytes);
+    if r.refusal != 0 {
+        return r.refusal as u32;
+    }
+    if !is_operation(operation) {
+        return 6;
+    }
+    let sk = r.sketch;
+    edits_sum(operation_of(operation), sk, curve, Vec2 { x, y }, times)
+}
