@@ -20,10 +20,8 @@ pub trait Side {
     fn edit(call: &Call, out: &mut [u8]) -> u32;
 }
 
-#[cfg(feature = "edits")]
 struct Engine;
 
-#[cfg(feature = "edits")]
 impl Side for Engine {
     fn edit(call: &Call, out: &mut [u8]) -> u32 {
         engine::edits::edit(call.operation, &call.image, call.curve, call.x, call.y, out)
@@ -57,7 +55,6 @@ impl Edits for Extends {
 pub struct Compared<E, S>(PhantomData<(E, S)>);
 
 /// Compares so many trims and splits, then as many extends.
-#[cfg(feature = "edits")]
 pub fn run(cases: usize, seed: u64) -> Result<(), String> {
     crate::subject::run::<Compared<TrimsAndSplits, Engine>>(cases, seed)?;
     crate::subject::run::<Compared<Extends, Engine>>(cases, seed)

@@ -8,9 +8,7 @@
 mod copies;
 mod counts;
 mod crossings;
-#[cfg(any(test, feature = "edits"))]
 mod edit_rows;
-#[cfg(any(test, feature = "edits"))]
 mod edits;
 mod hex;
 mod images;
@@ -18,11 +16,9 @@ mod measures;
 mod messages;
 mod number;
 mod number_pairs;
-#[cfg(any(test, feature = "edits", feature = "exhibit"))]
 mod outcomes;
 mod relations;
 mod roots;
-#[cfg(any(test, feature = "exhibit"))]
 mod runs;
 mod shrink;
 mod simpler;
@@ -39,10 +35,8 @@ const FIGURES: u64 = 4_100_000;
 const ROOTS: u64 = 10_000_000;
 const RELATIONS: u64 = 1_000_000;
 const POLYNOMIALS: u64 = 320_000;
-#[cfg(feature = "edits")]
-const EDITS: u64 = 300_000;
-#[cfg(feature = "exhibit")]
-const RUNS: u64 = 50_000;
+const EDITS: u64 = 40_000;
+const RUNS: u64 = 2_000;
 
 fn versions() -> Result<(), String> {
     let (oracle, engine) =
@@ -74,9 +68,7 @@ fn compare_all() -> Result<(), String> {
         return Ok(());
     }
     subject::run::<roots::Roots>(cases(6, POLYNOMIALS), seed)?;
-    #[cfg(feature = "edits")]
     edits::run(cases(8, EDITS), seed)?;
-    #[cfg(feature = "exhibit")]
     subject::run::<runs::Runs<runs::Engine>>(cases(9, RUNS), seed)?;
     Ok(())
 }

@@ -18,10 +18,8 @@ pub trait Side {
     fn wall(input: &[u8], out: &mut [u8]) -> usize;
 }
 
-#[cfg(feature = "exhibit")]
 pub struct Engine;
 
-#[cfg(feature = "exhibit")]
 impl Side for Engine {
     fn wall(input: &[u8], out: &mut [u8]) -> usize {
         engine::exhibit::wall(input, out)

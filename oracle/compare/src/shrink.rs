@@ -16,7 +16,6 @@ pub fn image(bytes: &[u8], differs: impl Fn(&[u8]) -> bool) -> Vec<u8> {
 }
 
 /// Shrinks an image by whole records alone.
-#[cfg(any(test, feature = "edits", feature = "exhibit"))]
 pub fn records(bytes: &[u8], differs: impl Fn(&[u8]) -> bool) -> Vec<u8> {
     until_stable(bytes.to_vec(), |bytes| {
         for table in (0..3).rev() {
@@ -62,7 +61,6 @@ fn drop_records(bytes: &mut Vec<u8>, table: usize, differs: &impl Fn(&[u8]) -> b
 }
 
 /// Drops runs of entries of a list, long runs first.
-#[cfg(any(test, feature = "exhibit"))]
 pub fn drop_runs<T: Clone>(list: &mut Vec<T>, differs: impl Fn(&[T]) -> bool) {
     let mut run = list.len();
     while run > 0 {
