@@ -4,10 +4,10 @@ use cad_geom::Vec2;
 use cad_sketch::Sketch;
 use oracle::call::Call;
 use oracle::convert::{curve_place, to_sketch};
-use oracle::drawing::Drawing;
+use oracle::drawing::{Drawing, Id};
 use oracle::edit::{apply, edit_sketch};
 use oracle::generate::{bridges, edits, random::Random};
-use oracle::message::{Edit, Operation};
+use oracle::message::{self, Edit, Message, Operation};
 use oracle::{upstream, validity};
 
 const BRIDGES: usize = 8;
@@ -64,6 +64,32 @@ impl Sample {
         let mut sketch = self.sketch.clone();
         edit_sketch(&self.drawing, &mut sketch, &self.edit).expect("an accepted edit");
         sketch
+    }
+
+    /// The message of the edit under a number, of a curve that may be another.
+    pub fn message(&self, number: u32, curve: Id) -> [u8; message::SIZE] {
+        message::to_bytes(&Message { number, edit: Edit { curve, ..self.edit } })
+    }
+
+    /// The Rust's desk with the engine's tests: as `tested`, then the message.
+    pub fn desk(&self, count: u32, out: &mut [u8]) -> Sketch {
+        let number = count.checked_add(1).expect("a number is left");
+        let sketch = self.tested();
+        message::write(&Message { number, edit: self.edit }, out).expect("room for a message");
+        sketch
+    }
+
+    /// The Rust's wall with the engine's tests: the drawing's, the message's, then the edit's and the
+    /// edit on a copy. Nothing comes of a message that is old, ahead or refused.
+    pub fn deliver(&self, count: u32, bytes: &[u8]) -> Option<Sketch> {
+        validity::check(&self.drawing).expect("a good drawing");
+        let message = message::read(bytes).expect("a good message");
+        if message.number <= count || message.number - count > 1 {
+            return None;
+        }
+        let mut sketch = self.sketch.clone();
+        edit_sketch(&self.drawing, &mut sketch, &message.edit).ok()?;
+        Some(sketch)
     }
 
     /// The Rust's edit alone, on a copy.

@@ -27,13 +27,7 @@ pub fn run() {
 
 fn print_line(name: &str, [engine, tested, bare]: [f64; 3]) {
     let (to_tested, to_bare) = (engine / tested, engine / bare);
-    if cfg!(feature = "edits") {
-        println!(
-            "{name:<32} {engine:>9.0} {tested:>9.0} {to_tested:>7.2} {bare:>9.0} {to_bare:>7.2}"
-        );
-    } else {
-        println!("{name:<32} {:>9} {tested:>9.0} {:>7} {bare:>9.0} {:>7}", "-", "-", "-");
-    }
+    println!("{name:<32} {engine:>9.0} {tested:>9.0} {to_tested:>7.2} {bare:>9.0} {to_bare:>7.2}");
 }
 
 /// Nanoseconds an edit by side, on average over the samples.
@@ -64,16 +58,9 @@ fn times_of(sample: &Sample) -> [f64; 3] {
     ])
 }
 
-#[cfg(feature = "edits")]
 fn engine(sample: &Sample) {
     let call = black_box(&sample.call);
     let oracle::call::Call { operation, image, curve, x, y } = call;
     let sum = engine::edits::repeated(*operation, image, *curve, *x, *y, REPEATS);
     assert_eq!(sum, sample.checksum.wrapping_mul(REPEATS), "the engine does the same edit");
-}
-
-/// The engine's library has no edits yet; its column stays empty.
-#[cfg(not(feature = "edits"))]
-fn engine(sample: &Sample) {
-    black_box((sample.checksum, &sample.call));
 }

@@ -1,6 +1,7 @@
 //! The engine beside the oracle: the same inputs in one process, both built for release.
 //!
-//! `bench [subject]`: all of them, or one of images, sketches, numbers, shapes and edits.
+//! `bench [subject]`: all of them, or one of images, sketches, relations, numbers,
+//! shapes, roots, edits and screens.
 
 mod bridge;
 mod edits;
@@ -10,6 +11,7 @@ mod numbers;
 mod relations;
 mod roots;
 mod samples;
+mod screens;
 mod shapes;
 mod sketches;
 mod timing;
@@ -42,5 +44,8 @@ fn main() {
     }
     if wanted("edits") {
         edits::run();
+    }
+    if wanted("screens") {
+        screens::run();
     }
 }

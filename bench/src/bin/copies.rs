@@ -76,7 +76,6 @@ fn main() {
 }
 
 /// Many edits less one, so that the reading of the image is not counted.
-#[cfg(feature = "edits")]
 fn engine(samples: &[Sample]) -> [f64; 2] {
     const MORE: u32 = 100;
     let repeated = |times: u32| {
@@ -88,13 +87,4 @@ fn engine(samples: &[Sample]) -> [f64; 2] {
     };
     let (one, many) = (repeated(1), repeated(1 + MORE));
     std::array::from_fn(|at| (many[at] - one[at]) / f64::from(MORE))
-}
-
-/// The engine's library has no edits yet.
-#[cfg(not(feature = "edits"))]
-fn engine(samples: &[Sample]) -> [f64; 2] {
-    samples.iter().for_each(|sample| {
-        black_box((&sample.call, sample.checksum));
-    });
-    [f64::NAN; 2]
 }
