@@ -1,0 +1,127 @@
+/* Mulkefi for a host in C, C++ or Rust: one drawing cut alike at a desk and on a wall.
+ *
+ * Link with libkiosk.a (`rt staticlib kiosk` writes it to target/staticlib/); it needs memcpy and memset and nothing else, and is
+ * built for x86-64 Linux. No call allocates, keeps a pointer, blocks or touches anything but the memory lent to it, so calls on
+ * different memory may run at once.
+ *
+ * Memory. Pointers are never null, also where a length is 0; lengths are those of the memory; a double is aligned. What a call
+ * may write must not overlap anything else lent to the same call. Everything else about the arguments is tested: any bytes, any
+ * lengths, counts, ids and numbers are answered for.
+ *
+ * Answers. 0 is accepted. Otherwise the low 16 bits are a refusal's number (enum mulkefi_refusal), and with
+ * MULKEFI_RELATIONS_UNMET and MULKEFI_RELATIONS_BROKEN the bits above are the place, from 0, of a relation that is not met; with
+ * every other number they are 0. After a refusal not one byte of the caller's memory is altered. */
+#ifndef MULKEFI_H
+#define MULKEFI_H
+
+#include <stddef.h>
+#include <stdint.h>
+
+#ifdef __cplusplus
+extern "C" {
+#endif
+
+/* An edit message's size, and the largest image's, in bytes. A buffer of the largest image's size is never too short. */
+#define MULKEFI_MESSAGE_SIZE 30
+#define MULKEFI_IMAGE_SIZE 21135
+
+/* What a drawing holds at most. Ids run from 1 to 4294967294. */
+#define MULKEFI_MOST_POINTS 512
+#define MULKEFI_MOST_CURVES 128
+#define MULKEFI_MOST_RELATIONS 256
+
+/* The largest magnitude of a coordinate and of a pick. */
+#define MULKEFI_MOST_COORDINATE 1000000.0
+
+/* For roots: the most coefficients, and the room that a search asks for. */
+#define MULKEFI_MOST_COEFFICIENTS 15
+#define MULKEFI_ROOTS_ROOM 28
+
+/* How many numbers an edit or a delivery answers, and what stands where. */
+#define MULKEFI_ANSWER_SIZE 5
+
+enum mulkefi_answer {
+    MULKEFI_ANSWER_COUNT = 0, /* edits made so far */
+    MULKEFI_ANSWER_IMAGE = 1, /* the image's size in bytes */
+    MULKEFI_ANSWER_CURVE = 2, /* the id of the curve that was removed, or 0 */
+    MULKEFI_ANSWER_START = 3, /* the id of its start, or 0 */
+    MULKEFI_ANSWER_END = 4    /* the id of its end, or 0 */
+};
+
+enum mulkefi_operation {
+    MULKEFI_TRIM = 1,
+    MULKEFI_SPLIT = 2,
+    MULKEFI_EXTEND = 3
+};
+
+enum mulkefi_refusal {
+    MULKEFI_ACCEPTED = 0,
+    /* of an image or a message */
+    MULKEFI_BAD_LENGTH = 1,        /* too few bytes, or not as many as the length field says */
+    MULKEFI_BAD_VERSION = 2,       /* a version that this build does not read */
+    MULKEFI_BAD_COUNT = 3,         /* a table over its limit, or counts that do not match the length */
+    MULKEFI_BAD_VALUE = 4,         /* a value out of range, or a field not zero that has to be */
+    MULKEFI_BAD_ID = 5,            /* an id out of order or range, missing, of the wrong kind, or repeated */
+    MULKEFI_BAD_OPERATION = 6,     /* an unknown operation, or a message with number 0 */
+    MULKEFI_AHEAD = 7,             /* an earlier message has not arrived yet */
+    /* of an edit */
+    MULKEFI_NO_CURVE = 8,          /* no such curve */
+    MULKEFI_BAD_PICK = 9,          /* a pick that is not finite or beyond 1,000,000 */
+    MULKEFI_WRONG_KIND = 10,       /* not an edit for this kind of curve */
+    MULKEFI_FREEFORM_NEAR = 11,    /* not while a freeform curve is in the drawing */
+    MULKEFI_NO_CUT = 12,           /* no place to split at */
+    MULKEFI_RELATIONS_UNMET = 13,  /* a relation is not met; comes with its place */
+    MULKEFI_END_HELD = 14,         /* the line's end is used by another curve, or fixed */
+    MULKEFI_OVERLAP = 15,          /* the line lies along another curve */
+    MULKEFI_OFF_LINE = 16,         /* a line too short to prolong, or a hit that lies off it */
+    MULKEFI_TIE = 17,              /* two curves are met equally near */
+    MULKEFI_NOTHING_MET = 18,      /* the line, prolonged, meets nothing */
+    MULKEFI_RELATIONS_BROKEN = 19, /* a relation would not be met afterwards; comes with its place */
+    /* of numbers and memory */
+    MULKEFI_BAD_COEFFICIENTS = 20, /* none, more than 15, or one not finite, also in a derivative */
+    MULKEFI_WORK_LIMIT = 21,       /* the budget ran out */
+    MULKEFI_TABLE_FULL = 22,       /* no room for another point, curve or relation */
+    MULKEFI_NUMBERS_USED_UP = 23,  /* no id or edit number is left */
+    MULKEFI_OUT_OF_RANGE = 24,     /* a new coordinate is not finite or beyond 1,000,000 */
+    MULKEFI_SHORT_BUFFER = 25      /* lent memory is too short */
+};
+
+/* The version of images times 256, plus that of messages. */
+uint32_t mulkefi_versions(void);
+
+/* The number that an image is refused by (1 to 5), or 0. */
+uint32_t mulkefi_test(const uint8_t *image, size_t len);
+
+/* The desk: an edit of a drawing.
+ *
+ * The drawing is the image in the first `len` bytes of `buffer`, in all `room` bytes where `len` is larger; `count` edits made it so.
+ * Accepted: the new image stands at the buffer's front, the edit's message in the first 30 bytes of `message`, and `answer` holds the
+ * new count, the new image's size, the removed curve and its two ends. What lies beyond is left as it was.
+ *
+ * Refused, in this order: the image's numbers; 6 for an unknown operation; 25 where `message_room` is below 30; 23 where `count` is
+ * 4294967295; the edit's numbers, 8 to 24, as it meets them; 25 where `room` is too short for the new image. */
+uint32_t mulkefi_desk_edit(uint8_t *buffer, size_t room, size_t len, uint32_t count, uint32_t operation, uint32_t curve, double x, double y,
+                           uint8_t *message, size_t message_room, uint32_t answer[5]);
+
+/* The wall: a message of the desk's, as it came, to a drawing given as at the desk.
+ *
+ * Accepted, the next one: its edit is made, and buffer and answer are left as at the desk. Accepted, an old one, whose number is not
+ * above `count`: the buffer is left, and `answer` holds the count as it was, the image's size and three zeros.
+ *
+ * Refused, in this order: the image's numbers; the message's, 1, 2 and 6; 7 where messages before it are missing; the edit's numbers;
+ * 25 where `room` is too short for the new image. The count is then still what it was. */
+uint32_t mulkefi_wall_deliver(uint8_t *buffer, size_t room, size_t len, uint32_t count, const uint8_t *message, size_t message_len, uint32_t answer[5]);
+
+/* The roots from 0 to 1 of the polynomial with these `n` coefficients in Bernstein form.
+ *
+ * Accepted: the roots stand in rising order at the front of `found`, and `answer` holds how many they are and what is left of the
+ * budget, of which each halving takes one.
+ *
+ * Refused, in this order: 25 where `room` is below 28; 20 for the coefficients; 21 where the budget does not suffice. */
+uint32_t mulkefi_roots(const double *coefficients, size_t n, double *found, size_t room, size_t budget, uint64_t answer[2]);
+
+#ifdef __cplusplus
+}
+#endif
+
+#endif
