@@ -23,12 +23,14 @@ fn main() {
     let wanted = |subject: &str| only.as_ref().is_none_or(|only| only == subject);
     timing::print_heading();
     if wanted("images") {
+        images::run("image of 10 curves", Size::Footbridge);
         images::run("image of 60 curves", Size::Bridge);
-        images::run("largest image", Size::Largest);
+        images::run("largest image, 128 curves", Size::Largest);
     }
     if wanted("sketches") {
+        sketches::run("sketch of 10 curves", Size::Footbridge);
         sketches::run("sketch of 60 curves", Size::Bridge);
-        sketches::run("largest sketch", Size::Largest);
+        sketches::run("largest sketch, 128 curves", Size::Largest);
     }
     if wanted("relations") {
         relations::run();

@@ -12,6 +12,8 @@ pub enum Size {
     /// Up to eight curves: most inputs, so that many can be tried.
     Small,
     Middle,
+    /// Ten curves.
+    Footbridge,
     /// Sixty curves, the size of a working bridge.
     Bridge,
     /// Tables at their limits or next to them.
@@ -36,6 +38,7 @@ pub fn drawing(random: &mut Random, size: Size) -> Drawing {
     let (points, curves, relations) = match size {
         Size::Small => (0, random.pick(&[0, 1, 2, 3, 3, 4, 5, 6, 8]), random.below(5)),
         Size::Middle => (0, 5 + random.below(20), random.below(16)),
+        Size::Footbridge => (0, 10, 20),
         Size::Bridge => (0, 60, 20),
         Size::Crowded => {
             let any = [near_limit(random, MAX_POINTS), random.below(40)];
