@@ -35,8 +35,8 @@ const FIGURES: u64 = 4_100_000;
 const ROOTS: u64 = 10_000_000;
 const RELATIONS: u64 = 1_000_000;
 const POLYNOMIALS: u64 = 320_000;
-const EDITS: u64 = 40_000;
-const RUNS: u64 = 2_000;
+const EDITS: u64 = 300_000;
+const RUNS: u64 = 50_000;
 
 fn versions() -> Result<(), String> {
     let (oracle, engine) =
