@@ -3,7 +3,7 @@
 //!
 //! `compare [images] [messages] [seed] [figures] [square roots] [polynomials] [relations] [edits] [runs]`:
 //! how many of each, and where the generator starts. So many edits are trims and splits, as many
-//! again extends.
+//! again extends and as many sums of both.
 
 mod copies;
 mod counts;
@@ -25,6 +25,7 @@ mod simpler;
 mod sketches;
 mod square_roots;
 mod subject;
+mod sums;
 
 use oracle::{arguments, image, message, upstream};
 use std::process::ExitCode;
@@ -68,7 +69,9 @@ fn compare_all() -> Result<(), String> {
         return Ok(());
     }
     subject::run::<roots::Roots>(cases(6, POLYNOMIALS), seed)?;
-    edits::run(cases(8, EDITS), seed)?;
+    let edit_cases = cases(8, EDITS);
+    edits::run(edit_cases, seed)?;
+    subject::run::<sums::Sums>(edit_cases, seed)?;
     subject::run::<runs::Runs<runs::Engine>>(cases(9, RUNS), seed)?;
     Ok(())
 }

@@ -1,0 +1,158 @@
+//! One edit several times over, by itself, at a desk and delivered to a wall: the sum of what each
+//! tells.
+
+use crate::counts::Counts;
+use crate::hex::Hex;
+use crate::outcomes;
+use crate::shrink;
+use crate::subject::Subject;
+use engine::exhibit::MADE;
+use oracle::bytes::put;
+use oracle::call::Call;
+use oracle::edit::Refused;
+use oracle::exhibit::{Delivery, Screen};
+use oracle::generate::messages::damage;
+use oracle::generate::{calls, random::Random};
+use oracle::message::{self, Edit};
+use oracle::refusal::Refusal;
+use oracle::{edit, image};
+
+pub struct Sums;
+
+#[derive(Clone, Debug)]
+enum Asked {
+    Edit,
+    Desk,
+    Wall(Hex),
+}
+
+/// An edit of an image, which a desk or wall has at a count.
+#[derive(Clone, Debug)]
+pub struct Case {
+    asked: Asked,
+    call: Call,
+    count: u32,
+    times: u32,
+}
+
+/// The number by which all are turned away at once, or what each tells.
+type Told = Result<Result<u32, Refused>, Refused>;
+
+impl Case {
+    fn row(&self) -> &'static str {
+        match self.asked {
+            Asked::Edit => "edit",
+            Asked::Desk => "desk",
+            Asked::Wall(_) => "wall",
+        }
+    }
+
+    fn outcome(&self, told: &Told) -> &'static str {
+        match told {
+            Err(refused) | Ok(Err(refused)) => outcomes::name(refused.refusal.number()),
+            Ok(Ok(MADE)) if matches!(self.asked, Asked::Wall(_)) => "old",
+            Ok(Ok(_)) => "0",
+        }
+    }
+
+    fn told(&self) -> Told {
+        let drawing = image::read(&self.call.image)?;
+        let screen = Screen { drawing, count: self.count };
+        if let Asked::Wall(bytes) = &self.asked {
+            return Ok(delivered(screen, &bytes.0));
+        }
+        let operation = self.call.operation().ok_or(Refusal::Operation)?;
+        let Call { curve, x, y, .. } = self.call;
+        let edit = Edit { operation, curve, x, y };
+        Ok(match self.asked {
+            Asked::Desk => drawn(screen, &edit),
+            _ => edit::apply_tested(&screen.drawing, &edit)
+                .map(|(after, report)| after.next_id.wrapping_add(report.removed)),
+        })
+    }
+}
+
+fn drawn(mut desk: Screen, edit: &Edit) -> Result<u32, Refused> {
+    desk.edit(edit, &mut [0; message::SIZE])?;
+    Ok(MADE.wrapping_add(desk.count))
+}
+
+fn delivered(mut wall: Screen, bytes: &[u8]) -> Result<u32, Refused> {
+    Ok(match wall.deliver(bytes)? {
+        Delivery::Old => MADE,
+        Delivery::Done(_) => MADE.wrapping_add(wall.count),
+    })
+}
+
+fn number(refused: Refused) -> u32 {
+    u32::from(refused.refusal.number())
+}
+
+/// The edit's message under a number at or near the next one, at times damaged.
+fn message_near(call: &Call, count: u32, random: &mut Random) -> Vec<u8> {
+    let mut bytes = vec![0; message::SIZE];
+    let next = count.wrapping_add(1);
+    let number =
+        random.weighted(&[(12, next), (1, count), (1, count / 2), (1, next.wrapping_add(1))]);
+    put(&mut bytes, 0, ((message::SIZE - image::LENGTH_SIZE) as u32).to_be_bytes());
+    bytes[4] = message::VERSION;
+    put(&mut bytes, 5, number.to_be_bytes());
+    bytes[9] = call.operation as u8;
+    put(&mut bytes, 10, call.curve.to_be_bytes());
+    put(&mut bytes, 14, call.x.to_bits().to_be_bytes());
+    put(&mut bytes, 22, call.y.to_bits().to_be_bytes());
+    if random.one_in(8) {
+        damage(random, &mut bytes);
+    }
+    bytes
+}
+
+impl Subject for Sums {
+    const NAME: &'static str = "sums of edits, desk and wall";
+    type Case = Case;
+    type Answer = u32;
+    type Coverage = Counts;
+
+    fn case(random: &mut Random) -> Case {
+        let call = if random.one_in(2) { calls::cut(random) } else { calls::extension(random) };
+        let count = random.pick(&[0, 0, 1, 7, 255, 65_536, u32::MAX - 1, u32::MAX]);
+        let times = random.pick(&[0, 1, 1, 2, 3]);
+        let asked = match random.below(4) {
+            0 => Asked::Edit,
+            1 => Asked::Desk,
+            _ => Asked::Wall(Hex(message_near(&call, count, random))),
+        };
+        Case { asked, call, count, times }
+    }
+
+    fn oracle(case: &Case, counts: &mut Counts) -> u32 {
+        let told = case.told();
+        counts.add(case.row(), case.outcome(&told));
+        match told {
+            Err(refused) => number(refused),
+            Ok(each) => each.unwrap_or_else(number).wrapping_mul(case.times),
+        }
+    }
+
+    fn engine(case: &Case) -> u32 {
+        let Case { asked, call: Call { operation, image, curve, x, y }, count, times } = case;
+        match asked {
+            Asked::Edit => engine::edits::repeated(*operation, image, *curve, *x, *y, *times),
+            Asked::Desk => {
+                engine::exhibit::desk_repeated(image, *count, *operation, *curve, [*x, *y], *times)
+            }
+            Asked::Wall(Hex(bytes)) => {
+                engine::exhibit::deliver_repeated(image, *count, bytes, *times)
+            }
+        }
+    }
+
+    /// Fewer records.
+    fn shrink(case: Case, differs: impl Fn(&Case) -> bool) -> Case {
+        let with = |image: &[u8]| {
+            let call = Call { image: image.to_vec(), ..case.call.clone() };
+            Case { call, ..case.clone() }
+        };
+        with(&shrink::records(&case.call.image, |image| differs(&with(image))))
+    }
+}
