@@ -10,14 +10,13 @@ use crate::starting::start;
 use big_endian::get1;
 use big_endian::get4;
 use big_endian::get8;
-use image::Operation;
+use image::operation_of;
 ghost use mathlib.Core.Path.{_≡_};
 ghost use Prim.Native.Nat.{_+_, _*_, _/_, _≤_};
 ghost use lib.ListN.{length};
 ghost use lib.Ieee.{ofBits, binary64};
 ghost use Rattle.sketch.specs.Drawing.{view};
 ghost use Rattle.sketch.specs.Valid.{sketchFault};
-ghost use Rattle.image.specs.Message.{operationOf};
 ghost use Rattle.exhibit.specs.Answers.{DeskEdits};
 ghost use Rattle.exhibit.specs.Rehearsals.{editAt, callsIn, hasRoom, allBelow, Drew, inLog, Ran, Within, Rehearsal};
 
@@ -25,16 +24,6 @@ ghost use Rattle.exhibit.specs.Rehearsals.{editAt, callsIn, hasRoom, all
 const CALL: usize = 22;
 
 const MOST_ROOM: usize = 255;
-
-fn operation_of(byte: u8) -> Operation
-    ensures { λ r. ⌜ r ≡ operationOf byte ⌝ }
-{
-    match byte {
-        1 => Operation::Trim,
-        2 => Operation::Split,
-        _ => Operation::Extend,
-    }
-}
 
 // A NaN's bits give the NaN.
 fn coordinate(bits: u64) -> f64

@@ -9,6 +9,7 @@ mod writer;
 ghost use mathlib.Core.Path.{_≡_};
 ghost use Rattle.image.specs.Image as I;
 ghost use Rattle.image.specs.Message as M;
+pub use messages::operation_of;
 pub use messages::read_message;
 pub use messages::write_message;
 pub use reader::read;

@@ -12,7 +12,8 @@ use big_endian::put8;
 ghost use mathlib.Core.Path.{_≡_};
 ghost use Rattle.image.specs.Message.{operationOf, operationByte, parse, Written};
 
-fn operation_of(byte: u8) -> Operation
+// The operation that a byte means. Readers turn other bytes away before they ask.
+pub fn operation_of(byte: u8) -> Operation
     ensures { λ r. ⌜ r ≡ operationOf byte ⌝ }
 {
     match byte {

@@ -1,6 +1,5 @@
 // Edits of an image: one a call, and one many times over for timing.
 use big_endian::put4;
-use carry::Edited;
 use carry::Removed;
 use geom::Vec2;
 use image::Operation;
@@ -12,7 +11,7 @@ ghost use Rattle.sketch.specs.Drawing.{view, limits};
 ghost use Rattle.sketch.specs.Valid.{sketchFault};
 ghost use Rattle.image.specs.Message.{operationOf};
 ghost use Rattle.carry.specs.Outcome.{accepted};
-ghost use Rattle.modify.specs.Edits.{editOf, Answered};
+ghost use Rattle.modify.specs.Edits.{editOf};
 ghost use Rattle.exhibit.specs.Answers.{placeOf};
 ghost use Rattle.probe.specs.Edits.{isOperation, Wrote, EditMade, editAdds, repeated, editsSum};
 
@@ -32,16 +31,6 @@ pub(crate) fn operation_of(number: u32) -> Operation
         1 => Operation::Trim,
         2 => Operation::Split,
         _ => Operation::Extend,
-    }
-}
-
-fn edited(operation: Operation, sk: Sketch, curve: u32, at: Vec2) -> Edited
-    ensures { λ r. ⌜ Answered operation sk curve at r ⌝ }
-{
-    match operation {
-        Operation::Trim => modify::trim(sk, curve, at),
-        Operation::Split => modify::split(sk, curve, at),
-        Operation::Extend => modify::extend(sk, curve, at),
     }
 }
 
@@ -95,7 +84,7 @@ pub extern "C" fn mulkefi_edit(
         return 6;
     }
     let sk = r.sketch;
-    let e = edited(operation_of(operation), sk, curve, Vec2 { x, y });
+    let e = modify::edit(operation_of(operation), sk, curve, Vec2 { x, y });
     if e.refusal != 0 {
         return with_place(e.refusal, e.place);
     }
@@ -109,7 +98,7 @@ fn edit_adds(operation: Operation, sk: Sketch, curve: u32, at: Vec2) -> u32
     requires { ⌜ sketchFault sk ≡ 0 ⌝ }
     ensures { λ r. ⌜ r ≡ editAdds (editOf operation limits (view sk) curve at) ⌝ }
 {
-    let e = edited(operation, sk, curve, at);
+    let e = modify::edit(operation, sk, curve, at);
     if e.refusal != 0 {
         return e.refusal as u32;
     }

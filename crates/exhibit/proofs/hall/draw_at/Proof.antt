@@ -12,7 +12,7 @@ use Rattle.big_endian.proofs.get4.Reads as get4-reads
 use Rattle.big_endian.proofs.get8.Reads as get8-reads
 use Rattle.exhibit.proofs.draw.desk_edit.Reads as desk-edit-reads
 use Rattle.exhibit.proofs.hall.coordinate.Reads as coordinate-reads
-use Rattle.exhibit.proofs.hall.operation_of.Reads as operation-of-reads
+use Rattle.image.proofs.operation_of.Reads as operation-of-reads
 
 -- src/hall.rt:55:34
 get1-requires : tie.Need-get1-requires

@@ -3,21 +3,21 @@ use Rattle.probe.proofs.EditsMade.{adds-number, adds-sum}
 use Rattle.probe.proofs.edits.edit_adds.Statement.{statement}
 use Rattle.probe.proofs.edits.edit_adds.Tie as tie
 
-edited-requires : tie.Need-edited-requires
-edited-requires c κs = search needs
+edit-requires : tie.Need-edit-requires
+edit-requires c κs = search needs
 
 cast-result : tie.Need-cast-result
 cast-result c = search needs
 
 returns : tie.Need-returns
-returns c = adds-number _ _ _ _ (c .before .before .before .before .pre) _ (c .before .before .before .edited .ensures) (c .before .if1 .taken)
+returns c = adds-number _ _ _ _ (c .before .before .before .before .pre) _ (c .before .before .before .edit .ensures) (c .before .if1 .taken)
 
 wrapping-add-u32-requires : tie.Need-wrapping-add-u32-requires
 wrapping-add-u32-requires c κs = search needs
 
 returns-2 : tie.Need-returns-2
-returns-2 c = adds-sum _ _ _ _ (c .before .before .before .before .before .before .pre) _ (c .before .before .before .before .before .edited .ensures) (c .before .before .before .if1 .left) (c .wrapping-add-u32 .ensures)
+returns-2 c = adds-sum _ _ _ _ (c .before .before .before .before .before .before .pre) _ (c .before .before .before .before .before .edit .ensures) (c .before .before .before .if1 .left) (c .wrapping-add-u32 .ensures)
 
 pub edit-adds-spec : {M : Type 1} → statement M
 edit-adds-spec =
-    tie.close (tie.spec edited-requires cast-result returns wrapping-add-u32-requires returns-2)
+    tie.close (tie.spec edit-requires cast-result returns wrapping-add-u32-requires returns-2)

@@ -32,8 +32,8 @@ returns-2 c =
 operation-of-requires : tie.Need-operation-of-requires
 operation-of-requires c κs = search needs
 
-edited-requires : tie.Need-edited-requires
-edited-requires c κs = search needs
+edit-requires : tie.Need-edit-requires
+edit-requires c κs = search needs
 
 with-place-requires : tie.Need-with-place-requires
 with-place-requires c κs = search needs
@@ -44,10 +44,10 @@ returns-3 c =
     let at = c .before .before .before .before .before .before .before .before .before .before .before .before .before in
     let i = sym (read-number (r .result) (at .args .bytes .now) (r .ensures .told)) ∙ c .before .before .before .before .before .before .before .before .if1 .left in
     edit-refused (at .args .operation) (at .args .bytes .now) (at .args .curve) _ (at .args .out .now) i (sym (c .before .before .before .before .before .before .before .is-operation .ensures) ∙ not-false _ (c .before .before .before .before .before .before .if2 .left)) _ (read-drawing (r .result) (at .args .bytes .now) (r .ensures .told) (c .before .before .before .before .before .before .before .before .if1 .left)) (r .ensures .sound) _
-    (named (c .before .before .before .before .operation-of .ensures) (c .before .before .before .edited .ensures)) _ (omega arith) (c .before .if3 .taken) (c .with-place .ensures)
+    (named (c .before .before .before .before .operation-of .ensures) (c .before .before .before .edit .ensures)) _ (omega arith) (c .before .if3 .taken) (c .with-place .ensures)
 
 write-edited-requires : tie.Need-write-edited-requires
-write-edited-requires c κs = c .before .before .before .before .before .edited .ensures .valid (c .before .before .before .if3 .left)
+write-edited-requires c κs = c .before .before .before .before .before .edit .ensures .valid (c .before .before .before .if3 .left)
 
 same-length : tie.Need-same-length
 same-length c = search needs
@@ -58,7 +58,7 @@ returns-4 c =
     let at = c .before .before .before .before .before .before .before .before .before .before .before .before .before .before .before .before .before .before in
     let i = sym (read-number (r .result) (at .args .bytes .now) (r .ensures .told)) ∙ c .before .before .before .before .before .before .before .before .before .before .before .before .before .if1 .left in
     edit-written (at .args .operation) (at .args .bytes .now) (at .args .curve) _ (at .args .out .now) i (sym (c .before .before .before .before .before .before .before .before .before .before .before .before .is-operation .ensures) ∙ not-false _ (c .before .before .before .before .before .before .before .before .before .before .before .if2 .left)) _ (read-drawing (r .result) (at .args .bytes .now) (r .ensures .told) (c .before .before .before .before .before .before .before .before .before .before .before .before .before .if1 .left)) (r .ensures .sound) _
-    (named (c .before .before .before .before .before .before .before .before .before .operation-of .ensures) (c .before .before .before .before .before .before .before .before .edited .ensures)) (c .before .before .before .before .before .before .if3 .left) _ _ (c .before .before .write-edited .ensures)
+    (named (c .before .before .before .before .before .before .before .before .before .operation-of .ensures) (c .before .before .before .before .before .before .before .before .edit .ensures)) (c .before .before .before .before .before .before .if3 .left) _ _ (c .before .before .write-edited .ensures)
 
 pub mulkefi-edit-spec : {M : Type 1} → statement M
 mulkefi-edit-spec =
@@ -70,7 +70,7 @@ mulkefi-edit-spec =
     is-operation-requires
     returns-2
     operation-of-requires
-    edited-requires
+    edit-requires
     with-place-requires
     returns-3
     write-edited-requires
