@@ -1,16 +1,16 @@
-/* Mulkefi for a host in C, C++ or Rust: one drawing cut alike at a desk and on a wall.
+/* Mulkefi for a host in C, C++ or Rust: one drawing, cut alike at a desk and on a wall.
  *
- * Link with libkiosk.a (`rt staticlib kiosk` writes it to target/staticlib/); it needs memcpy and memset and nothing else, and is
- * built for x86-64 Linux. No call allocates, keeps a pointer, blocks or touches anything but the memory lent to it, so calls on
- * different memory may run at once.
+ * Link with libkiosk.a, which `rt staticlib kiosk` writes to target/staticlib/. It is built for x86-64 Linux and asks for memcpy and
+ * memset alone. No call allocates, keeps a pointer, or touches anything but the memory lent to it and its stack, so that calls on
+ * different memory may run at once. A call takes some 560 kB of stack: a thread of the host's needs 1 MiB.
  *
- * Memory. Pointers are never null, also where a length is 0; lengths are those of the memory; a double is aligned. What a call
- * may write must not overlap anything else lent to the same call. Everything else about the arguments is tested: any bytes, any
- * lengths, counts, ids and numbers are answered for.
+ * Memory. No pointer is null, even where a length is 0; a length is no more than the memory has; numbers are aligned. What a call
+ * may write overlaps nothing else that is lent to it. All other things about the arguments are tested: whatever the bytes, lengths,
+ * counts, ids and numbers are, a call ends and answers as told here.
  *
- * Answers. 0 is accepted. Otherwise the low 16 bits are a refusal's number (enum mulkefi_refusal), and with
- * MULKEFI_RELATIONS_UNMET and MULKEFI_RELATIONS_BROKEN the bits above are the place, from 0, of a relation that is not met; with
- * every other number they are 0. After a refusal not one byte of the caller's memory is altered. */
+ * Answers. 0 is accepted. Otherwise the low 16 bits are a refusal's number (enum mulkefi_refusal); with MULKEFI_RELATIONS_UNMET and
+ * MULKEFI_RELATIONS_BROKEN the bits above are the place, from 0, of a relation that is not met, and with every other number they are
+ * 0. After a refusal not one byte of the caller's memory has changed. */
 #ifndef MULKEFI_H
 #define MULKEFI_H
 
@@ -117,7 +117,8 @@ uint32_t mulkefi_wall_deliver(uint8_t *buffer, size_t room, size_t len, uint32_t
  * Accepted: the roots stand in rising order at the front of `found`, and `answer` holds how many they are and what is left of the
  * budget, of which each halving takes one.
  *
- * Refused, in this order: 25 where `room` is below 28; 20 for the coefficients; 21 where the budget does not suffice. */
+ * Refused, in this order: 25 where `room` is below 28; 20 for the coefficients; 21 where the budget does not suffice. 25 and 20 spend
+ * nothing of it, 21 all. */
 uint32_t mulkefi_roots(const double *coefficients, size_t n, double *found, size_t room, size_t budget, uint64_t answer[2]);
 
 #ifdef __cplusplus
