@@ -43,7 +43,7 @@ fn parts_of(kind: CurveKind) -> Parts
 
 // Ids, kinds, places of the first two points and radii of the first n curves; `near` gets guesses of the curves' places, as
 // `near_points` has of the points'.
-pub fn lay_curves<'a, 'b>(
+pub(crate) fn lay_curves<'a, 'b>(
     curves: [Curve; 128],
     n: usize,
     points: &'a [u32],

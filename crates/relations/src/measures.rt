@@ -11,14 +11,14 @@ ghost use Rattle.relations.specs.Met as M;
 ghost use Rattle.relations.specs.Columns.{wholeOf};
 
 // Whether two measures count as one.
-pub fn same(x: f64, y: f64) -> bool
+pub(crate) fn same(x: f64, y: f64) -> bool
     ensures { λ r. ⌜ r ≡ M.same x y ⌝ }
 {
     float::abs(x - y) <= 1e-7
 }
 
 // Whether two points count as one: by the square of their distance, so that no root is taken.
-pub fn close(p: Vec2, q: Vec2) -> bool
+pub(crate) fn close(p: Vec2, q: Vec2) -> bool
     ensures { λ r. ⌜ r ≡ M.close p q ⌝ }
 {
     p.dist2(q) <= ABOVE_1E_7
@@ -32,7 +32,7 @@ fn on_circle(c: Vec2, radius: f64, p: Vec2) -> bool
 }
 
 // Whether p lies on the curve's endless line or full circle; a freeform curve has neither, and every point passes.
-pub fn on(s: Piece, p: Vec2) -> bool
+pub(crate) fn on(s: Piece, p: Vec2) -> bool
     ensures { λ r. ⌜ r ≡ M.on (wholeOf s) p ⌝ }
 {
     let a = s.a;
@@ -47,7 +47,7 @@ pub fn on(s: Piece, p: Vec2) -> bool
 }
 
 // A line's length, a round's radius.
-pub fn extent(s: Piece) -> f64
+pub(crate) fn extent(s: Piece) -> f64
     ensures { λ r. ⌜ r ≡ M.extent (wholeOf s) ⌝ }
 {
     let a = s.a;
@@ -62,7 +62,7 @@ pub fn extent(s: Piece) -> f64
 }
 
 // Whether both ends of the line t lie on the curve s.
-pub fn along(s: Piece, t: Piece) -> bool
+pub(crate) fn along(s: Piece, t: Piece) -> bool
     ensures { λ r. ⌜ r ≡ every (M.on (wholeOf s)) (M.ends (wholeOf t)) ⌝ }
 {
     if t.kind == 1 {
@@ -74,7 +74,7 @@ pub fn along(s: Piece, t: Piece) -> bool
 }
 
 // Whether p is the middle of the line s.
-pub fn halves(p: Vec2, s: Piece) -> bool
+pub(crate) fn halves(p: Vec2, s: Piece) -> bool
     ensures { λ r. ⌜ r ≡ M.close p (M.middle (wholeOf s)) ⌝ }
 {
     if s.kind == 1 {

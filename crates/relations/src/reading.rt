@@ -22,7 +22,7 @@ fn place_at(column: &[u32], k: usize) -> u32
 }
 
 // The curve with an id, one of no kind where there is none; `near` guesses its place.
-pub fn piece_at<'a>(
+pub(crate) fn piece_at<'a>(
     id: u32,
     xs: &'a [f64],
     ys: &'a [f64],

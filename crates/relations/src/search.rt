@@ -18,14 +18,14 @@ fn is_met<'a>(
     near_points: &'a [u16],
     xs: &'a [f64],
     ys: &'a [f64],
-    curves: &'a [u32],
-    near_curves: &'a [u16],
+    ids: &'a [u32],
+    near: &'a [u16],
     kinds: &'a [u8],
     firsts: &'a [u32],
     seconds: &'a [u32],
     numbers: &'a [f64],
 ) -> bool
-    ensures { λ r. ⌜ MetTold (now (points .entry)) (now (xs .entry)) (now (ys .entry)) (now (curves .entry)) (now (kinds .entry)) (now (firsts .entry)) (now (seconds .entry)) (now (numbers .entry)) relation r ⌝ }
+    ensures { λ r. ⌜ MetTold (now (points .entry)) (now (xs .entry)) (now (ys .entry)) (now (ids .entry)) (now (kinds .entry)) (now (firsts .entry)) (now (seconds .entry)) (now (numbers .entry)) relation r ⌝ }
 {
     match relation {
         Relation::Coincident(p, q) => close(
@@ -33,80 +33,20 @@ fn is_met<'a>(
             point_at(q, points, near_points, xs, ys),
         ),
         Relation::PointOnCurve(p, c) => on(
-            piece_at(
-                c,
-                xs,
-                ys,
-                curves,
-                near_curves,
-                kinds,
-                firsts,
-                seconds,
-                numbers,
-            ),
+            piece_at(c, xs, ys, ids, near, kinds, firsts, seconds, numbers),
             point_at(p, points, near_points, xs, ys),
         ),
         Relation::Collinear(a, b) => along(
-            piece_at(
-                a,
-                xs,
-                ys,
-                curves,
-                near_curves,
-                kinds,
-                firsts,
-                seconds,
-                numbers,
-            ),
-            piece_at(
-                b,
-                xs,
-                ys,
-                curves,
-                near_curves,
-                kinds,
-                firsts,
-                seconds,
-                numbers,
-            ),
+            piece_at(a, xs, ys, ids, near, kinds, firsts, seconds, numbers),
+            piece_at(b, xs, ys, ids, near, kinds, firsts, seconds, numbers),
         ),
         Relation::Equal(a, b) => {
-            let s = piece_at(
-                a,
-                xs,
-                ys,
-                curves,
-                near_curves,
-                kinds,
-                firsts,
-                seconds,
-                numbers,
-            );
-            let t = piece_at(
-                b,
-                xs,
-                ys,
-                curves,
-                near_curves,
-                kinds,
-                firsts,
-                seconds,
-                numbers,
-            );
+            let s = piece_at(a, xs, ys, ids, near, kinds, firsts, seconds, numbers);
+            let t = piece_at(b, xs, ys, ids, near, kinds, firsts, seconds, numbers);
             same(extent(s), extent(t))
         }
         Relation::Length(l, v) => {
-            let s = piece_at(
-                l,
-                xs,
-                ys,
-                curves,
-                near_curves,
-                kinds,
-                firsts,
-                seconds,
-                numbers,
-            );
+            let s = piece_at(l, xs, ys, ids, near, kinds, firsts, seconds, numbers);
             same(extent(s), v)
         }
         Relation::Distance(p, q, v) => {
@@ -116,17 +56,7 @@ fn is_met<'a>(
         }
         Relation::Midpoint(p, l) => halves(
             point_at(p, points, near_points, xs, ys),
-            piece_at(
-                l,
-                xs,
-                ys,
-                curves,
-                near_curves,
-                kinds,
-                firsts,
-                seconds,
-                numbers,
-            ),
+            piece_at(l, xs, ys, ids, near, kinds, firsts, seconds, numbers),
         ),
         Relation::ArcLength(_, _) => true,
         Relation::ArcSweep(_, _) => true,
