@@ -47,7 +47,7 @@ use Rattle.modify.proofs.Planned.{edit-valid}
 -- ---- the tests that all edits begin with
 
 module _ (s : Sketch) (id : ℕ) (p : Vec2) where
-  turned-fault : {n : ℕ} → n ≡ sketchFault s → (n ≡ 0 → ⊥) → (op : Operation) → editSketch op s id p ≡ refused n
+  pub turned-fault : {n : ℕ} → n ≡ sketchFault s → (n ≡ 0 → ⊥) → (op : Operation) → editSketch op s id p ≡ refused n
   unfolding need
   turned-fault {n} e h op = rw (← e, ne-eqb n 0 h)
 
@@ -134,7 +134,7 @@ module _ (d : Drawing) (p : Vec2) (c : Curve) where
   curve-suited true plan e = split-chosen d p c plan e
   curve-suited false plan e = trim-chosen d p c plan e
 
-not-extend : (splits : Bool) → _≡_ {A = Operation} (cond splits Split Trim) Extend → ⊥
+pub not-extend : (splits : Bool) → _≡_ {A = Operation} (cond splits Split Trim) Extend → ⊥
 not-extend true e = let z : _≡_ {A = ℕ} 0 1 = cc in omega arith
 not-extend false e = let z : _≡_ {A = ℕ} 0 1 = cc in omega arith
 

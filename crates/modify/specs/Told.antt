@@ -17,6 +17,7 @@ use Rattle.sketch.specs.Drawing.{Drawing, view, limits, curveIn}
 use Rattle.sketch.specs.Valid.{sketchFault}
 use Rattle.image.specs.declared.Operation.{Operation}
 use Rattle.placed.specs.Columns.{PointColumns}
+use Rattle.placed.specs.Placed.{shapeOf}
 use Rattle.cuts.specs.declared.Other.{Other}
 use Rattle.cuts.specs.declared.Cut.{Cut}
 use Rattle.carry.specs.declared.Pin.{Pin}
@@ -27,10 +28,11 @@ use Rattle.carry.specs.Outcome.{Outcome, refused}
 use Rattle.carry.specs.Tables.{okPlace, others}
 use Rattle.carry.specs.Steps.{endsAt}
 use Rattle.carry.specs.Suited.{targetOf}
+use Rattle.modify.specs.declared.Choice.{Choice}
 use Rattle.modify.specs.declared.Gathered.{Gathered}
 use Rattle.modify.specs.declared.Target.{Target}
 use Rattle.modify.specs.Choose.{shapes, pinTo, placeOf, trimPlan}
-use Rattle.modify.specs.Edits.{noFreeform, editSketch}
+use Rattle.modify.specs.Edits.{noFreeform, trimCurve, splitCurve, onCurve, editSketch}
 
 -- the place of the first curve with an id among the first n, or n
 pub record Sought (cs : List Curve) (n id r : ℕ) : Type 0 where
@@ -63,6 +65,16 @@ PlaceOf ids xs ys cs n sh k r = (d : Drawing) → Of d ids xs ys cs n → r ≡ 
 
 abbrev pub TrimPlan : List ℕ → List Float → List Float → List Curve → ℕ → List Other → Shape → Vec2 → Plan → Type 0
 TrimPlan ids xs ys cs n os sh p r = (d : Drawing) (id : ℕ) → Of d ids xs ys cs n → os ≡ shapes (d .points) (others id (d .curves)) → r ≡ trimPlan d id sh p
+
+-- what is chosen for the curve c, picked at p
+abbrev pub Trims : List ℕ → List Float → List Float → List Curve → ℕ → Vec2 → Curve → Choice → Type 0
+Trims ids xs ys cs n p c r = (d : Drawing) → Of d ids xs ys cs n → r ≡ trimCurve d p c (shapeOf (d .points) (c .kind))
+
+abbrev pub Splits : List ℕ → List Float → List Float → List Curve → ℕ → Vec2 → Curve → Choice → Type 0
+Splits ids xs ys cs n p c r = (d : Drawing) → Of d ids xs ys cs n → r ≡ splitCurve d p c (shapeOf (d .points) (c .kind))
+
+abbrev pub Chooses : List ℕ → List Float → List Float → List Curve → ℕ → Operation → Vec2 → Curve → Choice → Type 0
+Chooses ids xs ys cs n op p c r = (d : Drawing) → Of d ids xs ys cs n → r ≡ onCurve op d p c
 
 -- ---- the tests that all edits begin with
 

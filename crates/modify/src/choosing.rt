@@ -24,14 +24,12 @@ ghost use Rattle.shape.specs.Measures.{point};
 ghost use Rattle.sketch.specs.Drawing.{view, limits};
 ghost use Rattle.sketch.specs.Facts.{Sized, Valid};
 ghost use Rattle.image.specs.declared.Operation.the-variants as Operation;
-ghost use Rattle.placed.specs.Columns.{PointColumns};
-ghost use Rattle.placed.specs.Placed.{shapeOf};
 ghost use Rattle.cuts.specs.Cuts.{cutPoints};
 ghost use Rattle.cuts.specs.Bracket.{bracket};
 ghost use Rattle.carry.specs.Suited.{targetOf};
 ghost use Rattle.modify.specs.Choose.{pickedAt, firstGoes, splitFull, atEnd};
-ghost use Rattle.modify.specs.Edits.{isCircle, trimCurve, splitCurve, onCurve};
-ghost use Rattle.modify.specs.Told.{PlaceOf, TrimPlan};
+ghost use Rattle.modify.specs.Edits.{isCircle, onCurve};
+ghost use Rattle.modify.specs.Told.{PlaceOf, TrimPlan, Trims, Splits, Chooses};
 
 fn is_circle(kind: CurveKind) -> bool
     ensures { λ r. ⌜ r ≡ isCircle kind ⌝ }
@@ -114,18 +112,18 @@ fn trim_plan<'a>(
 }
 
 fn trim_from<'a>(
-    sk: Sketch,
-    place: usize,
+    c: Curve,
+    curves: [Curve; 128],
+    n: usize,
     at: Vec2,
     ids: &'a [u32],
     near: &'a [u16],
     xs: &'a [f64],
     ys: &'a [f64],
 ) -> Choice
-    requires { ⌜ Sized sk × Valid limits (view sk) × (place < sk .ncurves) × PointColumns (view sk .points) (now ids) (now xs) (now ys) ⌝ }
-    ensures { λ r. ⌜ r ≡ trimCurve (view sk) at (targetOf sk place) (shapeOf (view sk .points) (targetOf sk place .kind)) ⌝ }
+    requires { ⌜ n ≤ 128 ⌝ }
+    ensures { λ r. ⌜ Trims (now (ids .entry)) (now (xs .entry)) (now (ys .entry)) curves n at c r ⌝ }
 {
-    let c = sk.curves[place];
     let kind = c.kind;
     let Outline::Of(sh) = shape_of(kind, ids, near, xs, ys) else {
         return Choice::Refused(10);
@@ -133,8 +131,6 @@ fn trim_from<'a>(
     if c.infinite | (sh.is_full() & !is_circle(kind)) {
         return Choice::Refused(10);
     }
-    let curves = sk.curves;
-    let n = sk.ncurves;
     let g = gather(curves, n, c.id, ids, near, xs, ys);
     if g.freeform {
         return Choice::Refused(11);
@@ -166,18 +162,18 @@ fn split_open(sh: Shape, at: Vec2) -> Choice
 
 // Only a circle's cuts depend on the other curves, and only they are gathered for.
 fn split_from<'a>(
-    sk: Sketch,
-    place: usize,
+    c: Curve,
+    curves: [Curve; 128],
+    n: usize,
     at: Vec2,
     ids: &'a [u32],
     near: &'a [u16],
     xs: &'a [f64],
     ys: &'a [f64],
 ) -> Choice
-    requires { ⌜ Sized sk × Valid limits (view sk) × (place < sk .ncurves) × PointColumns (view sk .points) (now ids) (now xs) (now ys) ⌝ }
-    ensures { λ r. ⌜ r ≡ splitCurve (view sk) at (targetOf sk place) (shapeOf (view sk .points) (targetOf sk place .kind)) ⌝ }
+    requires { ⌜ n ≤ 128 ⌝ }
+    ensures { λ r. ⌜ Splits (now (ids .entry)) (now (xs .entry)) (now (ys .entry)) curves n at c r ⌝ }
 {
-    let c = sk.curves[place];
     let kind = c.kind;
     let Outline::Of(sh) = shape_of(kind, ids, near, xs, ys) else {
         return Choice::Refused(10);
@@ -188,8 +184,7 @@ fn split_from<'a>(
         }
         return split_open(sh, at);
     }
-    let curves = sk.curves;
-    let g = gather(curves, sk.ncurves, c.id, ids, near, xs, ys);
+    let g = gather(curves, n, c.id, ids, near, xs, ys);
     if g.freeform {
         return Choice::Refused(11);
     }
@@ -198,22 +193,23 @@ fn split_from<'a>(
 }
 
 fn choose_from<'a>(
-    sk: Sketch,
+    c: Curve,
+    curves: [Curve; 128],
+    n: usize,
     splits: bool,
-    place: usize,
     at: Vec2,
     ids: &'a [u32],
     near: &'a [u16],
     xs: &'a [f64],
     ys: &'a [f64],
 ) -> Choice
-    requires { ⌜ Sized sk × Valid limits (view sk) × (place < sk .ncurves) × PointColumns (view sk .points) (now ids) (now xs) (now ys) ⌝ }
-    ensures { λ r. ⌜ r ≡ onCurve (cond splits Operation.Split Operation.Trim) (view sk) at (targetOf sk place) ⌝ }
+    requires { ⌜ n ≤ 128 ⌝ }
+    ensures { λ r. ⌜ Chooses (now (ids .entry)) (now (xs .entry)) (now (ys .entry)) curves n (cond splits Operation.Split Operation.Trim) at c r ⌝ }
 {
     if splits {
-        return split_from(sk, place, at, ids, near, xs, ys);
+        return split_from(c, curves, n, at, ids, near, xs, ys);
     }
-    trim_from(sk, place, at, ids, near, xs, ys)
+    trim_from(c, curves, n, at, ids, near, xs, ys)
 }
 
 // What is chosen for the curve at a place: of a split or (false) of a trim.
@@ -228,5 +224,17 @@ pub(crate) fn choose(sk: Sketch, splits: bool, place: usize, at: Vec2) -> Choice
     let mut xs = [0.0; 512];
     let mut ys = [0.0; 512];
     lay_points(points, n, &mut ids, &mut near, &mut xs, &mut ys);
-    choose_from(sk, splits, place, at, &ids[..n], &near, &xs[..n], &ys[..n])
+    let curves = sk.curves;
+    let c = curves[place];
+    choose_from(
+        c,
+        curves,
+        sk.ncurves,
+        splits,
+        at,
+        &ids[..n],
+        &near,
+        &xs[..n],
+        &ys[..n],
+    )
 }

@@ -2,10 +2,9 @@
 use crate::Ending;
 use crate::Nearest;
 use crate::Reached;
-use crate::Target;
-use crate::gathering::curve_place;
 use crate::moving::answer;
 use crate::moving::move_end;
+use crate::picking::picked;
 use crate::pins::pin_at;
 use crate::seeking::seek;
 use crate::users::used_beside;
@@ -19,7 +18,6 @@ use shape::Shape;
 use sketch::Curve;
 use sketch::CurveKind;
 use sketch::Sketch;
-use sketch::coordinate_ok;
 use sketch::place_near;
 ghost use mathlib.Core.Path.{_≡_};
 ghost use mathlib.Core.Bool.{true};
@@ -34,7 +32,6 @@ ghost use Rattle.relations.specs.Met.{allMet, unmetAt};
 ghost use Rattle.carry.specs.Suited.{targetOf};
 ghost use Rattle.modify.specs.Edits.{Answered};
 ghost use Rattle.modify.specs.Extend.{extendEnd, extendCurve};
-ghost use Rattle.modify.specs.Told.{Tested};
 ghost use Rattle.modify.specs.Seek.{support, choiceOf, EndHeld, EndsAt, EndStands, Settled};
 
 // The end at place k goes to the nearest hit: 18 where there is none, 17 where another lies as near.
@@ -150,31 +147,6 @@ fn settled(sk: Sketch, e: Edited) -> Edited
         Verdict::Refused(number) => answer(sk, number, 0),
         Verdict::Met => e,
         Verdict::Unmet(k) => answer(sk, 19, k),
-    }
-}
-
-// The pick and the curve, of a sketch that an image gives.
-fn picked(sk: Sketch, id: u32, at: Vec2) -> Target
-    requires { ⌜ (sketchFault sk ≡ 0) × Sized sk ⌝ }
-    ensures { λ r. ⌜ Tested sk id at r × (r .refusal ≤ 9) ⌝ }
-{
-    if !(coordinate_ok(at.x) & coordinate_ok(at.y)) {
-        return Target {
-            refusal: 9,
-            place: 0,
-        };
-    }
-    let curves = sk.curves;
-    let k = curve_place(curves, sk.ncurves, id);
-    if k < sk.ncurves {
-        return Target {
-            refusal: 0,
-            place: k,
-        };
-    }
-    Target {
-        refusal: 8,
-        place: k,
     }
 }
 

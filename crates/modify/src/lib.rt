@@ -6,6 +6,7 @@ mod extending;
 mod gathering;
 mod meeting;
 mod moving;
+mod picking;
 mod pins;
 mod seeking;
 mod users;

@@ -1,4 +1,3 @@
-use mathlib.Core.Path.{_≡_, refl, sym, ap, _∙_}
 use Rattle.modify.proofs.Chosen.{as-split, as-trim}
 use native.Mathlib.Omega.{arith}
 use borrow.Author.Needs.{needs}
@@ -9,21 +8,17 @@ use Rattle.modify.proofs.choosing.choose_from.Lts as lts
 use Rattle.modify.proofs.choosing.split_from.Reads as split-from-reads
 use Rattle.modify.proofs.choosing.trim_from.Reads as trim-from-reads
 
--- src/choosing.rt:214:9
 split-from-requires : tie.Need-split-from-requires
 split-from-requires c κs = search needs
 
--- src/choosing.rt:214:9
 returns : tie.Need-returns
-returns c = as-split _ _ _ (c .before .if1 .taken) (c .split-from .ensures)
+returns c = λ d o. as-split d _ _ (c .before .if1 .taken) (c .split-from .ensures d o)
 
--- src/choosing.rt:216:5
 trim-from-requires : tie.Need-trim-from-requires
 trim-from-requires c κs = search needs
 
--- src/choosing.rt:200:1
 returns-2 : tie.Need-returns-2
-returns-2 c = as-trim _ _ _ (c .before .if1 .left) (c .trim-from .ensures)
+returns-2 c = λ d o. as-trim d _ _ (c .before .if1 .left) (c .trim-from .ensures d o)
 
 pub choose-from-spec : {M : Type 1} → statement M
 choose-from-spec = tie.close (tie.spec split-from-requires returns trim-from-requires returns-2)

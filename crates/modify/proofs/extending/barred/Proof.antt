@@ -6,7 +6,7 @@ use Rattle.modify.proofs.extending.barred.Statement.{statement}
 use Rattle.modify.proofs.extending.barred.Tie as tie
 use Rattle.modify.proofs.extending.barred.Reads as reads
 use Rattle.modify.proofs.extending.barred.Lts as lts
-use Rattle.modify.proofs.extending.picked.Reads as picked-reads
+use Rattle.modify.proofs.picking.picked.Reads as picked-reads
 use Rattle.modify.proofs.moving.answer.Reads as answer-reads
 
 -- src/extending.rt:201:9

@@ -7,7 +7,7 @@ use Rattle.modify.proofs.extending.extended.Tie as tie
 use Rattle.modify.proofs.extending.extended.Reads as reads
 use Rattle.modify.proofs.extending.extended.Lts as lts
 use Rattle.modify.proofs.extending.ending.Reads as ending-reads
-use Rattle.modify.proofs.extending.picked.Reads as picked-reads
+use Rattle.modify.proofs.picking.picked.Reads as picked-reads
 use Rattle.modify.proofs.extending.settled.Reads as settled-reads
 use Rattle.modify.proofs.moving.answer.Reads as answer-reads
 use Rattle.modify.proofs.moving.move_end.Reads as move-end-reads

@@ -4,34 +4,28 @@ use Rattle.sketch.proofs.Bools.{joined}
 use Rattle.modify.proofs.Answers.{test-pick, test-curve, test-passed}
 use native.Mathlib.Omega.{arith}
 use borrow.Author.Needs.{needs}
-use Rattle.modify.proofs.extending.picked.Statement.{statement}
-use Rattle.modify.proofs.extending.picked.Tie as tie
-use Rattle.modify.proofs.extending.picked.Reads as reads
-use Rattle.modify.proofs.extending.picked.Lts as lts
+use Rattle.modify.proofs.picking.picked.Statement.{statement}
+use Rattle.modify.proofs.picking.picked.Tie as tie
+use Rattle.modify.proofs.picking.picked.Reads as reads
+use Rattle.modify.proofs.picking.picked.Lts as lts
 use Rattle.modify.proofs.gathering.curve_place.Reads as curve-place-reads
 use Rattle.sketch.proofs.coordinate_ok.Reads as coordinate-ok-reads
 
--- src/extending.rt:161:10
 coordinate-ok-requires : tie.Need-coordinate-ok-requires
 coordinate-ok-requires c κs = search needs
 
--- src/extending.rt:161:32
 coordinate-ok-requires-2 : tie.Need-coordinate-ok-requires-2
 coordinate-ok-requires-2 c κs = search needs
 
--- src/extending.rt:162:9
 returns : tie.Need-returns
 returns c = (test-pick _ _ _ (sym (c .before .before .before .pre .0)) refl (sym (joined (c .before .before .coordinate-ok .ensures) (c .before .coordinate-ok2 .ensures)) ∙ not-true _ (c .if1 .taken)), omega arith)
 
--- src/extending.rt:168:9
 curve-place-requires : tie.Need-curve-place-requires
 curve-place-requires c κs = search needs
 
--- src/extending.rt:170:9
 returns-2 : tie.Need-returns-2
 returns-2 c = (test-passed _ _ _ (sym (c .before .before .before .before .before .before .before .pre .0)) refl (sym (joined (c .before .before .before .before .before .before .coordinate-ok .ensures) (c .before .before .before .before .before .coordinate-ok2 .ensures)) ∙ not-false _ (c .before .before .before .before .if1 .left)) (c .before .before .curve-place .ensures) (c .if2 .taken), omega arith)
 
--- src/extending.rt:157:1
 returns-3 : tie.Need-returns-3
 returns-3 c = (test-curve _ _ _ (sym (c .before .before .before .before .before .before .before .pre .0)) refl (sym (joined (c .before .before .before .before .before .before .coordinate-ok .ensures) (c .before .before .before .before .before .coordinate-ok2 .ensures)) ∙ not-false _ (c .before .before .before .before .if1 .left)) (c .before .before .curve-place .ensures) (c .if2 .left), omega arith)
 
