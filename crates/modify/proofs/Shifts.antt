@@ -8,7 +8,7 @@ use native.Mathlib.Omega.{arith}
 use lib.Dec.{eqb, ltb}
 use lib.ListN.{length, take, getD, set, length-map, length-take}
 use lib.Seq.{getD-take, take-suc-set, take-set-lt}
-use borrow.Author.Tests.{eq-eqb, ne-eqb, lt-ltb, le-ltb}
+use borrow.Author.Tests.{eq-eqb, ne-eqb, eqb-true, lt-ltb, le-ltb}
 use Rattle.geom.specs.declared.Vec2.{Vec2}
 use Rattle.sketch.specs.declared.Point.{Point}
 use Rattle.sketch.specs.declared.Relation.{Relation}
@@ -19,16 +19,18 @@ use Rattle.sketch.specs.Lists.{pick}
 use Rattle.sketch.specs.Blanks.{noPoint}
 use Rattle.sketch.specs.Drawing.{Drawing, view, limits, pointIds}
 use Rattle.sketch.specs.Facts.{Rising, Sized, Valid}
+use Rattle.sketch.proofs.Bools.{never}
 use Rattle.carry.specs.declared.Pin.{Pin}
 use Rattle.carry.specs.declared.Pin.the-variants.{On, At}
 use Rattle.carry.specs.declared.Edited.{Edited}
 use Rattle.carry.specs.declared.Removed.{Removed}
 use Rattle.carry.specs.Outcome.{Outcome, refused, accepted, _then_, need}
 use Rattle.carry.specs.Tables.{okPlace, addRelation, withRelation, moved, movePoint}
+use Rattle.carry.specs.Once.{pinned}
 use Rattle.carry.specs.Steps.{pin, nothing}
 use Rattle.carry.specs.Suited.{outcomeOf}
 use Rattle.carry.proofs.Loops.{map-append}
-use Rattle.modify.specs.Seek.{ShiftedTo, AddedTo, MovedTo}
+use Rattle.modify.specs.Seek.{itself, ShiftedTo, AddedTo, MovedTo}
 
 -- ---- ids rise, so that a store at a point's place moves that point alone
 
@@ -161,18 +163,29 @@ module _ (d : Drawing) (end : ℕ) (v : Vec2) (w : Pin) where
       }
 
   module _ (h : okPlace v ≡ true) where
-    pub moved-on : {c : ℕ} {r : Edited} → w ≡ On c → AddedTo (movePoint end v d) (PointOnCurve end c) r → MovedTo d end v w r
+    moved-on : {c : ℕ} {r : Edited} → w ≡ On c → AddedTo (movePoint end v d) (PointOnCurve end c) r → MovedTo d end v w r
     unfolding need pin
     moved-on e a = record { outcome = a .outcome ∙ sym (rw (h, e)); sized = a .sized }
 
-    pub moved-at : {e : ℕ} {r : Edited} → w ≡ At e → (e ≡ end → ⊥) → AddedTo (movePoint end v d) (Coincident end e) r → MovedTo d end v w r
+    moved-at : {e : ℕ} {r : Edited} → w ≡ At e → (e ≡ end → ⊥) → AddedTo (movePoint end v d) (Coincident end e) r → MovedTo d end v w r
     unfolding need pin
     moved-at {e} f ne a = record { outcome = a .outcome ∙ sym (rw (h, f, ne-eqb e end ne)); sized = a .sized }
 
-    pub moved-there : {e : ℕ} {r : Edited} → w ≡ At e → e ≡ end → ShiftedTo (movePoint end v d) r → MovedTo d end v w r
+    moved-there : {e : ℕ} {r : Edited} → w ≡ At e → e ≡ end → ShiftedTo (movePoint end v d) r → MovedTo d end v w r
     unfolding need pin
     moved-there {e} {r} f q a =
         record {
           outcome = outcome-is r (a .accepts) ∙ ap (λ x. accepted x (r .removed)) (a .is) ∙ ap (accepted (movePoint end v d)) (a .nothing-gone) ∙ sym (rw (h, f, eq-eqb e end q));
           sized = λ z. a .sized;
         }
+
+module _ (d : Drawing) (end : ℕ) (v : Vec2) (h : okPlace v ≡ true) where
+  pub moved-held : (w : Pin) {r : Edited} → itself w end ≡ false → AddedTo (movePoint end v d) (pinned w end) r → MovedTo d end v w r
+  unfolding itself pinned
+  moved-held (On c) e a = moved-on d end v (On c) h refl a
+  moved-held (At x) e a = moved-at d end v (At x) h refl (λ q. never (sym e ∙ eq-eqb x end q)) a
+
+  pub moved-itself : (w : Pin) {r : Edited} → itself w end ≡ true → ShiftedTo (movePoint end v d) r → MovedTo d end v w r
+  unfolding itself
+  moved-itself (On c) e a = never e
+  moved-itself (At x) e a = moved-there d end v (At x) h refl (eqb-true x end e) a

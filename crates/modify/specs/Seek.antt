@@ -4,6 +4,7 @@ use mathlib.Core.Path.{_≡_}
 use mathlib.Core.Bool.{Bool, true, false}
 use mathlib.Core.List.{List, [], _∷_, map}
 use mathlib.Core.Option.{Option, some, none}
+use lib.Dec.{eqb}
 use lib.ListN.{length, take, getD}
 use lib.Ieee.{Float}
 use Rattle.geom.specs.declared.Vec2.{Vec2}
@@ -22,6 +23,7 @@ use Rattle.support.specs.declared.Hits.{Hits}
 use Rattle.support.specs.declared.Hits.the-variants as H
 use Rattle.support.specs.Pieces.{pointsOf, Met}
 use Rattle.carry.specs.declared.Pin.{Pin}
+use Rattle.carry.specs.declared.Pin.the-variants.{On, At}
 use Rattle.carry.specs.declared.Plan.the-variants as P
 use Rattle.carry.specs.declared.Edited.{Edited}
 use Rattle.carry.specs.declared.Removed.{Removed}
@@ -111,6 +113,11 @@ EndStands s place (N.Move atB k v w) =
     (e : ℕ × ℕ) × (endsOf (targetOf s place .kind) ≡ some e) × (k < s .npoints) × (getD (s .points) k noPoint .id ≡ pick atB (e .1) (e .0))
 
 -- ---- the move, and its test
+
+-- a pin to the point itself
+unfoldable pub itself : Pin → ℕ → Bool
+itself (On c) p = false
+itself (At e) p = eqb e p
 
 pub record ShiftedTo (d : Drawing) (r : Edited) : Type 0 where
   pub accepts : r .refusal ≡ 0

@@ -14,6 +14,7 @@ use placed::lay_points;
 use placed::point_at;
 use relations::Verdict;
 use relations::unmet;
+use relations::unmet_untested;
 use shape::Shape;
 use sketch::Curve;
 use sketch::CurveKind;
@@ -143,7 +144,7 @@ fn settled(sk: Sketch, e: Edited) -> Edited
         return answer(sk, e.refusal, 0);
     }
     let t = e.sketch;
-    match unmet(t) {
+    match unmet_untested(t) {
         Verdict::Refused(number) => answer(sk, number, 0),
         Verdict::Met => e,
         Verdict::Unmet(k) => answer(sk, 19, k),

@@ -14,9 +14,9 @@ ghost use lib.ListN.{getD};
 ghost use Rattle.sketch.specs.Blanks.{noPoint};
 ghost use Rattle.sketch.specs.Drawing.{view, limits};
 ghost use Rattle.sketch.specs.Facts.{Sized, Valid};
-ghost use Rattle.carry.specs.Tables.{movePoint};
+ghost use Rattle.carry.specs.Once.{pinned};
 ghost use Rattle.carry.specs.Steps.{nothing};
-ghost use Rattle.modify.specs.Seek.{ShiftedTo, AddedTo, MovedTo};
+ghost use Rattle.modify.specs.Seek.{itself, MovedTo};
 
 // An answer of an edit after which no curve is gone.
 pub(crate) fn answer(sketch: Sketch, refusal: u8, place: usize) -> Edited
@@ -34,45 +34,28 @@ pub(crate) fn answer(sketch: Sketch, refusal: u8, place: usize) -> Edited
     }
 }
 
-// The point at place k moved, and nothing else.
-fn shifted(sk: Sketch, k: usize, v: Vec2) -> Edited
-    requires { ⌜ Sized sk × Valid limits (view sk) × (k < sk .npoints) ⌝ }
-    ensures { λ r. ⌜ ShiftedTo (movePoint (getD (sk .points) k noPoint .id) v (view sk)) r ⌝ }
+// Whether a pin is to the point itself.
+fn is_itself(pin: Pin, p: u32) -> bool
+    ensures { λ r. ⌜ r ≡ itself pin p ⌝ }
 {
-    let p = sk.points[k];
-    let mut t = sk;
-    t.points[k] = Point {
-        id: p.id,
-        fixed: p.fixed,
-        x: v.x,
-        y: v.y,
-    };
-    answer(t, 0, 0)
-}
-
-// The point at place k moved, and a relation added.
-fn shifted_with(sk: Sketch, k: usize, v: Vec2, relation: Relation) -> Edited
-    requires { ⌜ Sized sk × Valid limits (view sk) × (k < sk .npoints) ⌝ }
-    ensures { λ r. ⌜ AddedTo (movePoint (getD (sk .points) k noPoint .id) v (view sk)) relation r ⌝ }
-{
-    let n = sk.nrelations;
-    if n >= 256 {
-        return answer(sk, 22, 0);
+    match pin {
+        Pin::On(_) => false,
+        Pin::At(e) => e == p,
     }
-    let p = sk.points[k];
-    let mut t = sk;
-    t.points[k] = Point {
-        id: p.id,
-        fixed: p.fixed,
-        x: v.x,
-        y: v.y,
-    };
-    t.relations[n] = RelationSlot { relation };
-    t.nrelations = n + 1;
-    answer(t, 0, 0)
 }
 
-// The point at place k moved to v, where the pin holds it, unless that is the point itself. Whether relations are met is not asked.
+// The relation by which a pin holds a point.
+fn held_by(pin: Pin, p: u32) -> Relation
+    ensures { λ r. ⌜ r ≡ pinned pin p ⌝ }
+{
+    match pin {
+        Pin::On(c) => Relation::PointOnCurve(p, c),
+        Pin::At(e) => Relation::Coincident(p, e),
+    }
+}
+
+// The point at place k moved to v, where the pin holds it, unless that is the point itself. Whether relations are met is not asked. All is
+// written here, to one working copy: a function for each way would cost a copy of the sketch each.
 pub(crate) fn move_end(sk: Sketch, k: usize, v: Vec2, pin: Pin) -> Edited
     requires { ⌜ Sized sk × Valid limits (view sk) × (k < sk .npoints) ⌝ }
     ensures { λ r. ⌜ MovedTo (view sk) (getD (sk .points) k noPoint .id) v pin r ⌝ }
@@ -80,14 +63,24 @@ pub(crate) fn move_end(sk: Sketch, k: usize, v: Vec2, pin: Pin) -> Edited
     if !(coordinate_ok(v.x) & coordinate_ok(v.y)) {
         return answer(sk, 24, 0);
     }
-    let p = sk.points[k];
-    match pin {
-        Pin::On(c) => shifted_with(sk, k, v, Relation::PointOnCurve(p.id, c)),
-        Pin::At(e) => {
-            if e == p.id {
-                return shifted(sk, k, v);
-            }
-            shifted_with(sk, k, v, Relation::Coincident(p.id, e))
-        }
+    let n = sk.nrelations;
+    let mut t = sk;
+    let p = t.points[k];
+    t.points[k] = Point {
+        id: p.id,
+        fixed: p.fixed,
+        x: v.x,
+        y: v.y,
+    };
+    if is_itself(pin, p.id) {
+        return answer(t, 0, 0);
     }
+    if n >= 256 {
+        return answer(sk, 22, 0);
+    }
+    t.relations[n] = RelationSlot {
+        relation: held_by(pin, p.id),
+    };
+    t.nrelations = n + 1;
+    answer(t, 0, 0)
 }

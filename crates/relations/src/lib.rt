@@ -14,6 +14,7 @@ ghost use Prim.Native.Nat.{_≤_};
 ghost use lib.ListN.{length};
 ghost use Rattle.sketch.specs.Drawing.{view, limits};
 ghost use Rattle.sketch.specs.Facts.{Sized, Valid};
+ghost use Rattle.sketch.specs.Valid.{sketchFault};
 ghost use Rattle.relations.specs.Met.{firstUnmet};
 ghost use Rattle.placed.specs.Columns.{PointColumns};
 ghost use Rattle.relations.specs.Answer.{Told};
@@ -58,10 +59,30 @@ pub fn unmet(sk: Sketch) -> Verdict
     Verdict::Met
 }
 
+// As `unmet`, of a sketch that an image gives, without testing that again. Of any other it may tell anything.
+pub fn unmet_untested(sk: Sketch) -> Verdict
+    ensures { λ r. ⌜ (sketchFault sk ≡ 0 → Told sk r) ⌝ }
+{
+    if 512 < sk.npoints {
+        return Verdict::Refused(3);
+    }
+    if 128 < sk.ncurves {
+        return Verdict::Refused(3);
+    }
+    if 256 < sk.nrelations {
+        return Verdict::Refused(3);
+    }
+    let k = search_all(sk);
+    if k < sk.nrelations {
+        return Verdict::Unmet(k);
+    }
+    Verdict::Met
+}
+
 // The place of the first relation that is not met, their number where all are.
 fn search_all(sk: Sketch) -> usize
-    requires { ⌜ Sized sk × Valid limits (view sk) ⌝ }
-    ensures { λ r. ⌜ r ≡ firstUnmet (view sk .points) (view sk .curves) (view sk .relations) ⌝ }
+    requires { ⌜ Sized sk ⌝ }
+    ensures { λ r. ⌜ (Valid limits (view sk) → r ≡ firstUnmet (view sk .points) (view sk .curves) (view sk .relations)) ⌝ }
 {
     let points = sk.points;
     let n = sk.npoints;
@@ -81,8 +102,8 @@ fn search_from<'a>(
     xs: &'a [f64],
     ys: &'a [f64],
 ) -> usize
-    requires { ⌜ Sized sk × Valid limits (view sk) × PointColumns (view sk .points) (now points) (now xs) (now ys) × (length (now points) ≤ 512) ⌝ }
-    ensures { λ r. ⌜ r ≡ firstUnmet (view sk .points) (view sk .curves) (view sk .relations) ⌝ }
+    requires { ⌜ Sized sk × (length (now points) ≤ 512) ⌝ }
+    ensures { λ r. ⌜ (Valid limits (view sk) → PointColumns (view sk .points) (now (points .entry)) (now (xs .entry)) (now (ys .entry)) → r ≡ firstUnmet (view sk .points) (view sk .curves) (view sk .relations)) ⌝ }
 {
     let curves = sk.curves;
     let n = sk.ncurves;

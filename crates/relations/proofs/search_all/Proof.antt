@@ -46,19 +46,17 @@ slice-aggregate-search-from-4 c = rw length-take (omega arith)
 
 search-from-requires : tie.Need-search-from-requires
 search-from-requires c κs =
-    let l = c .before .before .before .before .before .before .before .before in
-    let s = l .before .before .before .before .before .before in
-    let k = s .args .sk in
-    let y = l .lay-points .ensures (omega arith) (omega arith) (omega arith) (omega arith) in
-    let z = s .pre .0 .points in (
-      s .pre .0,
-      s .pre .1,
-      point-columns y (omega arith) (omega arith) (omega arith) (rising-ascends (k .next) 0 (pointIds (view k .points)) (s .pre .1 .points-rise)),
-      rw length-take (omega arith),
-    )
+    let z = c .before .before .before .before .before .before .before .before .before .before .before .before .before .before .pre .points in
+    (c .before .before .before .before .before .before .before .before .before .before .before .before .before .before .pre, rw length-take (omega arith))
 
 returns : tie.Need-returns
-returns c = c .search-from .ensures
+returns c = λ v.
+    let l = c .before .before .before .before .before .before .before .before .before in
+    let s = l .before .before .before .before .before .before in
+    let k = s .args .sk in
+    let z = s .pre .points in
+    let y = l .lay-points .ensures (omega arith) (omega arith) (omega arith) (omega arith) in
+    c .search-from .ensures v (point-columns y (omega arith) (omega arith) (omega arith) (rising-ascends (k .next) 0 (pointIds (view k .points)) (v .points-rise)))
 
 pub search-all-spec : {M : Type 1} → statement M
 search-all-spec =

@@ -66,15 +66,15 @@ first-unmet-requires : tie.Need-first-unmet-requires
 first-unmet-requires c κs = search needs
 
 returns : tie.Need-returns
-returns c =
+returns c = λ v w.
     let l = c .before .before .before .before .before .before .before .before .before .before .before .before .before .before in
     let s = l .before .before .before .before .before .before .before .before .before .before .before .before in
     let k = s .args .sk in
     let y = l .lay-curves .ensures in
     let z = s .pre .0 .curves in
-    c .first-unmet .ensures (view k .points) (view k .curves) (s .pre .2)
-    (curve-columns y (omega arith) (omega arith) (omega arith) (omega arith) (omega arith) (view k .points) (s .pre .2 .ids-are) (s .pre .2 .rise)
-    (rising-ascends (k .next) 0 (curveIds (view k .curves)) (s .pre .1 .curves-rise)) (s .pre .1 .curves-sound))
+    c .first-unmet .ensures (view k .points) (view k .curves) w
+    (curve-columns y (omega arith) (omega arith) (omega arith) (omega arith) (omega arith) (view k .points) (w .ids-are) (w .rise)
+    (rising-ascends (k .next) 0 (curveIds (view k .curves)) (v .curves-rise)) (v .curves-sound))
 
 pub search-from-spec : {M : Type 1} → statement M
 search-from-spec =

@@ -1,73 +1,99 @@
-use mathlib.Core.Path.{_≡_, refl, sym, ap, _∙_}
-use borrow.Author.Tests.{not-true, not-false}
-use Rattle.sketch.proofs.Bools.{joined}
-use Rattle.modify.proofs.Shifts.{moved-out, moved-on, moved-at, moved-there}
+-- `modify::moving::move_end` meets its contract.
+use mathlib.Core.Path.{_≡_, sym, ap, _∙_, subst}
 use native.Mathlib.Omega.{arith}
+use lib.ListN.{length, getD}
+use borrow.Author.Tests.{not-true, not-false}
 use borrow.Author.Needs.{needs}
+use Rattle.sketch.specs.declared.Relation.{Relation}
+use Rattle.sketch.specs.Blanks.{noPoint}
+use Rattle.sketch.specs.Drawing.{view}
+use Rattle.sketch.proofs.Bools.{joined}
+use Rattle.carry.specs.Once.{pinned}
+use Rattle.carry.specs.Tables.{movePoint}
+use Rattle.carry.proofs.Loops.{length-mapped}
+use Rattle.modify.specs.Seek.{AddedTo}
+use Rattle.modify.proofs.Shifts.{shifted-is, full-is, added-is, moved-out, moved-held, moved-itself}
 use Rattle.modify.proofs.moving.move_end.Statement.{statement}
 use Rattle.modify.proofs.moving.move_end.Tie as tie
-use Rattle.modify.proofs.moving.move_end.Reads as reads
-use Rattle.modify.proofs.moving.move_end.Lts as lts
-use Rattle.modify.proofs.moving.answer.Reads as answer-reads
-use Rattle.modify.proofs.moving.shifted.Reads as shifted-reads
-use Rattle.modify.proofs.moving.shifted_with.Reads as shifted-with-reads
-use Rattle.sketch.proofs.coordinate_ok.Reads as coordinate-ok-reads
 
--- src/moving.rt:80:10
+long : (c : tie.Start) → (length (c .args .sk .points) ≡ 512) × (length (c .args .sk .relations) ≡ 256)
+long c = (search (needs, length-mapped), search (needs, length-mapped))
+
 coordinate-ok-requires : tie.Need-coordinate-ok-requires
 coordinate-ok-requires c κs = search needs
 
--- src/moving.rt:80:31
 coordinate-ok-requires-2 : tie.Need-coordinate-ok-requires-2
 coordinate-ok-requires-2 c κs = search needs
 
--- src/moving.rt:81:9
 answer-requires : tie.Need-answer-requires
 answer-requires c κs = search needs
 
--- src/moving.rt:81:9
 returns : tie.Need-returns
 returns c = moved-out _ _ _ _ (sym (joined (c .before .before .before .coordinate-ok .ensures) (c .before .before .coordinate-ok2 .ensures)) ∙ not-true _ (c .before .if1 .taken)) (c .answer .ensures .1)
 
--- src/moving.rt:83:13
 mul-p : tie.Need-mul-p
 mul-p c = search needs
 
--- src/moving.rt:83:13
 element-copy-out-p : tie.Need-element-copy-out-p
 element-copy-out-p c = search needs
 
--- src/moving.rt:85:17
-enum-known-pin : tie.Need-enum-known-pin
-enum-known-pin c = search needs
+mul-t12 : tie.Need-mul-t12
+mul-t12 c = search needs
 
--- src/moving.rt:85:23
-shifted-with-requires : tie.Need-shifted-with-requires
-shifted-with-requires c κs = search needs
+element-set-from-t : tie.Need-element-set-from-t
+element-set-from-t c = search needs
 
--- src/moving.rt:86:17
-enum-known-pin-2 : tie.Need-enum-known-pin-2
-enum-known-pin-2 c = search needs
+is-itself-requires : tie.Need-is-itself-requires
+is-itself-requires c κs = search needs
 
--- src/moving.rt:88:17
-shifted-requires : tie.Need-shifted-requires
-shifted-requires c κs = search needs
+answer-requires-2 : tie.Need-answer-requires-2
+answer-requires-2 c κs = search needs
 
--- src/moving.rt:88:17
 returns-2 : tie.Need-returns-2
-returns-2 c = moved-there _ _ _ _ (sym (joined (c .before .before .before .before .before .before .before .before .before .coordinate-ok .ensures) (c .before .before .before .before .before .before .before .before .coordinate-ok2 .ensures)) ∙ not-false _ (c .before .before .before .before .before .before .before .if1 .left)) (c .before .before .before .before .pin2 .given .1) (c .before .if2 .taken) (c .shifted .ensures)
+returns-2 c =
+    let s = c .before .before .before .before .before .before .before in
+    let a = s .args in
+    let p = getD (a .sk .points) (a .k) noPoint in
+    let e = sym (c .before .before .is-itself .ensures) ∙ c .before .if2 .taken in
+    let r = shifted-is (a .sk) (a .k) (a .v) (s .pre .0) (s .pre .1) (s .pre .2) (long s .0) (c .answer2 .ensures .0) (c .answer2 .ensures .1) (c .answer2 .ensures .3) in
+    moved-itself (view (a .sk)) (p .id) (a .v) (sym (joined (c .before .before .before .before .before .before .coordinate-ok .ensures) (c .before .before .before .before .before .coordinate-ok2 .ensures)) ∙ not-false _ (c .before .before .before .before .if1 .left)) (a .pin) e r
 
--- src/moving.rt:90:13
-shifted-with-requires-2 : tie.Need-shifted-with-requires-2
-shifted-with-requires-2 c κs = search needs
+answer-requires-3 : tie.Need-answer-requires-3
+answer-requires-3 c κs = search needs
 
--- src/moving.rt:76:1
 returns-3 : tie.Need-returns-3
-returns-3 c = moved-on _ _ _ _ (sym (joined (c .before .before .before .before .before .before .before .coordinate-ok .ensures) (c .before .before .before .before .before .before .coordinate-ok2 .ensures)) ∙ not-false _ (c .before .before .before .before .before .if1 .left)) (c .before .before .pin .given .1) (c .shifted-with .ensures)
+returns-3 c =
+    let s = c .before .before .before .before .before .before .before .before in
+    let a = s .args in
+    let p = getD (a .sk .points) (a .k) noPoint in
+    let e = sym (c .before .before .before .is-itself .ensures) ∙ c .before .before .if2 .left in
+    let r = full-is (a .sk) (a .k) (a .v) (s .pre .0) (s .pre .1) (s .pre .2) (long s .0) (pinned (a .pin) (p .id)) (long s .1) (c .answer3 .ensures .1) (c .before .if3 .taken) in
+    moved-held (view (a .sk)) (p .id) (a .v) (sym (joined (c .before .before .before .before .before .before .before .coordinate-ok .ensures) (c .before .before .before .before .before .before .coordinate-ok2 .ensures)) ∙ not-false _ (c .before .before .before .before .before .if1 .left)) (a .pin) e r
 
--- src/moving.rt:76:1
+held-by-requires : tie.Need-held-by-requires
+held-by-requires c κs = search needs
+
+mul-t12-2 : tie.Need-mul-t12-2
+mul-t12-2 c = search needs
+
+element-set-from-t-2 : tie.Need-element-set-from-t-2
+element-set-from-t-2 c = search needs
+
+add-t : tie.Need-add-t
+add-t c = search needs
+
+answer-requires-4 : tie.Need-answer-requires-4
+answer-requires-4 c κs = search needs
+
 returns-4 : tie.Need-returns-4
-returns-4 c = moved-at _ _ _ _ (sym (joined (c .before .before .before .before .before .before .before .before .before .coordinate-ok .ensures) (c .before .before .before .before .before .before .before .before .coordinate-ok2 .ensures)) ∙ not-false _ (c .before .before .before .before .before .before .before .if1 .left)) (c .before .before .before .before .pin2 .given .1) (c .before .if2 .left) (c .shifted-with2 .ensures)
+returns-4 c =
+    let s = c .before .before .before .before .before .before .before .before .before in
+    let a = s .args in
+    let p = getD (a .sk .points) (a .k) noPoint in
+    let e = sym (c .before .before .before .before .is-itself .ensures) ∙ c .before .before .before .if2 .left in
+    let h = c .before .held-by in
+    let r = added-is (a .sk) (a .k) (a .v) (s .pre .0) (s .pre .1) (s .pre .2) (long s .0) (h .result) (long s .1) (c .before .before .if3 .left) (c .answer4 .ensures .0) (c .answer4 .ensures .1) (c .answer4 .ensures .3) in
+    moved-held (view (a .sk)) (p .id) (a .v) (sym (joined (c .before .before .before .before .before .before .before .before .coordinate-ok .ensures) (c .before .before .before .before .before .before .before .coordinate-ok2 .ensures)) ∙ not-false _ (c .before .before .before .before .before .before .if1 .left)) (a .pin) e (subst (λ (x : Relation). AddedTo (movePoint (p .id) (a .v) (view (a .sk))) x (c .answer4 .result)) (h .ensures) r)
 
 pub move-end-spec : {M : Type 1} → statement M
 move-end-spec =
@@ -79,11 +105,16 @@ move-end-spec =
     returns
     mul-p
     element-copy-out-p
-    enum-known-pin
-    shifted-with-requires
-    enum-known-pin-2
-    shifted-requires
+    mul-t12
+    element-set-from-t
+    is-itself-requires
+    answer-requires-2
     returns-2
-    shifted-with-requires-2
+    answer-requires-3
     returns-3
+    held-by-requires
+    mul-t12-2
+    element-set-from-t-2
+    add-t
+    answer-requires-4
     returns-4)
