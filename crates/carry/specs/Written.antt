@@ -16,13 +16,14 @@ use Rattle.carry.specs.declared.Extent.{Extent}
 use Rattle.carry.specs.declared.Orphans.{Orphans}
 use Rattle.carry.specs.declared.Change.{Change}
 use Rattle.carry.specs.declared.Edited.{Edited}
+use Rattle.carry.specs.declared.Removed.{Removed}
 use Rattle.carry.specs.Tables.{others}
 use Rattle.carry.specs.Steps.{nothing}
 use Rattle.carry.specs.Suited.{targetOf}
 use Rattle.carry.specs.Once.{leftOf, orphanList, staying, extentOf}
 use Rattle.carry.specs.Room.{leftOver, refusalFor}
 
--- there is room for a change: what `rewritten` asks
+-- there is room for a change
 pub record Roomy (s : Sketch) (e : Extent) (h : Change) : Type 0 where
   pub points : s .npoints + h .points < 512
   pub place : h .place < 128
@@ -99,3 +100,11 @@ pub record Ready (s : Sketch) (k : ℕ) (c : Curve) (e : Extent) (plan : Plan) :
 -- refused by a number, the sketch as it was
 abbrev pub refusedAs : Sketch → ℕ → Edited
 refusedAs s n = record { sketch = s; refusal = n; place = 0; removed = nothing }
+
+-- carried out, with what went
+abbrev pub carriedAs : Sketch → Removed → Edited
+carriedAs s gone = record { sketch = s; refusal = 0; place = 0; removed = gone }
+
+-- a curve that went as a whole
+abbrev pub wholeGone : Extent → Removed
+wholeGone e = record { curve = e .id; from = e .from; to = e .to }

@@ -1,5 +1,4 @@
 // A plan carried out: its refusal from numbers alone, and otherwise one working copy.
-use crate::Change;
 use crate::Edited;
 use crate::Extent;
 use crate::Kept;
@@ -14,7 +13,6 @@ use crate::orphaned::orphans_of;
 use crate::pieces::end_of;
 use crate::pieces::start_of;
 use crate::room::refusal_of;
-use sketch::Curve;
 use sketch::CurveKind;
 use sketch::Id;
 use sketch::RelationSlot;
@@ -24,7 +22,7 @@ ghost use Prim.Native.Nat.{_≤_};
 ghost use Rattle.carry.specs.Steps.{isLine};
 ghost use Rattle.carry.specs.Once.{isWhole, extentOf};
 ghost use Rattle.carry.specs.Suited.{CarriesOut};
-ghost use Rattle.carry.specs.Written.{Fitting, Rewritten, Cleared, Without, Ready, refusedAs};
+ghost use Rattle.carry.specs.Written.{Cleared, Without, refusedAs, carriedAs, wholeGone};
 
 fn is_line(kind: CurveKind) -> bool
     ensures { λ x. ⌜ x ≡ isLine kind ⌝ }
@@ -56,54 +54,6 @@ fn extent_of(kind: CurveKind, id: Id, plan: Plan) -> Extent
     }
 }
 
-// The relations that are left, and all that a cut or a division adds and sets, in one working copy.
-fn rewritten(sk: Sketch, k: usize, e: Extent, os: Orphans, ch: Change) -> Sketch
-    requires { ⌜ Fitting sk k e ch ⌝ }
-    ensures { λ x. ⌜ Rewritten sk k e os ch x ⌝ }
-{
-    let n = sk.nrelations;
-    let mut t = sk;
-    let mut i: usize = 0;
-    let mut j: usize = 0;
-    while i < n {
-        let s = t.relations[i];
-        let v = s.relation;
-        i += 1;
-        match left_of(v, e, os) {
-            Kept::Keep(w) => {
-                t.relations[j] = RelationSlot { relation: w };
-                j += 1;
-            }
-            Kept::Dropped => {}
-        }
-    }
-    t.nrelations = j;
-    if e.whole {
-        return t;
-    }
-    let np = sk.npoints;
-    let p = ch.p;
-    let q = ch.q;
-    let kept = ch.kept;
-    let added = ch.added;
-    let place = ch.place;
-    let r = ch.r;
-    let s = ch.s;
-    let u = ch.t;
-    t.points[np] = p;
-    t.points[np + ch.points] = q;
-    t.curves[k] = kept;
-    t.curves[place] = added;
-    t.relations[j] = RelationSlot { relation: r };
-    t.relations[j + ch.second] = RelationSlot { relation: s };
-    t.relations[j + ch.third] = RelationSlot { relation: u };
-    t.next = ch.next;
-    t.npoints = np + ch.points + 1;
-    t.ncurves = sk.ncurves + ch.curves;
-    t.nrelations = j + ch.third + 1;
-    t
-}
-
 // The sketch without the points that go.
 fn cleared(sk: Sketch, os: Orphans) -> Sketch
     requires { ⌜ sk .npoints ≤ 512 ⌝ }
@@ -132,43 +82,6 @@ fn without(sk: Sketch, g: Id) -> Sketch
     t
 }
 
-// What carrying out the plan leaves, where nothing refuses it.
-fn done(sk: Sketch, k: usize, c: Curve, e: Extent, plan: Plan) -> Edited
-    requires { ⌜ Ready sk k c e plan ⌝ }
-    ensures { λ x. ⌜ CarriesOut sk k plan x ⌝ }
-{
-    let os = orphans_of(sk, c, plan);
-    let ch = change_for(c, k, sk.ncurves, plan, sk.next);
-    let t = rewritten(sk, k, e, os, ch);
-    if e.whole {
-        return Edited {
-            sketch: cleared(without(t, e.id), os),
-            refusal: 0,
-            place: 0,
-            removed: Removed {
-                curve: e.id,
-                from: e.from,
-                to: e.to,
-            },
-        };
-    }
-    let gone = ch.removed;
-    if os.pgoes | os.qgoes | os.rgoes {
-        return Edited {
-            sketch: cleared(t, os),
-            refusal: 0,
-            place: 0,
-            removed: gone,
-        };
-    }
-    Edited {
-        sketch: t,
-        refusal: 0,
-        place: 0,
-        removed: gone,
-    }
-}
-
 // The sketch as it was.
 fn refused(sk: Sketch, number: u8) -> Edited
     ensures { λ x. ⌜ x ≡ refusedAs sk number ⌝ }
@@ -185,20 +98,91 @@ fn refused(sk: Sketch, number: u8) -> Edited
     }
 }
 
-// The plan carried out on the curve at place k. A plan that doesn't suit it may come to anything.
+// What is carried out.
+fn carried(sketch: Sketch, removed: Removed) -> Edited
+    ensures { λ x. ⌜ x ≡ carriedAs sketch removed ⌝ }
+{
+    Edited {
+        sketch,
+        refusal: 0,
+        place: 0,
+        removed,
+    }
+}
+
+// The curve of an extent, gone as a whole.
+fn whole_gone(e: Extent) -> Removed
+    ensures { λ x. ⌜ x ≡ wholeGone e ⌝ }
+{
+    Removed {
+        curve: e.id,
+        from: e.from,
+        to: e.to,
+    }
+}
+
+// The plan carried out on the curve at place k. A plan that doesn't suit it may come to anything. All is written here, to one working
+// copy, as each function that takes a sketch and gives one costs two more: the relations that are left, all that a cut or a division
+// adds and sets, and what goes.
 pub fn carry_out(sk: Sketch, k: usize, plan: Plan) -> Edited
     ensures { λ r. ⌜ CarriesOut sk k plan r ⌝ }
 {
-    let n = sk.ncurves;
-    if !((k < n) & (n <= 128) & (sk.npoints <= 512) & (sk.nrelations <= 256)) {
+    let nc = sk.ncurves;
+    let n = sk.nrelations;
+    if !((k < nc) & (nc <= 128) & (sk.npoints <= 512) & (n <= 256)) {
         return refused(sk, 10);
     }
-    let c = sk.curves[k];
+    let mut t = sk;
+    let c = t.curves[k];
     let kind = c.kind;
     let e = extent_of(kind, c.id, plan);
-    let number = refusal_of(sk, kind, e, plan);
+    let number = refusal_of(t, kind, e, plan);
     if number != 0 {
-        return refused(sk, number);
+        return refused(t, number);
     }
-    done(sk, k, c, e, plan)
+    let os = orphans_of(sk, c, plan);
+    let ch = change_for(c, k, nc, plan, sk.next);
+    let mut i: usize = 0;
+    let mut j: usize = 0;
+    while i < n {
+        let s = t.relations[i];
+        let v = s.relation;
+        i += 1;
+        match left_of(v, e, os) {
+            Kept::Keep(w) => {
+                t.relations[j] = RelationSlot { relation: w };
+                j += 1;
+            }
+            Kept::Dropped => {}
+        }
+    }
+    t.nrelations = j;
+    if e.whole {
+        return carried(cleared(without(t, e.id), os), whole_gone(e));
+    }
+    let np = sk.npoints;
+    let p = ch.p;
+    let q = ch.q;
+    let kept = ch.kept;
+    let added = ch.added;
+    let place = ch.place;
+    let r = ch.r;
+    let s = ch.s;
+    let u = ch.t;
+    t.points[np] = p;
+    t.points[np + ch.points] = q;
+    t.curves[k] = kept;
+    t.curves[place] = added;
+    t.relations[j] = RelationSlot { relation: r };
+    t.relations[j + ch.second] = RelationSlot { relation: s };
+    t.relations[j + ch.third] = RelationSlot { relation: u };
+    t.next = ch.next;
+    t.npoints = np + ch.points + 1;
+    t.ncurves = nc + ch.curves;
+    t.nrelations = j + ch.third + 1;
+    let gone = ch.removed;
+    if os.pgoes | os.qgoes | os.rgoes {
+        return carried(cleared(t, os), gone);
+    }
+    carried(t, gone)
 }
