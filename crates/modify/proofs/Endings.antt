@@ -176,20 +176,17 @@ module _ (d : Drawing) (p : Vec2) (c : Curve) {k : CurveKind} {i j : ℕ} (e : k
     unfolding extendCurve unless
     as-measured = rw (x, y, u, v) (sym (ap (extendCurve d p c) e ∙ ap (λ t. unless t 13 ended) m))
 
-    pub line-at-b : le db da ≡ true → {r : Choice} → r ≡ extendEnd d (c .id) p (support a b true) j → r ≡ extendCurve d p c k
-    line-at-b h f = f ∙ ap (λ t. extendEnd d (c .id) p (support a b t) (cond t j i)) (sym h) ∙ as-measured
-
-    pub line-at-a : le db da ≡ false → {r : Choice} → r ≡ extendEnd d (c .id) p (support a b false) i → r ≡ extendCurve d p c k
-    line-at-a h f = f ∙ ap (λ t. extendEnd d (c .id) p (support a b t) (cond t j i)) (sym h) ∙ as-measured
+    pub line-at : {end : ℕ} → end ≡ cond (le db da) j i → {r : Choice} → r ≡ extendEnd d (c .id) p (support a b (le db da)) end → r ≡ extendCurve d p c k
+    line-at h f = f ∙ ap (extendEnd d (c .id) p (support a b (le db da))) h ∙ as-measured
 
 module _ (s : Sketch) (place : ℕ) {i j : ℕ} (e : targetOf s place .kind ≡ Line i j) where
-  pub stands-at-b : (r : Ending) → EndsAt s true j r → EndStands s place r
-  stands-at-b (N.Refused n) h = tt
-  stands-at-b (N.Move atB k v w) h = ((i, j), ends-line e, h .1, h .2 ∙ sym (ap (λ b. pick b j i) (h .0)))
-
-  pub stands-at-a : (r : Ending) → EndsAt s false i r → EndStands s place r
-  stands-at-a (N.Refused n) h = tt
-  stands-at-a (N.Move atB k v w) h = ((i, j), ends-line e, h .1, h .2 ∙ sym (ap (λ b. pick b j i) (h .0)))
+  pub stands-at : (atB : Bool) {end : ℕ} → end ≡ cond atB j i → (r : Ending) → EndsAt s atB end r → EndStands s place r
+  stands-at atB e′ (N.Refused n) h = tt
+  stands-at atB e′ (N.Move atB′ k v w) h = ((i, j), ends-line e, h .1, h .2 ∙ e′ ∙ either atB ∙ sym (ap (λ b. pick b j i) (h .0)))
+    where
+      either : (b : Bool) → _≡_ {A = ℕ} (cond b j i) (pick b j i)
+      either true = refl
+      either false = refl
 
   module _ (z : Sized s) (v : Valid limits (view s)) (h : place < s .ncurves) (g : length (s .curves) ≡ 128) where
     found : curveIn (view s .curves) (targetOf s place .id) ≡ some (targetOf s place)
@@ -198,6 +195,10 @@ module _ (s : Sketch) (place : ℕ) {i j : ℕ} (e : targetOf s place .kind ≡ 
         subst (λ (x : Curve). curveIn (view s .curves) (x .id) ≡ some x) (getD-take (s .ncurves) (s .curves) place noCurve h)
         (curve-at noCurve (view s .curves) place (rising-ascends (s .next) 0 (curveIds (view s .curves)) (v .curves-rise)) q)
 
-    pub line-ends : (among i (pointIds (view s .points)) ≡ true) × (among j (pointIds (view s .points)) ≡ true)
+    line-ends : (among i (pointIds (view s .points)) ≡ true) × (among j (pointIds (view s .points)) ≡ true)
     unfolding endsAt
     line-ends = ends-there limits (view s) v (targetOf s place .id) (i, j) (ap endsAt found ∙ ends-line e)
+
+    pub line-end : (atB : Bool) {end : ℕ} → end ≡ cond atB j i → among end (pointIds (view s .points)) ≡ true
+    line-end true e = ap (λ (x : ℕ). among x (pointIds (view s .points))) e ∙ line-ends .1
+    line-end false e = ap (λ (x : ℕ). among x (pointIds (view s .points))) e ∙ line-ends .0

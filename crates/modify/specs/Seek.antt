@@ -11,10 +11,12 @@ use Rattle.geom.specs.declared.Vec2.{Vec2}
 use Rattle.sketch.specs.declared.Point.{Point}
 use Rattle.sketch.specs.declared.Curve.{Curve}
 use Rattle.sketch.specs.declared.Relation.{Relation}
+use Rattle.sketch.specs.declared.RelationSlot.{RelationSlot}
 use Rattle.sketch.specs.declared.Sketch.{Sketch}
 use Rattle.sketch.specs.Lists.{pick}
 use Rattle.sketch.specs.Blanks.{noPoint}
-use Rattle.sketch.specs.Drawing.{Drawing, view, limits}
+use Rattle.sketch.specs.Lookup.{among}
+use Rattle.sketch.specs.Drawing.{Drawing, view, limits, pointIds}
 use Rattle.sketch.specs.Facts.{Sized}
 use Rattle.placed.specs.Placed.{at}
 use Rattle.placed.specs.Columns.{PointColumns}
@@ -41,7 +43,7 @@ use Rattle.modify.specs.declared.Reached.{Reached}
 use Rattle.modify.specs.declared.Reached.the-variants as R
 use Rattle.modify.specs.declared.Ending.{Ending}
 use Rattle.modify.specs.declared.Ending.the-variants as N
-use Rattle.modify.specs.Extend.{Support, meets, Best, Search, stopped, sought, seek, moveTo}
+use Rattle.modify.specs.Extend.{Support, meets, Best, Search, stopped, sought, seek, moveTo, extendEnd}
 use Rattle.modify.specs.Told.{Of}
 
 -- ---- the search, from columns, whichever points they hold
@@ -106,6 +108,17 @@ EndHeld ids xs ys cs n best atB k r =
 abbrev pub EndsAt : Sketch → Bool → ℕ → Ending → Type 0
 EndsAt s atB end (N.Refused n) = Unit {0}
 EndsAt s atB end (N.Move atB′ k v w) = (atB′ ≡ atB) × (k < s .npoints) × (getD (s .points) k noPoint .id ≡ end)
+
+-- whichever sketch has these points and curves, if its columns are those and the end is one of its points
+pub record EndOf (s : Sketch) (id : ℕ) (p : Vec2) (l : Support) (end : ℕ) (r : Ending) : Type 0 where
+  pub choice : choiceOf r ≡ extendEnd (view s) id p l end
+  pub place : EndsAt s (l .atB) end r
+
+abbrev pub EndChosen : List ℕ → List Float → List Float → List Point → List Curve → ℕ → ℕ → Vec2 → Support → ℕ → Ending → Type 0
+EndChosen ids xs ys ps cs n id p l end r =
+    (next np nr : ℕ) (rs : List RelationSlot) → (np ≤ 512)
+    → PointColumns (take np ps) ids xs ys → (among end (pointIds (take np ps)) ≡ true)
+    → EndOf (record { next = next; npoints = np; ncurves = n; nrelations = nr; points = ps; curves = cs; relations = rs }) id p l end r
 
 abbrev pub EndStands : Sketch → ℕ → Ending → Type 0
 EndStands s place (N.Refused n) = Unit {0}

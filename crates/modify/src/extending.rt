@@ -18,13 +18,13 @@ use relations::unmet_untested;
 use shape::Shape;
 use sketch::Curve;
 use sketch::CurveKind;
+use sketch::Point;
 use sketch::Sketch;
 use sketch::place_near;
 ghost use mathlib.Core.Path.{_≡_};
-ghost use mathlib.Core.Bool.{true};
+ghost use mathlib.Core.Bool.{true, cond};
 ghost use Prim.Native.Nat.{_≤_, _<_};
-ghost use Rattle.sketch.specs.Lookup.{among};
-ghost use Rattle.sketch.specs.Drawing.{view, limits, pointIds};
+ghost use Rattle.sketch.specs.Drawing.{view, limits};
 ghost use Rattle.sketch.specs.Facts.{Sized, Valid};
 ghost use Rattle.sketch.specs.Valid.{sketchFault};
 ghost use Rattle.image.specs.declared.Operation.the-variants as Operation;
@@ -32,8 +32,8 @@ ghost use Rattle.placed.specs.Columns.{PointColumns};
 ghost use Rattle.relations.specs.Met.{allMet, unmetAt};
 ghost use Rattle.carry.specs.Suited.{targetOf};
 ghost use Rattle.modify.specs.Edits.{Answered};
-ghost use Rattle.modify.specs.Extend.{extendEnd, extendCurve};
-ghost use Rattle.modify.specs.Seek.{support, choiceOf, EndHeld, EndsAt, EndStands, Settled};
+ghost use Rattle.modify.specs.Extend.{extendCurve};
+ghost use Rattle.modify.specs.Seek.{support, choiceOf, EndHeld, EndChosen, EndStands, Settled};
 
 // The end at place k goes to the nearest hit: 18 where there is none, 17 where another lies as near.
 fn held<'a>(
@@ -60,9 +60,19 @@ fn held<'a>(
     Ending::Move(atb, k, q, pin_at(q, best.by, curves, n, ids, near, xs, ys))
 }
 
-// The end b or (false) a of a line: 14 where another curve uses it, or it is fixed.
+// The end of a line that moves: b or (false) a.
+fn end_of_two(atb: bool, i: u32, j: u32) -> u32
+    ensures { λ r. ⌜ r ≡ cond atb j i ⌝ }
+{
+    if atb { j } else { i }
+}
+
+// The end b or (false) a of a line: 14 where another curve uses it, or it is fixed. It takes the tables and no sketch, which would be
+// copied for the look into it. An end of a sketch's line lies within the table of points.
 fn end_from<'a>(
-    sk: Sketch,
+    points: [Point; 512],
+    curves: [Curve; 128],
+    n: usize,
     id: u32,
     a: Vec2,
     b: Vec2,
@@ -74,16 +84,17 @@ fn end_from<'a>(
     xs: &'a [f64],
     ys: &'a [f64],
 ) -> Ending
-    requires { ⌜ Sized sk × PointColumns (view sk .points) (now ids) (now xs) (now ys) × (among end (pointIds (view sk .points)) ≡ true) ⌝ }
-    ensures { λ r. ⌜ (choiceOf r ≡ extendEnd (view sk) id at (support a b atb) end) × EndsAt sk atb end r ⌝ }
+    requires { ⌜ n ≤ 128 ⌝ }
+    ensures { λ r. ⌜ EndChosen (now (ids .entry)) (now (xs .entry)) (now (ys .entry)) points curves n id at (support a b atb) end r ⌝ }
 {
-    let curves = sk.curves;
-    let n = sk.ncurves;
     if used_beside(curves, n, id, end) {
         return Ending::Refused(14);
     }
     let k = place_near(ids, near, end);
-    let p = sk.points[k];
+    if k >= 512 {
+        return Ending::Refused(14);
+    }
+    let p = points[k];
     if p.fixed {
         return Ending::Refused(14);
     }
@@ -108,17 +119,32 @@ fn ending_from<'a>(
     requires { ⌜ Sized sk × Valid limits (view sk) × (place < sk .ncurves) × (allMet (view sk) ≡ true) × PointColumns (view sk .points) (now ids) (now xs) (now ys) ⌝ }
     ensures { λ r. ⌜ (choiceOf r ≡ extendCurve (view sk) at (targetOf sk place) (targetOf sk place .kind)) × EndStands sk place r ⌝ }
 {
-    let c = sk.curves[place];
+    let points = sk.points;
+    let curves = sk.curves;
+    let c = curves[place];
     let kind = c.kind;
     let CurveKind::Line(i, j) = kind else {
         return Ending::Refused(10);
     };
     let a = point_at(i, ids, near, xs, ys);
     let b = point_at(j, ids, near, xs, ys);
-    if at.dist(b) <= at.dist(a) {
-        return end_from(sk, c.id, a, b, true, j, at, ids, near, xs, ys);
-    }
-    end_from(sk, c.id, a, b, false, i, at, ids, near, xs, ys)
+    let atb = at.dist(b) <= at.dist(a);
+    let end = end_of_two(atb, i, j);
+    end_from(
+        points,
+        curves,
+        sk.ncurves,
+        c.id,
+        a,
+        b,
+        atb,
+        end,
+        at,
+        ids,
+        near,
+        xs,
+        ys,
+    )
 }
 
 fn ending(sk: Sketch, place: usize, at: Vec2) -> Ending
