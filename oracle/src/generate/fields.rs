@@ -156,7 +156,17 @@ pub fn edge_value(random: &mut Random, image: &[u8], field: &Field) -> u64 {
         Role::OwnId | Role::Reference => {
             let other = u64::from(some_id(random, image));
             let far = u64::from(u32::MAX);
-            random.pick(&[0, step, other, other, other, next_id, next_id.wrapping_sub(1), next_id + 1, far])
+            random.pick(&[
+                0,
+                step,
+                other,
+                other,
+                other,
+                next_id,
+                next_id.wrapping_sub(1),
+                next_id + 1,
+                far,
+            ])
         }
         Role::Flags => random.pick(&[0, 1, 2, 3, 4, 5, 6, 7, 8, 16, 128, 255]),
         Role::Kind => random.between(0, 11) as u64,
