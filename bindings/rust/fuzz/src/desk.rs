@@ -2,21 +2,16 @@
 
 use crate::asked::{number, words, ANSWER_BEFORE, MESSAGE_SIZE};
 use crate::calls::Calls;
-use crate::guard::Guarded;
-use crate::inputs::{self, BUFFER};
+use crate::inputs;
+use crate::lent::Lent;
 use mulkefi::{Delivery, Wall};
 use oracle::generate::random::Random;
 
-pub struct Subject {
-    buffer: Guarded,
-    message: Guarded,
-    answer: Guarded,
-}
+pub struct Subject(Lent);
 
 impl Subject {
     pub fn new() -> Subject {
-        let [buffer, message, answer] = [BUFFER, 64, 20].map(Guarded::new);
-        Subject { buffer, message, answer }
+        Subject(Lent::new())
     }
 
     /// Answers the number of the outcome.
@@ -26,9 +21,9 @@ impl Subject {
         let len = inputs::claimed(random, call.image.len(), held.len());
         let count = inputs::count(random);
         let lent = vec![0x77; random.pick(&[30, 30, 30, 30, 31, 64, 29, 1, 0])];
-        let buffer = self.buffer.lend(&held, inputs::edge(random));
-        let message = self.message.lend(&lent, inputs::edge(random));
-        let answer = self.answer.lend(&ANSWER_BEFORE, inputs::edge(random)).cast();
+        let buffer = self.0.buffer.lend(&held, inputs::edge(random));
+        let message = self.0.message.lend(&lent, inputs::edge(random));
+        let answer = self.0.answer.lend(&ANSWER_BEFORE, inputs::edge(random)).cast();
         let (operation, curve, x, y) = (call.operation, call.curve, call.x, call.y);
         // SAFETY: three buffers apart, with their own lengths; the answer has five numbers.
         let told = number(unsafe {
@@ -53,25 +48,25 @@ impl Subject {
     }
 
     fn untouched(&self) -> Result<(), String> {
-        self.buffer.check("the buffer, on refusal", 0)?;
-        self.message.check("the message, on refusal", 0)?;
-        self.answer.check("the answer, on refusal", 0)
+        self.0.buffer.check("the buffer, on refusal", 0)?;
+        self.0.message.check("the message, on refusal", 0)?;
+        self.0.answer.check("the answer, on refusal", 0)
     }
 
     /// The image, the message and five numbers are written; the message brings a wall as far.
     fn accepted(&self, image: &[u8], count: u32) -> Result<(), String> {
-        self.answer.check("the answer", ANSWER_BEFORE.len())?;
-        let words = words(self.answer.bytes());
+        self.0.answer.check("the answer", ANSWER_BEFORE.len())?;
+        let words = words(self.0.answer.bytes());
         let len = words[1] as usize;
-        self.buffer.check("the buffer", len)?;
-        self.message.check("the message", MESSAGE_SIZE)?;
+        self.0.buffer.check("the buffer", len)?;
+        self.0.message.check("the message", MESSAGE_SIZE)?;
         if count.checked_add(1) != Some(words[0]) {
             return Err(format!("count {count} became {}", words[0]));
         }
-        let after = &self.buffer.bytes()[..len];
+        let after = &self.0.buffer.bytes()[..len];
         let wrong = |refusal| format!("at a wall: {refusal}");
         let mut wall = Wall::resume(image, count).map_err(wrong)?;
-        let done = wall.deliver(&self.message.bytes()[..MESSAGE_SIZE]).map_err(wrong)?;
+        let done = wall.deliver(&self.0.message.bytes()[..MESSAGE_SIZE]).map_err(wrong)?;
         let same = matches!(done, Delivery::Done(_)) && wall.image() == after;
         if same {
             Ok(())

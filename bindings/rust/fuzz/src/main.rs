@@ -10,6 +10,7 @@ mod calls;
 mod desk;
 mod guard;
 mod inputs;
+mod lent;
 mod planted;
 mod roots;
 mod tally;

@@ -2,21 +2,16 @@
 
 use crate::asked::{number, words, ANSWER_BEFORE};
 use crate::calls::Calls;
-use crate::guard::Guarded;
-use crate::inputs::{self, BUFFER};
+use crate::inputs;
+use crate::lent::Lent;
 use crate::tally::OLD;
 use oracle::generate::random::Random;
 
-pub struct Subject {
-    buffer: Guarded,
-    message: Guarded,
-    answer: Guarded,
-}
+pub struct Subject(Lent);
 
 impl Subject {
     pub fn new() -> Subject {
-        let [buffer, message, answer] = [BUFFER, 64, 20].map(Guarded::new);
-        Subject { buffer, message, answer }
+        Subject(Lent::new())
     }
 
     /// Answers the number of the outcome.
@@ -26,9 +21,9 @@ impl Subject {
         let len = inputs::claimed(random, call.image.len(), held.len());
         let count = inputs::count(random);
         let sent = inputs::message(random, &call, count);
-        let buffer = self.buffer.lend(&held, inputs::edge(random));
-        let message = self.message.lend_to_read(&sent, inputs::edge(random));
-        let answer = self.answer.lend(&ANSWER_BEFORE, inputs::edge(random)).cast();
+        let buffer = self.0.buffer.lend(&held, inputs::edge(random));
+        let message = self.0.message.lend_to_read(&sent, inputs::edge(random));
+        let answer = self.0.answer.lend(&ANSWER_BEFORE, inputs::edge(random)).cast();
         // SAFETY: three buffers apart, with their own lengths; the answer has five numbers.
         let told = number(unsafe {
             (calls.wall_deliver)(buffer, held.len(), len, count, message, sent.len(), answer)
@@ -36,8 +31,8 @@ impl Subject {
         match told {
             0 => self.accepted(len.min(held.len()), count),
             _ => {
-                self.buffer.check("the buffer, on refusal", 0)?;
-                self.answer.check("the answer, on refusal", 0)?;
+                self.0.buffer.check("the buffer, on refusal", 0)?;
+                self.0.answer.check("the answer, on refusal", 0)?;
                 Ok(told)
             }
         }
@@ -45,19 +40,19 @@ impl Subject {
 
     /// The image and five numbers are written; of an old message the numbers alone.
     fn accepted(&self, len_before: usize, count: u32) -> Result<u32, String> {
-        self.answer.check("the answer", ANSWER_BEFORE.len())?;
-        let words = words(self.answer.bytes());
+        self.0.answer.check("the answer", ANSWER_BEFORE.len())?;
+        let words = words(self.0.answer.bytes());
         let len = words[1] as usize;
         if words[0] == count {
-            self.buffer.check("the buffer, at an old message", 0)?;
+            self.0.buffer.check("the buffer, at an old message", 0)?;
             let same = words[1..] == [len_before as u32, 0, 0, 0];
             return if same { Ok(OLD) } else { Err(format!("old, with {words:?}")) };
         }
-        self.buffer.check("the buffer", len)?;
+        self.0.buffer.check("the buffer", len)?;
         if count.checked_add(1) != Some(words[0]) {
             return Err(format!("count {count} became {}", words[0]));
         }
-        mulkefi::test(&self.buffer.bytes()[..len])
+        mulkefi::test(&self.0.buffer.bytes()[..len])
             .map_err(|refusal| format!("leaves {refusal}"))?;
         Ok(0)
     }
