@@ -8,6 +8,8 @@ mod room;
 
 pub use edit::carry_out;
 use geom::Vec2;
+pub use orphaned::curve_uses;
+pub use pieces::pin_of;
 use sketch::Curve;
 use sketch::Id;
 use sketch::Point;

@@ -35,7 +35,7 @@ fn in_slots(slots: [Id; 8], n: usize, p: Id) -> bool
 }
 
 // Whether a curve uses a point.
-fn curve_uses(c: Curve, p: Id) -> bool
+pub fn curve_uses(c: Curve, p: Id) -> bool
     ensures { λ x. ⌜ x ≡ among p (usesOf (c .kind) (c .slots)) ⌝ }
 {
     let slots = c.slots;

@@ -86,7 +86,8 @@ pub(crate) fn gone_piece(g: Id, lead: bool, a: Id, m: Id, b: Id) -> Removed
     }
 }
 
-pub(crate) fn pin_of(pin: Pin, p: Id) -> Relation
+// The relation by which a pin holds a point.
+pub fn pin_of(pin: Pin, p: Id) -> Relation
     ensures { λ x. ⌜ x ≡ pinned pin p ⌝ }
 {
     match pin {

@@ -21,7 +21,8 @@ use Rattle.exhibit.specs.declared.WallAnswer.{WallAnswer}
 use Rattle.exhibit.specs.Rules.{Edit, rules}
 use Rattle.exhibit.specs.Answers.{side, Unmet, Quiet, wallTold, wallKept, wallCall, WallPlace, WallQuiet, WallDelivers}
 use Rattle.kiosk.specs.Verdicts.{Verdict, refused, old, shown, housed, wallVerdict, wallOn}
-use Rattle.kiosk.specs.Served.{numberOf, bufferAfter, answerAfter, told, nothing, Shown, Served, WallFollows}
+use Rattle.carry.specs.Steps.{nothing}
+use Rattle.kiosk.specs.Served.{numberOf, bufferAfter, answerAfter, told, Shown, Served, WallFollows}
 use Rattle.kiosk.proofs.Places.{unmet-whole, unmet-none}
 
 module _ (s : Screen) (bytes b a : List ℕ) (v : sketchFault (s .sketch) ≡ 0) (x : WallAnswer) (h : WallDelivers s (wallCall bytes x)) where

@@ -12,6 +12,7 @@ use Rattle.image.specs.Encode as E
 use Rattle.image.specs.Message as M
 use Rattle.image.specs.Message.{operationOf}
 use Rattle.carry.specs.declared.Removed.{Removed}
+use Rattle.carry.specs.Steps.{nothing}
 use Rattle.agreement.specs.Machines.{Side, message, callOn}
 use Rattle.exhibit.specs.declared.Screen.{Screen}
 use Rattle.exhibit.specs.Rules.{Edit, sent, rules}
@@ -39,10 +40,6 @@ messageAfter (shown s r) e m = over m 0 (M.encode (sent (s .count) e))
 -- a side's count, its image's size, and a report of a curve and its ends
 abbrev pub told : List ℕ → Side Drawing → Removed → List ℕ
 told a s r = set (set (set (set (set a 0 (s .count)) 1 (E.drawingSize (s .drawing))) 2 (r .curve)) 3 (r .from)) 4 (r .to)
-
--- nothing was removed
-abbrev pub nothing : Removed
-nothing = record { curve = 0; from = 0; to = 0 }
 
 -- an old message changes nothing: the answer tells what stands
 abbrev pub answerAfter : Verdict → List ℕ → List ℕ

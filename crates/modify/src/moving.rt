@@ -2,9 +2,9 @@
 use carry::Edited;
 use carry::Pin;
 use carry::Removed;
+use carry::pin_of;
 use geom::Vec2;
 use sketch::Point;
-use sketch::Relation;
 use sketch::RelationSlot;
 use sketch::Sketch;
 use sketch::coordinate_ok;
@@ -14,7 +14,6 @@ ghost use lib.ListN.{getD};
 ghost use Rattle.sketch.specs.Blanks.{noPoint};
 ghost use Rattle.sketch.specs.Drawing.{view, limits};
 ghost use Rattle.sketch.specs.Facts.{Sized, Valid};
-ghost use Rattle.carry.specs.Once.{pinned};
 ghost use Rattle.carry.specs.Steps.{nothing};
 ghost use Rattle.modify.specs.Seek.{itself, MovedTo};
 
@@ -44,16 +43,6 @@ fn is_itself(pin: Pin, p: u32) -> bool
     }
 }
 
-// The relation by which a pin holds a point.
-fn held_by(pin: Pin, p: u32) -> Relation
-    ensures { λ r. ⌜ r ≡ pinned pin p ⌝ }
-{
-    match pin {
-        Pin::On(c) => Relation::PointOnCurve(p, c),
-        Pin::At(e) => Relation::Coincident(p, e),
-    }
-}
-
 // The point at place k moved to v, where the pin holds it, unless that is the point itself. Whether relations are met is not asked. All is
 // written here, to one working copy: a function for each way would cost a copy of the sketch each.
 pub(crate) fn move_end(sk: Sketch, k: usize, v: Vec2, pin: Pin) -> Edited
@@ -79,7 +68,7 @@ pub(crate) fn move_end(sk: Sketch, k: usize, v: Vec2, pin: Pin) -> Edited
         return answer(sk, 22, 0);
     }
     t.relations[n] = RelationSlot {
-        relation: held_by(pin, p.id),
+        relation: pin_of(pin, p.id),
     };
     t.nrelations = n + 1;
     answer(t, 0, 0)

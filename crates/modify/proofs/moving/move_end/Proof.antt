@@ -70,8 +70,8 @@ returns-3 c =
     let r = full-is (a .sk) (a .k) (a .v) (s .pre .0) (s .pre .1) (s .pre .2) (long s .0) (pinned (a .pin) (p .id)) (long s .1) (c .answer3 .ensures .1) (c .before .if3 .taken) in
     moved-held (view (a .sk)) (p .id) (a .v) (sym (joined (c .before .before .before .before .before .before .before .coordinate-ok .ensures) (c .before .before .before .before .before .before .coordinate-ok2 .ensures)) ∙ not-false _ (c .before .before .before .before .before .if1 .left)) (a .pin) e r
 
-held-by-requires : tie.Need-held-by-requires
-held-by-requires c κs = search needs
+pin-of-requires : tie.Need-pin-of-requires
+pin-of-requires c κs = search needs
 
 mul-t12-2 : tie.Need-mul-t12-2
 mul-t12-2 c = search needs
@@ -91,7 +91,7 @@ returns-4 c =
     let a = s .args in
     let p = getD (a .sk .points) (a .k) noPoint in
     let e = sym (c .before .before .before .before .is-itself .ensures) ∙ c .before .before .before .if2 .left in
-    let h = c .before .held-by in
+    let h = c .before .pin-of in
     let r = added-is (a .sk) (a .k) (a .v) (s .pre .0) (s .pre .1) (s .pre .2) (long s .0) (h .result) (long s .1) (c .before .before .if3 .left) (c .answer4 .ensures .0) (c .answer4 .ensures .1) (c .answer4 .ensures .3) in
     moved-held (view (a .sk)) (p .id) (a .v) (sym (joined (c .before .before .before .before .before .before .before .before .coordinate-ok .ensures) (c .before .before .before .before .before .before .before .coordinate-ok2 .ensures)) ∙ not-false _ (c .before .before .before .before .before .before .if1 .left)) (a .pin) e (subst (λ (x : Relation). AddedTo (movePoint (p .id) (a .v) (view (a .sk))) x (c .answer4 .result)) (h .ensures) r)
 
@@ -112,7 +112,7 @@ move-end-spec =
     returns-2
     answer-requires-3
     returns-3
-    held-by-requires
+    pin-of-requires
     mul-t12-2
     element-set-from-t-2
     add-t
