@@ -15,17 +15,20 @@ use Rattle.float.specs.Numbers.{0f}
 use Rattle.geom.specs.Plane.{vec}
 use Rattle.sketch.specs.Lists.{every}
 use Rattle.sketch.specs.Lookup.{Found, among, Ascends}
-use Rattle.sketch.specs.Drawing.{pointIds, curveIds, usesOf}
+use Rattle.sketch.specs.Drawing.{view, limits, pointIds, curveIds, usesOf}
 use Rattle.sketch.specs.Valid.{distinct, soundCurve, hasPoint}
-use Rattle.sketch.specs.Facts.{Every}
+use Rattle.sketch.specs.Facts.{Every, Valid}
 use Rattle.sketch.specs.Blanks.{noPoint, noCurve}
 use Rattle.sketch.specs.declared.Point.{Point}
 use Rattle.sketch.specs.declared.Curve.{Curve}
 use Rattle.sketch.specs.declared.CurveKind.{CurveKind}
 use Rattle.sketch.specs.declared.CurveKind.the-variants.{Line, Arc, Circle, Bezier, Conic}
+use Rattle.sketch.specs.declared.Sketch.{Sketch}
 use Rattle.sketch.proofs.CurveKind.{the-type}
 use Rattle.sketch.proofs.Bools.{and-left, and-right, at-most-or-above, never}
+use Rattle.sketch.proofs.Facts.{rising-ascends}
 use Rattle.sketch.proofs.Walks.{column-on}
+use Rattle.placed.specs.Columns.{PointColumns}
 use Rattle.relations.specs.declared.Parts.{Parts}
 use Rattle.relations.specs.Columns.{CurveColumns, Stands, Tells}
 use Rattle.relations.specs.Filled.{partsOf, partsAt, Each, CurvesLaid}
@@ -128,7 +131,7 @@ module _ {ids : List ℕ} (h : Ascends ids) {kind i j : ℕ} {number : Float} wh
 module _ {curves : List Curve} {n : ℕ} {points ids₀ kinds₀ firsts₀ seconds₀ ids kinds firsts seconds : List ℕ} {numbers₀ numbers : List Float}
     (w : CurvesLaid curves n points ids₀ kinds₀ firsts₀ seconds₀ numbers₀ ids kinds firsts seconds numbers)
     (a : n ≤ length ids) (b : n ≤ length kinds) (c : n ≤ length firsts) (d : n ≤ length seconds) (e : n ≤ length numbers) where
-  pub curve-columns : (ps : List Point) → points ≡ pointIds ps → Ascends points → Ascends (curveIds (take n curves)) → Every (soundCurve (hasPoint ps)) (take n curves)
+  curve-columns : (ps : List Point) → points ≡ pointIds ps → Ascends points → Ascends (curveIds (take n curves)) → Every (soundCurve (hasPoint ps)) (take n curves)
       → CurveColumns points (take n curves) (take n ids) (take n kinds) (take n firsts) (take n seconds) (take n numbers)
   curve-columns ps i r h s =
       record {
@@ -150,3 +153,12 @@ module _ {curves : List Curve} {n : ℕ} {points ids₀ kinds₀ firsts₀ secon
           let v : every (λ p. among p points) (usesOf (x .kind) (x .slots)) ≡ true = rw i (and-left _ (distinct (x .kind)) y) in
           rw (getD-take n kinds k 0 u, getD-take n firsts k 0 u, getD-take n seconds k 0 u, getD-take n numbers k nan u, getD-take n curves k noCurve u)
           (tells r (x .kind) (x .slots) v (w .each-kind k u) (w .each-first k u) (w .each-second k u) (w .each-number k u))
+
+-- of a sketch that is valid
+pub sketch-curves : (s : Sketch) {points ids₀ kinds₀ firsts₀ seconds₀ ids kinds firsts seconds : List ℕ} {numbers₀ numbers xs ys : List Float}
+    → CurvesLaid (s .curves) (s .ncurves) points ids₀ kinds₀ firsts₀ seconds₀ numbers₀ ids kinds firsts seconds numbers
+    → s .ncurves ≤ length ids → s .ncurves ≤ length kinds → s .ncurves ≤ length firsts → s .ncurves ≤ length seconds → s .ncurves ≤ length numbers
+    → Valid limits (view s) → PointColumns (view s .points) points xs ys
+    → CurveColumns points (view s .curves) (take (s .ncurves) ids) (take (s .ncurves) kinds) (take (s .ncurves) firsts) (take (s .ncurves) seconds) (take (s .ncurves) numbers)
+sketch-curves s w a b c d e v p =
+    curve-columns w a b c d e (view s .points) (p .ids-are) (p .rise) (rising-ascends (s .next) 0 (curveIds (view s .curves)) (v .curves-rise)) (v .curves-sound)

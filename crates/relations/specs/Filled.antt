@@ -1,5 +1,5 @@
--- What the columns hold that a sketch's tables are laid out in, for the contracts of functions that nothing outside calls. Definitions only.
-use Prim.Native.Nat.{ℕ, _<_}
+-- What the columns hold that a sketch's curves are laid out in. Definitions only.
+use Prim.Native.Nat.{ℕ, _≤_, _<_}
 use mathlib.Core.Path.{_≡_}
 use mathlib.Core.List.{List}
 use lib.ListN.{length, take, getD}
@@ -42,3 +42,9 @@ pub record CurvesLaid (curves : List Curve) (n : ℕ) (points : List ℕ) (ids�
   pub each-first : Each n 0 firsts (λ k i. Found (partsAt curves k .first) points i)
   pub each-second : Each n 0 seconds (λ k i. Found (partsAt curves k .second) points i)
   pub each-number : Each n nan numbers (λ k v. v ≡ partsAt curves k .number)
+
+-- in columns that have the room
+abbrev pub CurvesLaidOut : List Curve → ℕ → List ℕ → List ℕ → List ℕ → List ℕ → List ℕ → List Float → List ℕ → List ℕ → List ℕ → List ℕ → List Float → Type 0
+CurvesLaidOut curves n points ids₀ kinds₀ firsts₀ seconds₀ numbers₀ ids kinds firsts seconds numbers =
+    n ≤ 128 → length points ≤ 512 → n ≤ length ids₀ → n ≤ length kinds₀ → n ≤ length firsts₀ → n ≤ length seconds₀ → n ≤ length numbers₀
+    → CurvesLaid curves n points ids₀ kinds₀ firsts₀ seconds₀ numbers₀ ids kinds firsts seconds numbers

@@ -7,7 +7,7 @@ use sketch::place_near;
 ghost use mathlib.Core.Path.{_≡_};
 ghost use Prim.Native.Nat.{_≤_};
 ghost use lib.ListN.{length, take};
-ghost use Rattle.relations.specs.Filled.{CurvesLaid, partsOf};
+ghost use Rattle.relations.specs.Filled.{CurvesLaid, CurvesLaidOut, partsOf};
 
 // What columns take from a kind.
 fn parts_of(kind: CurveKind) -> Parts
@@ -43,7 +43,7 @@ fn parts_of(kind: CurveKind) -> Parts
 
 // Ids, kinds, places of the first two points and radii of the first n curves; `near` gets guesses of the curves' places, as
 // `near_points` has of the points'.
-pub(crate) fn lay_curves<'a, 'b>(
+fn lay<'a, 'b>(
     curves: [Curve; 128],
     n: usize,
     points: &'a [u32],
@@ -72,4 +72,54 @@ pub(crate) fn lay_curves<'a, 'b>(
         note(near, id, i);
         i += 1;
     }
+}
+
+// The same where the columns have the room.
+pub fn lay_curves<'a, 'b>(
+    curves: [Curve; 128],
+    n: usize,
+    points: &'a [u32],
+    near_points: &'a [u16],
+    ids: &'b mut [u32],
+    near: &'b mut [u16],
+    kinds: &'b mut [u8],
+    firsts: &'b mut [u32],
+    seconds: &'b mut [u32],
+    numbers: &'b mut [f64],
+)
+    ensures { λ r. ⌜ CurvesLaidOut curves n (now (points .entry)) (now (ids .entry)) (now (kinds .entry)) (now (firsts .entry)) (now (seconds .entry)) (now (numbers .entry)) (now (ids .exit)) (now (kinds .exit)) (now (firsts .exit)) (now (seconds .exit)) (now (numbers .exit)) ⌝ }
+{
+    if n > 128 {
+        return;
+    }
+    if points.len() > 512 {
+        return;
+    }
+    if n > ids.len() {
+        return;
+    }
+    if n > kinds.len() {
+        return;
+    }
+    if n > firsts.len() {
+        return;
+    }
+    if n > seconds.len() {
+        return;
+    }
+    if n > numbers.len() {
+        return;
+    }
+    lay(
+        curves,
+        n,
+        points,
+        near_points,
+        ids,
+        near,
+        kinds,
+        firsts,
+        seconds,
+        numbers,
+    );
 }

@@ -4,7 +4,6 @@ mod measures;
 mod reading;
 mod search;
 
-use columns::lay_curves;
 use geom::Vec2;
 use placed::lay_points;
 use sketch::Id;
@@ -14,10 +13,10 @@ ghost use Prim.Native.Nat.{_≤_};
 ghost use lib.ListN.{length};
 ghost use Rattle.sketch.specs.Drawing.{view, limits};
 ghost use Rattle.sketch.specs.Facts.{Sized, Valid};
-ghost use Rattle.sketch.specs.Valid.{sketchFault};
 ghost use Rattle.relations.specs.Met.{firstUnmet};
 ghost use Rattle.placed.specs.Columns.{PointColumns};
 ghost use Rattle.relations.specs.Answer.{Told};
+pub use columns::lay_curves;
 pub use search::first_unmet;
 
 // A sketch that no image gives, by its number; else that all relations are met, or the place of one that is not.
@@ -51,26 +50,6 @@ pub fn unmet(sk: Sketch) -> Verdict
     let fault = sketch::fault(sk);
     if fault != 0 {
         return Verdict::Refused(fault);
-    }
-    let k = search_all(sk);
-    if k < sk.nrelations {
-        return Verdict::Unmet(k);
-    }
-    Verdict::Met
-}
-
-// As `unmet`, of a sketch that an image gives, without testing that again. Of any other it may tell anything.
-pub fn unmet_untested(sk: Sketch) -> Verdict
-    ensures { λ r. ⌜ (sketchFault sk ≡ 0 → Told sk r) ⌝ }
-{
-    if 512 < sk.npoints {
-        return Verdict::Refused(3);
-    }
-    if 128 < sk.ncurves {
-        return Verdict::Refused(3);
-    }
-    if 256 < sk.nrelations {
-        return Verdict::Refused(3);
     }
     let k = search_all(sk);
     if k < sk.nrelations {

@@ -2,9 +2,8 @@
 use native.Mathlib.Omega.{arith}
 use lib.ListN.{length-take}
 use borrow.Author.Needs.{needs}
-use Rattle.sketch.specs.Drawing.{view, curveIds}
-use Rattle.relations.proofs.Laid.{curve-columns}
-use Rattle.sketch.proofs.Facts.{rising-ascends}
+use Rattle.sketch.specs.Drawing.{view}
+use Rattle.relations.proofs.Laid.{sketch-curves}
 use Rattle.relations.proofs.search_from.Statement.{statement}
 use Rattle.relations.proofs.search_from.Tie as tie
 
@@ -70,11 +69,9 @@ returns c = λ v w.
     let l = c .before .before .before .before .before .before .before .before .before .before .before .before .before .before in
     let s = l .before .before .before .before .before .before .before .before .before .before .before .before in
     let k = s .args .sk in
-    let y = l .lay-curves .ensures in
     let z = s .pre .0 .curves in
-    c .first-unmet .ensures (view k .points) (view k .curves) w
-    (curve-columns y (omega arith) (omega arith) (omega arith) (omega arith) (omega arith) (view k .points) (w .ids-are) (w .rise)
-    (rising-ascends (k .next) 0 (curveIds (view k .curves)) (v .curves-rise)) (v .curves-sound))
+    let y = l .lay-curves .ensures (omega arith) (s .pre .1) (omega arith) (omega arith) (omega arith) (omega arith) (omega arith) in
+    c .first-unmet .ensures (view k .points) (view k .curves) w (sketch-curves k y (omega arith) (omega arith) (omega arith) (omega arith) (omega arith) v w)
 
 pub search-from-spec : {M : Type 1} → statement M
 search-from-spec =
