@@ -40,7 +40,7 @@ use Rattle.modify.specs.declared.Choice.the-variants.{Refused, Chosen}
 use Rattle.modify.specs.declared.Target.{Target}
 use Rattle.modify.specs.Choose.{unless, cutsOf, pickedAt, trimPlan, splitFull, atEnd, splitPlan}
 use Rattle.modify.specs.Edits.{isCircle, isFullArc, noFreeform, trimCurve, splitCurve, onCurve, onFound, choose, decided, editOf, editSketch, Answered}
-use Rattle.modify.specs.Told.{Sought, Begun, Tested}
+use Rattle.modify.specs.Told.{Sought, Begun, Tested, isExtend, isSplit}
 use Rattle.modify.proofs.Suits.{trim-chosen, split-chosen}
 use Rattle.modify.proofs.Planned.{edit-valid}
 
@@ -60,9 +60,6 @@ module _ (s : Sketch) (id : ℕ) (p : Vec2) where
     unfolding need unless decided onFound
     turned-curve h e op = rw (v, h, e)
 
-  pub test-fault : {n k : ℕ} → n ≡ sketchFault s → (n ≡ 0 → ⊥) → Tested s id p (record { refusal = n; place = k })
-  test-fault e h = record { passed = λ z. absurd (h z); turned = λ z op. turned-fault e h op }
-
   pub test-pick : {n k : ℕ} → n ≡ sketchFault s → n ≡ 0 → okPlace p ≡ false → Tested s id p (record { refusal = 9; place = k })
   test-pick e z h = record { passed = λ q. absurd (omega arith); turned = λ q op. turned-pick (sym e ∙ z) h op }
 
@@ -74,15 +71,15 @@ module _ (s : Sketch) (id : ℕ) (p : Vec2) where
 
 -- ---- refusals
 
-module _ (op : Operation) (s : Sketch) (t : ℕ) (p : Vec2) (trims : op ≡ Extend → ⊥) where
-  pub answered-refused : {r : Edited} {n : ℕ} → r .sketch ≡ s → r .refusal ≡ n → (n ≡ 0 → ⊥) → editSketch op s t p ≡ refused n → Answered op s t p r
-  answered-refused {r} {n} e f h o =
+module _ (op : Operation) (s : Sketch) (t : ℕ) (p : Vec2) where
+  pub answered-refused : {r : Edited} {n : ℕ} → (op ≡ Extend → n ≤ 12) → r .sketch ≡ s → r .refusal ≡ n → (n ≡ 0 → ⊥) → editSketch op s t p ≡ refused n → Answered op s t p r
+  answered-refused {r} {n} low e f h o =
       record {
         outcome = rw f (ap (λ b. pick b (accepted (view (r .sketch)) (r .removed)) (refused n)) (ne-eqb n 0 h)) ∙ sym o;
         kept = λ z. e;
         valid = λ z. absurd (h (sym f ∙ z));
-        unmet-before = λ z. absurd (trims z);
-        unmet-after = λ z. absurd (trims z);
+        unmet-before = λ z q. absurd (omega (arith, low z, f, q));
+        unmet-after = λ z q. absurd (omega (arith, low z, f, q));
       }
 
 -- a test that turns away, or what comes after it
@@ -155,7 +152,7 @@ module _ (splits : Bool) (s : Sketch) (k : ℕ) (p : Vec2) (v : sketchFault s �
   unfolding decided
   edit-turned {r} {n} {o} e f g h =
       let u : onCurve it (view s) p c ≡ Refused n = sym e ∙ f in
-      answered-refused it s (c .id) p (not-extend splits) g h (curve-number (view s) p c splits n u) (sketch-is ∙ ap (decided allMet limits (view s) (c .id)) u)
+      answered-refused it s (c .id) p (λ z. absurd (not-extend splits z)) g h (curve-number (view s) p c splits n u) (sketch-is ∙ ap (decided allMet limits (view s) (c .id)) u)
 
   pub edit-suited : {plan : Plan} {o : Choice} → o ≡ onCurve it (view s) p c → o ≡ Chosen plan → Suited (view s) c plan
   edit-suited {plan} e f = curve-suited (view s) p c splits plan (sym e ∙ f)
@@ -176,6 +173,20 @@ module _ (splits : Bool) (s : Sketch) (k : ℕ) (p : Vec2) (v : sketchFault s �
         unmet-before = λ z. absurd (not-extend splits z);
         unmet-after = λ z. absurd (not-extend splits z);
       }
+
+-- ---- by the operation
+
+pub extend-is : (op : Operation) → isExtend op ≡ true → op ≡ Extend
+unfolding isExtend
+extend-is Trim e = cc
+extend-is Split e = cc
+extend-is Extend e = refl
+
+pub cut-is : (op : Operation) → isExtend op ≡ false → cond (isSplit op) Split Trim ≡ op
+unfolding isExtend isSplit
+cut-is Trim e = refl
+cut-is Split e = refl
+cut-is Extend e = cc
 
 -- ---- from the tests on
 

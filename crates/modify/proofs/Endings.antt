@@ -36,7 +36,7 @@ use Rattle.relations.specs.Met.{allMet}
 use Rattle.carry.specs.declared.Pin.{Pin}
 use Rattle.carry.specs.declared.Plan.the-variants as P
 use Rattle.carry.specs.Tables.{uses, others}
-use Rattle.carry.specs.Steps.{endsAt}
+use Rattle.carry.specs.Steps.{endsAt, isLine}
 use Rattle.carry.specs.Suited.{targetOf}
 use Rattle.chains.proofs.Pins.{ends-there}
 use Rattle.modify.specs.declared.Choice.{Choice}
@@ -160,16 +160,20 @@ not-line d p c (Circle m r) h = refl
 not-line d p c (Bezier n) h = refl
 not-line d p c (Conic i m j rho) h = refl
 
+pub unmet-line : (d : Drawing) (p : Vec2) (c : Curve) (k : CurveKind) → isLine k ≡ true → allMet d ≡ false → Refused 13 ≡ extendCurve d p c k
+unfolding extendCurve unless
+unmet-line d p c (Line i j) h m = sym (rw m)
+unmet-line d p c (Arc o i j) h m = never h
+unmet-line d p c (Circle o r) h m = never h
+unmet-line d p c (Bezier n) h m = never h
+unmet-line d p c (Conic i o j rho) h m = never h
+
 module _ (d : Drawing) (p : Vec2) (c : Curve) {k : CurveKind} {i j : ℕ} (e : k ≡ Line i j) where
   abbrev nearer : Bool
   nearer = le (distance p (at (d .points) j)) (distance p (at (d .points) i))
 
   abbrev ended : Choice
   ended = extendEnd d (c .id) p (support (at (d .points) i) (at (d .points) j) nearer) (cond nearer j i)
-
-  pub unmet-line : allMet d ≡ false → Refused 13 ≡ extendCurve d p c k
-  unfolding extendCurve unless
-  unmet-line m = sym (ap (extendCurve d p c) e ∙ ap (λ b. unless b 13 ended) m)
 
   module _ (m : allMet d ≡ true) {a b : Vec2} (u : a ≡ at (d .points) i) (v : b ≡ at (d .points) j) {da db : Float} (x : db ≡ distance p b) (y : da ≡ distance p a) where
     as-measured : extendEnd d (c .id) p (support a b (le db da)) (cond (le db da) j i) ≡ extendCurve d p c k
@@ -178,6 +182,14 @@ module _ (d : Drawing) (p : Vec2) (c : Curve) {k : CurveKind} {i j : ℕ} (e : k
 
     pub line-at : {end : ℕ} → end ≡ cond (le db da) j i → {r : Choice} → r ≡ extendEnd d (c .id) p (support a b (le db da)) end → r ≡ extendCurve d p c k
     line-at h f = f ∙ ap (extendEnd d (c .id) p (support a b (le db da))) h ∙ as-measured
+
+-- a curve is found by its id
+pub target-found : (s : Sketch) (place : ℕ) → Sized s → Valid limits (view s) → place < s .ncurves → length (s .curves) ≡ 128
+    → curveIn (view s .curves) (targetOf s place .id) ≡ some (targetOf s place)
+target-found s place z v h g =
+    let q : place < length (view s .curves) = rw length-take (omega (arith, z .curves)) in
+    subst (λ (x : Curve). curveIn (view s .curves) (x .id) ≡ some x) (getD-take (s .ncurves) (s .curves) place noCurve h)
+    (curve-at noCurve (view s .curves) place (rising-ascends (s .next) 0 (curveIds (view s .curves)) (v .curves-rise)) q)
 
 module _ (s : Sketch) (place : ℕ) {i j : ℕ} (e : targetOf s place .kind ≡ Line i j) where
   pub stands-at : (atB : Bool) {end : ℕ} → end ≡ cond atB j i → (r : Ending) → EndsAt s atB end r → EndStands s place r
@@ -189,15 +201,9 @@ module _ (s : Sketch) (place : ℕ) {i j : ℕ} (e : targetOf s place .kind ≡ 
       either false = refl
 
   module _ (z : Sized s) (v : Valid limits (view s)) (h : place < s .ncurves) (g : length (s .curves) ≡ 128) where
-    found : curveIn (view s .curves) (targetOf s place .id) ≡ some (targetOf s place)
-    found =
-        let q : place < length (view s .curves) = rw length-take (omega (arith, z .curves)) in
-        subst (λ (x : Curve). curveIn (view s .curves) (x .id) ≡ some x) (getD-take (s .ncurves) (s .curves) place noCurve h)
-        (curve-at noCurve (view s .curves) place (rising-ascends (s .next) 0 (curveIds (view s .curves)) (v .curves-rise)) q)
-
     line-ends : (among i (pointIds (view s .points)) ≡ true) × (among j (pointIds (view s .points)) ≡ true)
     unfolding endsAt
-    line-ends = ends-there limits (view s) v (targetOf s place .id) (i, j) (ap endsAt found ∙ ends-line e)
+    line-ends = ends-there limits (view s) v (targetOf s place .id) (i, j) (ap endsAt (target-found s place z v h g) ∙ ends-line e)
 
     pub line-end : (atB : Bool) {end : ℕ} → end ≡ cond atB j i → among end (pointIds (view s .points)) ≡ true
     line-end true e = ap (λ (x : ℕ). among x (pointIds (view s .points))) e ∙ line-ends .1

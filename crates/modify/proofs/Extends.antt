@@ -5,13 +5,14 @@ use mathlib.Core.List.{List, [], _∷_}
 use Prim.Native.Nat.{ℕ, zero, suc, _≤_, _<_}
 use native.Mathlib.Omega.{arith}
 use lib.Dec.{eqb, ltb}
-use lib.ListN.{length, getD}
+use lib.ListN.{length, getD, set}
+use lib.Ieee.{Float}
 use types.Run.{OneOf}
 use denote.Enum.Declared.{tagOf}
 use borrow.Author.Tests.{eq-eqb, ne-eqb, eqb-true}
 use Rattle.geom.specs.declared.Vec2.{Vec2}
+use Rattle.sketch.specs.declared.Point.{Point}
 use Rattle.sketch.specs.declared.Curve.{Curve}
-use Rattle.sketch.specs.declared.CurveKind.the-variants.{Line}
 use Rattle.sketch.proofs.CurveKind as K
 use Rattle.sketch.specs.declared.Relation.the-variants.{Coincident, PointOnCurve}
 use Rattle.sketch.specs.declared.Sketch.{Sketch}
@@ -23,10 +24,9 @@ use Rattle.sketch.specs.Valid.{sketchFault}
 use Rattle.sketch.proofs.Bools.{never}
 use Rattle.sketch.proofs.Sketches.{sketch-valid, valid-sketch}
 use Rattle.image.specs.declared.Operation.the-variants.{Extend}
-use Rattle.relations.specs.declared.Verdict.{Verdict}
-use Rattle.relations.specs.declared.Verdict.the-variants as Verdicts
+use Rattle.placed.specs.Columns.{PointColumns}
 use Rattle.relations.specs.Met.{met, allMet, failsAt, unmetAt}
-use Rattle.relations.specs.Answer.{Told}
+use Rattle.relations.specs.Columns.{CurveColumns}
 use Rattle.carry.specs.declared.Pin.{Pin}
 use Rattle.carry.specs.declared.Pin.the-variants.{On, At}
 use Rattle.carry.specs.declared.Plan.the-variants as P
@@ -34,7 +34,7 @@ use Rattle.carry.specs.declared.Edited.{Edited}
 use Rattle.carry.specs.declared.Removed.{Removed}
 use Rattle.carry.specs.Outcome.{Outcome, refused, accepted, _then_, need}
 use Rattle.carry.specs.Tables.{okPlace, movePoint, withRelation}
-use Rattle.carry.specs.Steps.{pin, nothing}
+use Rattle.carry.specs.Steps.{pin, nothing, isLine}
 use Rattle.carry.specs.CarryOut.{settle, extended, carried, carryAt, carryOut}
 use Rattle.carry.specs.Suited.{Pinned, outcomeOf, targetOf}
 use Rattle.carry.proofs.Tables.{look-some}
@@ -46,13 +46,14 @@ use Rattle.modify.specs.declared.Target.{Target}
 use Rattle.modify.specs.Choose.{unless}
 use Rattle.modify.specs.Edits.{onCurve, onFound, decided, editSketch, editUntested, Answered}
 use Rattle.modify.specs.Extend.{extendCurve}
-use Rattle.modify.specs.Told.{Begun, Tested}
-use Rattle.modify.specs.Seek.{choiceOf, EndStands, MovedTo, Settled}
-use Rattle.modify.proofs.Answers.{test-fault}
+use Rattle.modify.specs.Told.{Begun, BegunAt, Tested}
+use Rattle.modify.specs.Seek.{choiceOf, EndStands, MovedTo, Shown, Settled}
+use Rattle.modify.proofs.Answers.{answered-refused}
 use Rattle.modify.proofs.Moves.{extend-chosen}
 use Rattle.modify.proofs.Refusing as F
-use Rattle.modify.proofs.Refusing.{extend-number, fault-low}
-use Rattle.modify.proofs.Endings.{others-than-line, not-line, unmet-line}
+use Rattle.modify.proofs.Refusing.{extend-number}
+use Rattle.modify.proofs.Endings.{others-than-line, not-line, unmet-line, target-found}
+use Rattle.modify.proofs.Shifts.{columns-moved}
 
 -- ---- whether the relations are met after the move
 
@@ -72,54 +73,50 @@ not-every f (a ∷ l) (suc k) h = go (f a) (not-every f l k h)
 pub not-all : (d : Drawing) (k : ℕ) → unmetAt d k ≡ true → allMet d ≡ false
 not-all d k h = not-every (met (d .points) (d .curves)) (d .relations) k h
 
-module _ {s : Sketch} {e r : Edited} where
-  pub settled-out : (e .refusal ≡ 0 → ⊥) → r .sketch ≡ s → r .refusal ≡ e .refusal → Settled s e r
-  settled-out h f g = record { turned = λ q. (g, f); met = λ q. absurd (h q); unmet = λ q. absurd (h q) }
+module _ {s : Sketch} {e : Edited} where
+  pub settled-out : (e .refusal ≡ 0 → ⊥) → e .sketch ≡ s → Settled s e e
+  settled-out h f = record { turned = λ q. (refl, f); met = λ q. absurd (h q); unmet = λ q. absurd (h q) }
 
-  module _ (z : e .refusal ≡ 0) (x : Verdict) (t : Told (e .sketch) x) where
-    pub settled-never : sketchFault (e .sketch) ≡ 0 → {n : ℕ} → x ≡ Verdicts.Refused n → Settled s e r
-    settled-never v {n} q = let u = subst (Told (e .sketch)) q t in absurd (u .1 (u .0 ∙ v))
-
-    pub settled-unmet : {k : ℕ} → x ≡ Verdicts.Unmet k → r .sketch ≡ s → r .refusal ≡ 19 → r .place ≡ k → Settled s e r
-    settled-unmet {k} q f g p =
-        let u = subst (Told (e .sketch)) q t in
+  module _ (z : e .refusal ≡ 0) where
+    pub settled-unmet : {r : Edited} {k : ℕ} → unmetAt (view (e .sketch)) k ≡ true → r .sketch ≡ s → r .refusal ≡ 19 → r .place ≡ k → Settled s e r
+    settled-unmet {r} {k} u f g p =
         record {
           turned = λ y. absurd (y z);
-          met = λ y a. never (sym (not-all (view (e .sketch)) k (u .1)) ∙ a);
-          unmet = λ y a. record { number = g; sketch = f; place = ap (unmetAt (view (e .sketch))) p ∙ u .1 };
+          met = λ y a. never (sym (not-all (view (e .sketch)) k u) ∙ a);
+          unmet = λ y a. record { number = g; sketch = f; place = ap (unmetAt (view (e .sketch))) p ∙ u };
         }
 
-pub settled-met : {s : Sketch} {e : Edited} → e .refusal ≡ 0 → (x : Verdict) → Told (e .sketch) x → x ≡ Verdicts.Met → Settled s e e
-settled-met {s} {e} z x t q =
-    let u = subst (Told (e .sketch)) q t in
-    record { turned = λ y. absurd (y z); met = λ y a. refl; unmet = λ y a. never (sym a ∙ u .1) }
+    pub settled-met : allMet (view (e .sketch)) ≡ true → Settled s e e
+    settled-met u = record { turned = λ y. absurd (y z); met = λ y a. refl; unmet = λ y a. never (sym a ∙ u) }
 
--- ---- what a verdict tells
+-- ---- a move is refused by 24 or 22; else it alters no curve, and no point but the one
 
-pub told-met : (s : Sketch) (x : Verdict) → Told s x → x ≡ Verdicts.Met → (sketchFault s ≡ 0) × (allMet (view s) ≡ true) × Sized s × Valid limits (view s)
-told-met s x t q = let u = subst (Told s) q t in let v = sketch-valid s (u .0) in (u .0, u .1, v .0, v .1)
+abbrev Kept : Drawing → Outcome Drawing Removed → Type 0
+Kept dr (refused n) = n ≡ 13 → ⊥
+Kept dr (accepted d′ told) = (d′ .points ≡ dr .points) × (d′ .curves ≡ dr .curves)
 
-pub told-unmet : (s : Sketch) (x : Verdict) {k : ℕ} → Told s x → x ≡ Verdicts.Unmet k → (sketchFault s ≡ 0) × (unmetAt (view s) k ≡ true) × Sized s
-told-unmet s x t q = let u = subst (Told s) q t in (u .0, u .1, sketch-valid s (u .0) .0)
-
--- ---- a move is refused by 24 or 22
-
-number-of : (b : Bool) (dr : Drawing) (i : ℕ) (pn : Pin) (n : ℕ) → need b 24 (pin limits dr i pn then (λ d′ u. accepted d′ nothing)) ≡ refused n → n ≡ 13 → ⊥
+move-keeps : (b : Bool) (dr : Drawing) (i : ℕ) (pn : Pin) → Kept dr (need b 24 (pin limits dr i pn then (λ d′ u. accepted d′ nothing)))
 unfolding need pin
-number-of false dr i pn n q y = let u : 24 ≡ n = cc in omega arith
-number-of true dr i (On b) n q y = go (ltb (length (dr .relations)) 256) q
+move-keeps false dr i pn = λ y. omega arith
+move-keeps true dr i (On b) = go (ltb (length (dr .relations)) 256)
   where
-    go : (b′ : Bool) → (need b′ 22 (accepted (withRelation dr (PointOnCurve i b)) (tt {0})) then (λ d′ u. accepted d′ nothing)) ≡ refused n → ⊥
-    go true q = let u : _≡_ {A = ℕ} 0 1 = cc in omega arith
-    go false q = let u : 22 ≡ n = cc in omega arith
-number-of true dr i (At b) n q y = go (eqb b i) (ltb (length (dr .relations)) 256) q
+    go : (b′ : Bool) → Kept dr (need b′ 22 (accepted (withRelation dr (PointOnCurve i b)) (tt {0})) then (λ d′ u. accepted d′ nothing))
+    go true = (refl, refl)
+    go false = λ y. omega arith
+move-keeps true dr i (At b) = go (eqb b i) (ltb (length (dr .relations)) 256)
   where
-    go : (b″ b′ : Bool) → (pick b″ (accepted dr (tt {0})) (need b′ 22 (accepted (withRelation dr (Coincident i b)) (tt {0}))) then (λ d′ u. accepted d′ nothing)) ≡ refused n → ⊥
-    go true b′ q = let u : _≡_ {A = ℕ} 0 1 = cc in omega arith
-    go false true q = let u : _≡_ {A = ℕ} 0 1 = cc in omega arith
-    go false false q = let u : 22 ≡ n = cc in omega arith
+    go : (b″ b′ : Bool) → Kept dr (pick b″ (accepted dr (tt {0})) (need b′ 22 (accepted (withRelation dr (Coincident i b)) (tt {0}))) then (λ d′ u. accepted d′ nothing))
+    go true b′ = (refl, refl)
+    go false true = (refl, refl)
+    go false false = λ y. omega arith
 
 -- ---- answers
+
+pub move-place : (s : Sketch) (place : ℕ) {y : Ending} {atB : Bool} {k : ℕ} {v : Vec2} {q : Pin} → y ≡ N.Move atB k v q → EndStands s place y → k < s .npoints
+move-place s place g h = subst (EndStands s place) g h .2
+
+pub begun-at : (s : Sketch) (k : ℕ) (p : Vec2) → sketchFault s ≡ 0 → Sized s → Valid limits (view s) → k < s .ncurves → okPlace p ≡ true → length (s .curves) ≡ 128 → BegunAt s k p
+begun-at s k p v z w h q g = record { valid = v; picked = q; place = h; found = target-found s k z w h g }
 
 module _ (s : Sketch) (t : ℕ) (p : Vec2) where
   turned-by : {r : Edited} (n : ℕ) → r .sketch ≡ s → r .refusal ≡ n → F.Told n → editSketch Extend s t p ≡ refused n
@@ -132,19 +129,6 @@ module _ (s : Sketch) (t : ℕ) (p : Vec2) where
         unmet-before = λ z q. absurd (h .not-13 (sym f ∙ q));
         unmet-after = λ z q d′ told a. absurd (u d′ told (sym f ∙ q) a);
       }
-
-  -- by a test that comes before the choice
-  pub turned-early : {r : Edited} (n : ℕ) → r .sketch ≡ s → r .refusal ≡ n → n ≤ 12 → (n ≡ 0 → ⊥) → editSketch Extend s t p ≡ refused n → Answered Extend s t p r
-  turned-early n e f h k o = turned-by n e f (record { some-number = k; not-13 = λ z. omega arith }) o (λ d′ told z. absurd (omega arith))
-
-  pub fault-turned : {r : Edited} (x : Verdict) {n : ℕ} → Told s x → x ≡ Verdicts.Refused n → r .sketch ≡ s → r .refusal ≡ n → Answered Extend s t p r
-  fault-turned {r} x {n} w q e f =
-      let u = subst (Told s) q w in
-      let l = fault-low s in
-      turned-early n e f (omega (arith, u .0)) (u .1) (test-fault s t p {n = n} {k = 0} (u .0) (u .1) .turned (u .1) Extend)
-
-  pub test-turned : {r : Edited} {x : Target} → Tested s t p x → x .refusal ≤ 9 → (x .refusal ≡ 0 → ⊥) → r .sketch ≡ s → r .refusal ≡ x .refusal → Answered Extend s t p r
-  test-turned {r} {x} w l h e f = turned-early (x .refusal) e f (omega arith) h (w .turned h Extend)
 
   module _ {x : Target} (w : Begun s t p x) where
     abbrev c : Curve
@@ -165,12 +149,12 @@ module _ (s : Sketch) (t : ℕ) (p : Vec2) where
 
     pub kind-turned : {r : Edited} → OneOf others-than-line (tagOf K.the-type (c .kind)) → r .sketch ≡ s → r .refusal ≡ 10 → Answered Extend s t p r
     unfolding decided
-    kind-turned h e f = turned-early 10 e f (omega arith) (λ z. omega arith) (sketch-is ∙ ap (decided allMet limits d t) (sym (not-line d p c (c .kind) h)))
+    kind-turned h e f = answered-refused Extend s t p (λ z. omega arith) e f (λ z. omega arith) (sketch-is ∙ ap (decided allMet limits d t) (sym (not-line d p c (c .kind) h)))
 
-    pub unmet-turned : {r : Edited} {i j k : ℕ} → c .kind ≡ Line i j → unmetAt d k ≡ true → r .sketch ≡ s → r .refusal ≡ 13 → r .place ≡ k → Answered Extend s t p r
+    pub unmet-turned : {r : Edited} {k : ℕ} → isLine (c .kind) ≡ true → unmetAt d k ≡ true → r .sketch ≡ s → r .refusal ≡ 13 → r .place ≡ k → Answered Extend s t p r
     unfolding decided
-    unmet-turned {r} {i} {j} {k} q h e f g =
-        let o : editSketch Extend s t p ≡ refused 13 = sketch-is ∙ ap (decided allMet limits d t) (sym (unmet-line d p c q (not-all d k h))) in
+    unmet-turned {r} {k} q h e f g =
+        let o : editSketch Extend s t p ≡ refused 13 = sketch-is ∙ ap (decided allMet limits d t) (sym (unmet-line d p c (c .kind) q (not-all d k h))) in
         record {
           outcome = ap (λ m. pick (eqb m 0) (accepted (view (r .sketch)) (r .removed)) (refused m)) f ∙ sym o;
           kept = λ z. e;
@@ -192,9 +176,6 @@ module _ (s : Sketch) (t : ℕ) (p : Vec2) where
       module _ {atB : Bool} {k : ℕ} {v : Vec2} {q : Pin} (g : y ≡ N.Move atB k v q) (h : EndStands s (x .place) y) where
         stands : EndStands s (x .place) (N.Move atB k v q)
         stands = subst (EndStands s (x .place)) g h
-
-        pub move-place : k < s .npoints
-        move-place = stands .2
 
         plan-is : extendCurve d p c (c .kind) ≡ Chosen (P.Move atB v q)
         plan-is = sym o ∙ ap choiceOf g
@@ -233,6 +214,9 @@ module _ (s : Sketch) (t : ℕ) (p : Vec2) where
           unfolding decided
           plain-is = untested-is ∙ ap (decided (λ d′. true) limits d t) plan-is ∙ carries (λ d′. true)
 
+          kept : Kept (movePoint (getD (s .points) k noPoint .id) v d) (outcomeOf e)
+          kept = subst (Kept (movePoint (getD (s .points) k noPoint .id) v d)) (sym (a .outcome)) (move-keeps (okPlace v) (movePoint (getD (s .points) k noPoint .id) v d) (getD (s .points) k noPoint .id) q)
+
           -- ---- accepted before the test
 
           module _ (z : e .refusal ≡ 0) where
@@ -248,6 +232,16 @@ module _ (s : Sketch) (t : ℕ) (p : Vec2) where
                 valid-sketch (e .sketch) (a .sized z)
                 (plan-valid (λ d′. true) limits d (sketch-valid s (w .valid) .1) t (P.Move atB v q) (view (e .sketch)) (e .removed) (carries (λ d′. true) ∙ judged-is (λ d′. true)) pinned)
 
+            -- the columns with that end moved are those of what was made
+            pub moved-shown : Sized s → length (s .points) ≡ 512 → {ids : List ℕ} {xs ys : List Float} {lines kinds firsts seconds : List ℕ} {numbers : List Float}
+                → Shown d ids xs ys lines kinds firsts seconds numbers → Shown (view (e .sketch)) ids (set xs k (v .x)) (set ys k (v .y)) lines kinds firsts seconds numbers
+            moved-shown sized long {ids} {xs} {ys} {lines} {kinds} {firsts} {seconds} {numbers} w′ =
+                let u = subst (Kept (movePoint (getD (s .points) k noPoint .id) v d)) out kept in
+                record {
+                  points = subst (λ (l : List Point). PointColumns l ids (set xs k (v .x)) (set ys k (v .y))) (sym (u .0)) (columns-moved s k v sized (sketch-valid s (w .valid) .1) (stands .2) long (w′ .points));
+                  curves = subst (λ (l : List Curve). CurveColumns ids l lines kinds firsts seconds numbers) (sym (u .1)) (w′ .curves);
+                }
+
           -- ---- refused before it
 
           module _ (z : e .refusal ≡ 0 → ⊥) where
@@ -258,7 +252,7 @@ module _ (s : Sketch) (t : ℕ) (p : Vec2) where
             judged-out f = ap (λ (x : Outcome Drawing Removed). x then (λ d′ told. need (f d′) 19 (accepted d′ told))) turned-out
 
             not-13 : e .refusal ≡ 13 → ⊥
-            not-13 = number-of (okPlace v) (movePoint (getD (s .points) k noPoint .id) v d) (getD (s .points) k noPoint .id) q (e .refusal) (sym (a .outcome) ∙ turned-out)
+            not-13 = subst (Kept (movePoint (getD (s .points) k noPoint .id) v d)) turned-out kept
 
           pub move-answered : {r : Edited} → Settled s e r → Answered Extend s t p r
           unfolding need

@@ -6,9 +6,11 @@ use Prim.Native.Nat.{ℕ, zero, suc, _+_, _≤_, _<_}
 use native.Mathlib.Numerals.{add-one}
 use native.Mathlib.Omega.{arith}
 use lib.Dec.{eqb, ltb}
-use lib.ListN.{length, take, getD, set, length-map, length-take}
-use lib.Seq.{getD-take, take-suc-set, take-set-lt}
-use borrow.Author.Tests.{eq-eqb, ne-eqb, eqb-true, lt-ltb, le-ltb}
+use lib.ListN.{length, take, getD, set, length-map, length-set, length-take}
+use lib.Seq.{getD-take, getD-set-same, getD-set-other, map-set-same, take-suc-set, take-set-lt}
+use lib.Ieee.{Float, nan}
+use borrow.Author.Tests.{eq-eqb, ne-eqb, eqb-true, eqb-false, lt-ltb, le-ltb}
+use Rattle.geom.specs.Plane.{vec}
 use Rattle.geom.specs.declared.Vec2.{Vec2}
 use Rattle.sketch.specs.declared.Point.{Point}
 use Rattle.sketch.specs.declared.Relation.{Relation}
@@ -20,6 +22,7 @@ use Rattle.sketch.specs.Blanks.{noPoint}
 use Rattle.sketch.specs.Drawing.{Drawing, view, limits, pointIds}
 use Rattle.sketch.specs.Facts.{Rising, Sized, Valid}
 use Rattle.sketch.proofs.Bools.{never}
+use Rattle.placed.specs.Columns.{spot, PointColumns}
 use Rattle.carry.specs.declared.Pin.{Pin}
 use Rattle.carry.specs.declared.Pin.the-variants.{On, At}
 use Rattle.carry.specs.declared.Edited.{Edited}
@@ -55,6 +58,42 @@ module _ (v : Vec2) (i : ℕ) where
       let u = above n (p .id) l k (h .2) (omega arith) in
       ap (λ t. p ∷ t) (one-moved n (p .id) l k (h .2) (omega arith) e) ∙ ap (λ x. x ∷ map (moved i v) l) (sym (stays p (λ j. omega arith)))
 
+-- ---- the columns, with an entry replaced
+
+as-many : {ps : List Point} {ids : List ℕ} {xs ys : List Float} → PointColumns ps ids xs ys → length ids ≡ length ps
+as-many {ps} w = ap length (w .ids-are) ∙ length-map ps (λ (x : Point). x .id)
+
+pub columns-fit : {d : Drawing} {ids : List ℕ} {xs ys : List Float} → Valid limits d → PointColumns (d .points) ids xs ys → length ids ≤ 512
+columns-fit v w = omega (arith, v .points-fit, as-many w)
+
+pub columns-within : (s : Sketch) (k : ℕ) → Sized s → k < s .npoints → length (s .points) ≡ 512 → {ids : List ℕ} {xs ys : List Float} → PointColumns (view s .points) ids xs ys
+    → (k < length xs) × (k < length ys)
+columns-within s k z h g w =
+    let q : k < length (view s .points) = rw length-take (omega (arith, z .points)) in
+    (omega (arith, w .xs-long, as-many w), omega (arith, w .ys-long, as-many w))
+
+module _ {ps : List Point} {ids : List ℕ} {xs ys : List Float} (w : PointColumns ps ids xs ys) (k : ℕ) (p : Point) (h : k < length ps) (e : p .id ≡ getD ps k noPoint .id) where
+  columns-put : PointColumns (set ps k p) ids (set xs k (p .x)) (set ys k (p .y))
+  columns-put =
+      record {
+        ids-are = w .ids-are ∙ sym (map-set-same (λ (x : Point). x .id) ps k p noPoint e);
+        rise = w .rise;
+        xs-long = rw length-set (w .xs-long);
+        ys-long = rw length-set (w .ys-long);
+        each = λ j q. at j (rw length-set at q) (eqb j k) refl;
+      }
+    where
+      at : (j : ℕ) → j < length ps → (b : Bool) → eqb j k ≡ b
+          → spot (set xs k (p .x)) (set ys k (p .y)) j ≡ vec (getD (set ps k p) j noPoint .x) (getD (set ps k p) j noPoint .y)
+      at j q true u =
+          let z : j ≡ k = eqb-true j k u in
+          let a : k < length xs = omega (arith, w .xs-long, as-many w) in
+          let b : k < length ys = omega (arith, w .ys-long, as-many w) in
+          rw (z, getD-set-same xs k (p .x) nan a, getD-set-same ys k (p .y) nan b, getD-set-same ps k p noPoint h)
+      at j q false u =
+          let z = eqb-false j k u in
+          rw (getD-set-other xs k j (p .x) nan z, getD-set-other ys k j (p .y) nan z, getD-set-other ps k j p noPoint z) (w .each j q)
+
 outcome-is : (r : Edited) → r .refusal ≡ 0 → outcomeOf r ≡ accepted (view (r .sketch)) (r .removed)
 outcome-is r e = ap (λ n. pick (eqb n 0) (accepted (view (r .sketch)) (r .removed)) (refused n)) e
 
@@ -72,6 +111,13 @@ module _ (s : Sketch) (k : ℕ) (v : Vec2) (z : Sized s) (d : Valid limits (view
       take-set-lt (s .npoints) (s .points) k (record { id = p .id; fixed = p .fixed; x = v .x; y = v .y }) h
       ∙ ap (set (view s .points) k) (sym u ∙ ap (moved (p .id) v) (sym e))
       ∙ one-moved v (p .id) (s .next) 0 (view s .points) k (d .points-rise) (rw length-take (omega (arith, z .points))) (ap (λ (x : Point). x .id) e)
+
+  pub columns-moved : {ids : List ℕ} {xs ys : List Float} → PointColumns (view s .points) ids xs ys
+      → PointColumns (map (moved (p .id) v) (view s .points)) ids (set xs k (v .x)) (set ys k (v .y))
+  columns-moved {ids} {xs} {ys} w =
+      let q : Point = record { id = p .id; fixed = p .fixed; x = v .x; y = v .y } in
+      subst (λ (l : List Point). PointColumns l ids (set xs k (v .x)) (set ys k (v .y))) (sym (take-set-lt (s .npoints) (s .points) k q h) ∙ points-moved)
+      (columns-put w k q (rw length-take (omega (arith, z .points))) (ap (λ (x : Point). x .id) (sym (getD-take (s .npoints) (s .points) k noPoint h))))
 
   abbrev shiftedTo : Sketch
   shiftedTo =

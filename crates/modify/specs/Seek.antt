@@ -21,6 +21,7 @@ use Rattle.sketch.specs.Facts.{Sized}
 use Rattle.placed.specs.Placed.{at}
 use Rattle.placed.specs.Columns.{PointColumns}
 use Rattle.relations.specs.Met.{allMet, unmetAt}
+use Rattle.relations.specs.Columns.{CurveColumns}
 use Rattle.support.specs.declared.Hits.{Hits}
 use Rattle.support.specs.declared.Hits.the-variants as H
 use Rattle.support.specs.Pieces.{pointsOf, Met}
@@ -145,6 +146,11 @@ pub record AddedTo (d : Drawing) (relation : Relation) (r : Edited) : Type 0 whe
 pub record MovedTo (d : Drawing) (end : ℕ) (v : Vec2) (w : Pin) (r : Edited) : Type 0 where
   pub outcome : outcomeOf r ≡ need (okPlace v) 24 (pin limits (movePoint end v d) end w then (λ d′ u. accepted d′ nothing))
   pub sized : r .refusal ≡ 0 → Sized (r .sketch)
+
+-- the columns are those of the drawing's points and curves
+pub record Shown (d : Drawing) (ids : List ℕ) (xs ys : List Float) (lines kinds firsts seconds : List ℕ) (numbers : List Float) : Type 0 where
+  pub points : PointColumns (d .points) ids xs ys
+  pub curves : CurveColumns ids (d .curves) lines kinds firsts seconds numbers
 
 pub record Undone (s : Sketch) (e r : Edited) : Type 0 where
   pub number : r .refusal ≡ 19

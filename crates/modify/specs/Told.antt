@@ -1,7 +1,7 @@
 -- What the functions that nothing outside calls tell: curves by place, shapes and pins from columns of points, and the first tests of an edit.
 use Prim.Native.Nat.{ℕ, _≤_, _<_}
 use mathlib.Core.Path.{_≡_}
-use mathlib.Core.Bool.{Bool, true, not}
+use mathlib.Core.Bool.{Bool, true, false, not}
 use mathlib.Core.List.{List}
 use mathlib.Core.Option.{Option, some, none}
 use lib.ListN.{take, getD}
@@ -16,6 +16,7 @@ use Rattle.sketch.specs.Blanks.{noCurve}
 use Rattle.sketch.specs.Drawing.{Drawing, view, limits, curveIn}
 use Rattle.sketch.specs.Valid.{sketchFault}
 use Rattle.image.specs.declared.Operation.{Operation}
+use Rattle.image.specs.declared.Operation.the-variants.{Trim, Split, Extend}
 use Rattle.placed.specs.Columns.{PointColumns}
 use Rattle.placed.specs.Placed.{shapeOf}
 use Rattle.cuts.specs.declared.Other.{Other}
@@ -84,6 +85,20 @@ pub record Begun (s : Sketch) (id : ℕ) (p : Vec2) (r : Target) : Type 0 where
   pub place : r .place < s .ncurves
   pub found : curveIn (view s .curves) id ≡ some (targetOf s (r .place))
 
+-- the curve at place k is the one
+abbrev pub BegunAt : Sketch → ℕ → Vec2 → Type 0
+BegunAt s k p = Begun s (targetOf s k .id) p (record { refusal = 0; place = k })
+
 pub record Tested (s : Sketch) (id : ℕ) (p : Vec2) (r : Target) : Type 0 where
   pub passed : r .refusal ≡ 0 → Begun s id p r
   pub turned : (r .refusal ≡ 0 → ⊥) → (op : Operation) → editSketch op s id p ≡ refused (r .refusal)
+
+unfoldable pub isExtend : Operation → Bool
+isExtend Trim = false
+isExtend Split = false
+isExtend Extend = true
+
+unfoldable pub isSplit : Operation → Bool
+isSplit Trim = false
+isSplit Split = true
+isSplit Extend = false

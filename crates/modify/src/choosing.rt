@@ -9,7 +9,6 @@ use cuts::Neighbours;
 use cuts::Other;
 use geom::Vec2;
 use placed::Outline;
-use placed::lay_points;
 use placed::shape_of;
 use shape::Shape;
 use sketch::Curve;
@@ -24,6 +23,7 @@ ghost use Rattle.shape.specs.Measures.{point};
 ghost use Rattle.sketch.specs.Drawing.{view, limits};
 ghost use Rattle.sketch.specs.Facts.{Sized, Valid};
 ghost use Rattle.image.specs.declared.Operation.the-variants as Operation;
+ghost use Rattle.placed.specs.Columns.{PointColumns};
 ghost use Rattle.cuts.specs.Cuts.{cutPoints};
 ghost use Rattle.cuts.specs.Bracket.{bracket};
 ghost use Rattle.carry.specs.Suited.{targetOf};
@@ -212,29 +212,21 @@ fn choose_from<'a>(
     trim_from(c, curves, n, at, ids, near, xs, ys)
 }
 
-// What is chosen for the curve at a place: of a split or (false) of a trim.
-pub(crate) fn choose(sk: Sketch, splits: bool, place: usize, at: Vec2) -> Choice
-    requires { ⌜ Sized sk × Valid limits (view sk) × (place < sk .ncurves) ⌝ }
+// What is chosen for the curve at a place, from columns of the points: of a split or (false) of a trim.
+pub(crate) fn choose<'a>(
+    sk: Sketch,
+    splits: bool,
+    place: usize,
+    at: Vec2,
+    ids: &'a [u32],
+    near: &'a [u16],
+    xs: &'a [f64],
+    ys: &'a [f64],
+) -> Choice
+    requires { ⌜ Sized sk × Valid limits (view sk) × (place < sk .ncurves) × PointColumns (view sk .points) (now ids) (now xs) (now ys) ⌝ }
     ensures { λ r. ⌜ r ≡ onCurve (cond splits Operation.Split Operation.Trim) (view sk) at (targetOf sk place) ⌝ }
 {
-    let points = sk.points;
-    let n = sk.npoints;
-    let mut ids = [0u32; 512];
-    let mut near = [0u16; 1024];
-    let mut xs = [0.0; 512];
-    let mut ys = [0.0; 512];
-    lay_points(points, n, &mut ids, &mut near, &mut xs, &mut ys);
     let curves = sk.curves;
     let c = curves[place];
-    choose_from(
-        c,
-        curves,
-        sk.ncurves,
-        splits,
-        at,
-        &ids[..n],
-        &near,
-        &xs[..n],
-        &ys[..n],
-    )
+    choose_from(c, curves, sk.ncurves, splits, at, ids, near, xs, ys)
 }

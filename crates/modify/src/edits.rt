@@ -1,59 +1,93 @@
-// Trim and split of a sketch.
+// Trim, split and extend of a sketch.
 use crate::Choice;
 use crate::choosing::choose;
+use crate::extending::extended;
+use crate::moving::answer;
 use crate::picking::picked;
 use carry::Edited;
-use carry::Removed;
 use carry::carry_out;
 use geom::Vec2;
+use image::Operation;
+use placed::lay_points;
 use sketch::Sketch;
 ghost use mathlib.Core.Path.{_≡_};
-ghost use mathlib.Core.Bool.{cond};
 ghost use Rattle.image.specs.declared.Operation.the-variants as Operation;
 ghost use Rattle.modify.specs.Edits.{Answered};
+ghost use Rattle.modify.specs.Told.{isExtend, isSplit};
 
-// A refusal leaves the sketch as it was.
-fn refused(sk: Sketch, number: u8) -> Edited
-    ensures { λ r. ⌜ (r .sketch ≡ sk) × (r .refusal ≡ number) ⌝ }
+fn is_extend(operation: Operation) -> bool
+    ensures { λ r. ⌜ r ≡ isExtend operation ⌝ }
 {
-    Edited {
-        sketch: sk,
-        refusal: number,
-        place: 0,
-        removed: Removed {
-            curve: 0,
-            from: 0,
-            to: 0,
-        },
+    match operation {
+        Operation::Trim => false,
+        Operation::Split => false,
+        Operation::Extend => true,
     }
 }
 
-// A trim or (true) a split. The sketch is tested here and no deeper: each function that takes it on costs a copy.
-fn edit(sk: Sketch, splits: bool, id: u32, at: Vec2) -> Edited
-    ensures { λ r. ⌜ Answered (cond splits Operation.Split Operation.Trim) sk id at r ⌝ }
+fn is_split(operation: Operation) -> bool
+    ensures { λ r. ⌜ r ≡ isSplit operation ⌝ }
+{
+    match operation {
+        Operation::Trim => false,
+        Operation::Split => true,
+        Operation::Extend => false,
+    }
+}
+
+// One edit: the tests that all begin with, and then its own. All edits go through here, and the sketch is tested here and no deeper: each
+// function that takes it on costs a copy.
+pub fn edit(operation: Operation, sk: Sketch, curve: u32, at: Vec2) -> Edited
+    ensures { λ r. ⌜ Answered operation sk curve at r ⌝ }
 {
     let fault = sketch::fault(sk);
     if fault != 0 {
-        return refused(sk, fault);
+        return answer(sk, fault, 0);
     }
-    let t = picked(sk, id, at);
+    let t = picked(sk, curve, at);
     if t.refusal != 0 {
-        return refused(sk, t.refusal);
+        return answer(sk, t.refusal, 0);
     }
-    match choose(sk, splits, t.place, at) {
-        Choice::Refused(number) => refused(sk, number),
-        Choice::Chosen(plan) => carry_out(sk, t.place, plan),
+    let points = sk.points;
+    let n = sk.npoints;
+    let mut ids = [0u32; 512];
+    let mut near = [0u16; 1024];
+    let mut xs = [0.0; 512];
+    let mut ys = [0.0; 512];
+    lay_points(points, n, &mut ids, &mut near, &mut xs, &mut ys);
+    let place = t.place;
+    if is_extend(operation) {
+        return extended(sk, place, at, &ids[..n], &near, &mut xs[..n], &mut ys[..n]);
+    }
+    match choose(
+        sk,
+        is_split(operation),
+        place,
+        at,
+        &ids[..n],
+        &near,
+        &xs[..n],
+        &ys[..n],
+    ) {
+        Choice::Refused(number) => answer(sk, number, 0),
+        Choice::Chosen(plan) => carry_out(sk, place, plan),
     }
 }
 
-pub fn trim(sk: Sketch, id: u32, at: Vec2) -> Edited
-    ensures { λ r. ⌜ Answered Operation.Trim sk id at r ⌝ }
+pub fn trim(sk: Sketch, curve: u32, at: Vec2) -> Edited
+    ensures { λ r. ⌜ Answered Operation.Trim sk curve at r ⌝ }
 {
-    edit(sk, false, id, at)
+    edit(Operation::Trim, sk, curve, at)
 }
 
-pub fn split(sk: Sketch, id: u32, at: Vec2) -> Edited
-    ensures { λ r. ⌜ Answered Operation.Split sk id at r ⌝ }
+pub fn split(sk: Sketch, curve: u32, at: Vec2) -> Edited
+    ensures { λ r. ⌜ Answered Operation.Split sk curve at r ⌝ }
 {
-    edit(sk, true, id, at)
+    edit(Operation::Split, sk, curve, at)
+}
+
+pub fn extend(sk: Sketch, curve: u32, at: Vec2) -> Edited
+    ensures { λ r. ⌜ Answered Operation.Extend sk curve at r ⌝ }
+{
+    edit(Operation::Extend, sk, curve, at)
 }

@@ -4,17 +4,14 @@ use crate::Nearest;
 use crate::Reached;
 use crate::moving::answer;
 use crate::moving::move_end;
-use crate::picking::picked;
 use crate::pins::pin_at;
 use crate::seeking::seek;
 use crate::users::used_beside;
 use carry::Edited;
 use geom::Vec2;
-use placed::lay_points;
 use placed::point_at;
-use relations::Verdict;
-use relations::unmet;
-use relations::unmet_untested;
+use relations::first_unmet;
+use relations::lay_curves;
 use shape::Shape;
 use sketch::Curve;
 use sketch::CurveKind;
@@ -29,11 +26,14 @@ ghost use Rattle.sketch.specs.Facts.{Sized, Valid};
 ghost use Rattle.sketch.specs.Valid.{sketchFault};
 ghost use Rattle.image.specs.declared.Operation.the-variants as Operation;
 ghost use Rattle.placed.specs.Columns.{PointColumns};
-ghost use Rattle.relations.specs.Met.{allMet, unmetAt};
+ghost use Rattle.relations.specs.Met.{allMet};
+ghost use Rattle.carry.specs.Tables.{okPlace};
+ghost use Rattle.carry.specs.Steps.{isLine};
 ghost use Rattle.carry.specs.Suited.{targetOf};
 ghost use Rattle.modify.specs.Edits.{Answered};
+ghost use Rattle.modify.specs.Told.{BegunAt};
 ghost use Rattle.modify.specs.Extend.{extendCurve};
-ghost use Rattle.modify.specs.Seek.{support, choiceOf, EndHeld, EndChosen, EndStands, Settled};
+ghost use Rattle.modify.specs.Seek.{support, choiceOf, EndHeld, EndChosen, EndStands, Shown, Settled};
 
 // The end at place k goes to the nearest hit: 18 where there is none, 17 where another lies as near.
 fn held<'a>(
@@ -147,76 +147,164 @@ fn ending_from<'a>(
     )
 }
 
-fn ending(sk: Sketch, place: usize, at: Vec2) -> Ending
-    requires { ⌜ Sized sk × Valid limits (view sk) × (place < sk .ncurves) × (allMet (view sk) ≡ true) ⌝ }
-    ensures { λ r. ⌜ (choiceOf r ≡ extendCurve (view sk) at (targetOf sk place) (targetOf sk place .kind)) × EndStands sk place r ⌝ }
-{
-    let points = sk.points;
-    let n = sk.npoints;
-    let mut ids = [0u32; 512];
-    let mut near = [0u16; 1024];
-    let mut xs = [0.0; 512];
-    let mut ys = [0.0; 512];
-    lay_points(points, n, &mut ids, &mut near, &mut xs, &mut ys);
-    ending_from(sk, place, at, &ids[..n], &near, &xs[..n], &ys[..n])
-}
-
-// What was moved, if the relations are met then; else 19 with the place of one that is not, and the sketch as it was.
-fn settled(sk: Sketch, e: Edited) -> Edited
-    requires { ⌜ (e .refusal ≡ 0 → sketchFault (e .sketch) ≡ 0) ⌝ }
+// What was moved, if the relations are met then by its columns; else 19 with the place of one that is not, and the sketch as it was.
+fn settled<'a>(
+    sk: Sketch,
+    e: Edited,
+    ids: &'a [u32],
+    near: &'a [u16],
+    xs: &'a [f64],
+    ys: &'a [f64],
+    curves: &'a [u32],
+    near_curves: &'a [u16],
+    kinds: &'a [u8],
+    firsts: &'a [u32],
+    seconds: &'a [u32],
+    numbers: &'a [f64],
+) -> Edited
+    requires { ⌜ ((e .refusal ≡ 0 → ⊥) → e .sketch ≡ sk) × (e .refusal ≡ 0 → (sketchFault (e .sketch) ≡ 0) × Shown (view (e .sketch)) (now ids) (now xs) (now ys) (now curves) (now kinds) (now firsts) (now seconds) (now numbers)) ⌝ }
     ensures { λ r. ⌜ Settled sk e r ⌝ }
 {
     if e.refusal != 0 {
-        return answer(sk, e.refusal, 0);
+        return e;
     }
     let t = e.sketch;
-    match unmet_untested(t) {
-        Verdict::Refused(number) => answer(sk, number, 0),
-        Verdict::Met => e,
-        Verdict::Unmet(k) => answer(sk, 19, k),
+    let relations = t.relations;
+    let n = t.nrelations;
+    let k = first_unmet(
+        relations,
+        n,
+        ids,
+        near,
+        xs,
+        ys,
+        curves,
+        near_curves,
+        kinds,
+        firsts,
+        seconds,
+        numbers,
+    );
+    if k < n {
+        return answer(sk, 19, k);
     }
+    e
 }
 
-// Where all relations are met.
-fn extended(sk: Sketch, id: u32, at: Vec2) -> Edited
-    requires { ⌜ (sketchFault sk ≡ 0) × (allMet (view sk) ≡ true) × Sized sk × Valid limits (view sk) ⌝ }
-    ensures { λ r. ⌜ Answered Operation.Extend sk id at r ⌝ }
+// The extend of a line, from columns of the points and of the curves: 13 with the place of a relation that is not met.
+fn extended_from<'a, 'b>(
+    sk: Sketch,
+    place: usize,
+    at: Vec2,
+    ids: &'a [u32],
+    near: &'a [u16],
+    xs: &'b mut [f64],
+    ys: &'b mut [f64],
+    curves: &'a [u32],
+    near_curves: &'a [u16],
+    kinds: &'a [u8],
+    firsts: &'a [u32],
+    seconds: &'a [u32],
+    numbers: &'a [f64],
+) -> Edited
+    requires { ⌜ BegunAt sk place at × (isLine (targetOf sk place .kind) ≡ true) × Shown (view sk) (now ids) (now xs) (now ys) (now curves) (now kinds) (now firsts) (now seconds) (now numbers) ⌝ }
+    ensures { λ r. ⌜ Answered Operation.Extend sk (targetOf sk place .id) at r ⌝ }
 {
-    let t = picked(sk, id, at);
-    if t.refusal != 0 {
-        return answer(sk, t.refusal, 0);
+    let relations = sk.relations;
+    let n = sk.nrelations;
+    let broken = first_unmet(
+        relations,
+        n,
+        ids,
+        near,
+        &xs[..],
+        &ys[..],
+        curves,
+        near_curves,
+        kinds,
+        firsts,
+        seconds,
+        numbers,
+    );
+    if broken < n {
+        return answer(sk, 13, broken);
     }
-    match ending(sk, t.place, at) {
+    match ending_from(sk, place, at, ids, near, &xs[..], &ys[..]) {
         Ending::Refused(number) => answer(sk, number, 0),
-        Ending::Move(_, k, v, pin) => settled(sk, move_end(sk, k, v, pin)),
+        Ending::Move(_, k, v, pin) => {
+            let e = move_end(sk, k, v, pin);
+            xs[k] = v.x;
+            ys[k] = v.y;
+            settled(
+                sk,
+                e,
+                ids,
+                near,
+                &xs[..],
+                &ys[..],
+                curves,
+                near_curves,
+                kinds,
+                firsts,
+                seconds,
+                numbers,
+            )
+        }
     }
 }
 
-// Where the relation at the place `broken` is not met: 10 for anything but a line, and then 13.
-fn barred(sk: Sketch, id: u32, at: Vec2, broken: usize) -> Edited
-    requires { ⌜ (sketchFault sk ≡ 0) × (unmetAt (view sk) broken ≡ true) × Sized sk ⌝ }
-    ensures { λ r. ⌜ Answered Operation.Extend sk id at r ⌝ }
+// The extend of the curve at a place, from columns of the points: 10 for anything but a line. The columns are the caller's to lose: the
+// moved end is put into them.
+pub(crate) fn extended<'a, 'b>(
+    sk: Sketch,
+    place: usize,
+    at: Vec2,
+    ids: &'a [u32],
+    near: &'a [u16],
+    xs: &'b mut [f64],
+    ys: &'b mut [f64],
+) -> Edited
+    requires { ⌜ (sketchFault sk ≡ 0) × Sized sk × Valid limits (view sk) × (place < sk .ncurves) × (okPlace at ≡ true) × PointColumns (view sk .points) (now ids) (now xs) (now ys) ⌝ }
+    ensures { λ r. ⌜ Answered Operation.Extend sk (targetOf sk place .id) at r ⌝ }
 {
-    let t = picked(sk, id, at);
-    if t.refusal != 0 {
-        return answer(sk, t.refusal, 0);
-    }
-    let place = t.place;
-    let c = sk.curves[place];
+    let table = sk.curves;
+    let c = table[place];
     let kind = c.kind;
     let CurveKind::Line(_, _) = kind else {
         return answer(sk, 10, 0);
     };
-    answer(sk, 13, broken)
-}
-
-// The end of a line nearer to the pick moves on to the nearest other curve that it meets, and is held there.
-pub fn extend(sk: Sketch, id: u32, at: Vec2) -> Edited
-    ensures { λ r. ⌜ Answered Operation.Extend sk id at r ⌝ }
-{
-    match unmet(sk) {
-        Verdict::Refused(number) => answer(sk, number, 0),
-        Verdict::Met => extended(sk, id, at),
-        Verdict::Unmet(k) => barred(sk, id, at, k),
-    }
+    let n = sk.ncurves;
+    let mut curves = [0u32; 128];
+    let mut near_curves = [0u16; 1024];
+    let mut kinds = [0u8; 128];
+    let mut firsts = [0u32; 128];
+    let mut seconds = [0u32; 128];
+    let mut numbers = [0.0; 128];
+    lay_curves(
+        table,
+        n,
+        ids,
+        near,
+        &mut curves,
+        &mut near_curves,
+        &mut kinds,
+        &mut firsts,
+        &mut seconds,
+        &mut numbers,
+    );
+    extended_from(
+        sk,
+        place,
+        at,
+        ids,
+        near,
+        xs,
+        ys,
+        &curves[..n],
+        &near_curves,
+        &kinds[..n],
+        &firsts[..n],
+        &seconds[..n],
+        &numbers[..n],
+    )
 }

@@ -1,6 +1,5 @@
 // Trim, split and extend: the tests, the choice of a plan, and carrying it out.
 mod choosing;
-mod dispatch;
 mod edits;
 mod extending;
 mod gathering;
@@ -14,10 +13,10 @@ mod users;
 use carry::Pin;
 use carry::Plan;
 use cuts::Other;
-pub use dispatch::edit;
+pub use edits::edit;
+pub use edits::extend;
 pub use edits::split;
 pub use edits::trim;
-pub use extending::extend;
 use geom::Vec2;
 
 // What is to be done with the curve that was picked, or the number of a refusal.

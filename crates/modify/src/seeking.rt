@@ -103,6 +103,10 @@ fn best_of<'a>(
     requires { ⌜ (n ≤ length (now hx)) × (n ≤ length (now hy)) ⌝ }
     ensures { λ r. ⌜ bestIn r ≡ bestOf (support a b atb) by (bestIn best) (pointsOf (take n (now (hx .entry))) (take n (now (hy .entry)))) ⌝ }
 {
+    // most curves are not met, and need no root
+    if n == 0 {
+        return best;
+    }
     let l = a.dist(b);
     let mut now = best;
     let mut i: usize = 0;

@@ -1,73 +1,139 @@
-use mathlib.Core.Path.{_≡_, refl, sym, ap, _∙_}
-use Rattle.modify.proofs.Extends.{test-turned, choice-turned, move-place, moved-valid, move-answered}
+-- `modify::extending::extended` meets its contract.
+use mathlib.Core.Path.{_≡_, ap}
 use native.Mathlib.Omega.{arith}
+use lib.ListN.{length, length-take}
 use borrow.Author.Needs.{needs}
+use Rattle.relations.proofs.Laid.{sketch-curves}
+use Rattle.carry.proofs.Loops.{length-mapped}
+use Rattle.carry.specs.Steps.{isLine}
+use Rattle.modify.proofs.Shifts.{columns-fit}
+use Rattle.modify.proofs.Extends.{begun-at, kind-turned}
 use Rattle.modify.proofs.extending.extended.Statement.{statement}
 use Rattle.modify.proofs.extending.extended.Tie as tie
-use Rattle.modify.proofs.extending.extended.Reads as reads
-use Rattle.modify.proofs.extending.extended.Lts as lts
-use Rattle.modify.proofs.extending.ending.Reads as ending-reads
-use Rattle.modify.proofs.picking.picked.Reads as picked-reads
-use Rattle.modify.proofs.extending.settled.Reads as settled-reads
-use Rattle.modify.proofs.moving.answer.Reads as answer-reads
-use Rattle.modify.proofs.moving.move_end.Reads as move-end-reads
 
--- src/extending.rt:186:9
-picked-requires : tie.Need-picked-requires
-picked-requires c κs = search needs
+long : (c : tie.Start) → length (c .args .sk .curves) ≡ 128
+long c = search (needs, length-mapped)
 
--- src/extending.rt:188:9
+mul-c : tie.Need-mul-c
+mul-c c = search needs
+
+array-copy-out-c : tie.Need-array-copy-out-c
+array-copy-out-c c = search needs
+
+enum-told : tie.Need-enum-told
+enum-told c = search needs
+
 answer-requires : tie.Need-answer-requires
 answer-requires c κs = search needs
 
--- src/extending.rt:188:9
 returns : tie.Need-returns
-returns c = test-turned _ _ _ (c .before .before .before .picked .ensures .0) (c .before .before .before .picked .ensures .1) (c .before .if1 .taken) (c .answer .ensures .0) (c .answer .ensures .1)
+returns c =
+    let s = c .before .before .before .before .before .before .before .before in
+    let r = s .pre in
+    kind-turned _ _ _ (begun-at (s .args .sk) (s .args .place) (s .args .at) (r .0) (r .1) (r .2) (r .3) (r .4) (long s)) (c .before .match .keys2) (c .answer .ensures .0) (c .answer .ensures .1)
 
--- src/extending.rt:190:11
-ending-requires : tie.Need-ending-requires
-ending-requires c κs = (c .before .before .before .pre .2, c .before .before .before .pre .3, (c .before .before .picked .ensures .0 .passed (search needs)) .place, c .before .before .before .pre .1)
+slice-aggregate-lay-curves : tie.Need-slice-aggregate-lay-curves
+slice-aggregate-lay-curves c = search needs
 
--- src/extending.rt:191:25
-enum-known-number : tie.Need-enum-known-number
-enum-known-number c = search needs
+slice-aggregate-lay-curves-2 : tie.Need-slice-aggregate-lay-curves-2
+slice-aggregate-lay-curves-2 c = search needs
 
--- src/extending.rt:191:36
-answer-requires-2 : tie.Need-answer-requires-2
-answer-requires-2 c κs = search needs
+slice-aggregate-lay-curves-3 : tie.Need-slice-aggregate-lay-curves-3
+slice-aggregate-lay-curves-3 c = search needs
 
--- src/extending.rt:192:25
-enum-known-k : tie.Need-enum-known-k
-enum-known-k c = search needs
+slice-aggregate-lay-curves-4 : tie.Need-slice-aggregate-lay-curves-4
+slice-aggregate-lay-curves-4 c = search needs
 
--- src/extending.rt:192:51
-move-end-requires : tie.Need-move-end-requires
-move-end-requires c κs = (c .before .before .before .before .before .before .before .pre .2, c .before .before .before .before .before .before .before .pre .3, move-place _ _ _ (c .before .before .before .before .before .before .picked .ensures .0 .passed (search needs)) (c .before .before .before .before .before .before .before .pre .1) _ (c .before .before .before .ending .ensures .0) (c .before .k .given .1) (c .before .before .before .ending .ensures .1))
+slice-aggregate-lay-curves-5 : tie.Need-slice-aggregate-lay-curves-5
+slice-aggregate-lay-curves-5 c = search needs
 
--- src/extending.rt:192:39
-settled-requires : tie.Need-settled-requires
-settled-requires c κs = λ z. moved-valid _ _ _ (c .before .before .before .before .before .before .before .picked .ensures .0 .passed (search needs)) (c .before .before .before .before .before .before .before .before .pre .1) _ (c .before .before .before .before .ending .ensures .0) (c .before .before .k .given .1) (c .before .before .before .before .ending .ensures .1) (c .move-end .ensures) z
+slice-aggregate-lay-curves-6 : tie.Need-slice-aggregate-lay-curves-6
+slice-aggregate-lay-curves-6 c = search needs
 
--- src/extending.rt:182:1
+lay-curves-requires : tie.Need-lay-curves-requires
+lay-curves-requires c κs = search needs
+
+array-share-prefix-curves : tie.Need-array-share-prefix-curves
+array-share-prefix-curves c = search needs
+
+slice-aggregate-extended-from : tie.Need-slice-aggregate-extended-from
+slice-aggregate-extended-from c = rw length-take (omega arith)
+
+slice-aggregate-extended-from-2 : tie.Need-slice-aggregate-extended-from-2
+slice-aggregate-extended-from-2 c = search needs
+
+array-share-prefix-kinds : tie.Need-array-share-prefix-kinds
+array-share-prefix-kinds c = search needs
+
+slice-aggregate-extended-from-3 : tie.Need-slice-aggregate-extended-from-3
+slice-aggregate-extended-from-3 c = rw length-take (omega arith)
+
+array-share-prefix-firsts : tie.Need-array-share-prefix-firsts
+array-share-prefix-firsts c = search needs
+
+slice-aggregate-extended-from-4 : tie.Need-slice-aggregate-extended-from-4
+slice-aggregate-extended-from-4 c = rw length-take (omega arith)
+
+array-share-prefix-seconds : tie.Need-array-share-prefix-seconds
+array-share-prefix-seconds c = search needs
+
+slice-aggregate-extended-from-5 : tie.Need-slice-aggregate-extended-from-5
+slice-aggregate-extended-from-5 c = rw length-take (omega arith)
+
+array-share-prefix-numbers : tie.Need-array-share-prefix-numbers
+array-share-prefix-numbers c = search needs
+
+slice-aggregate-extended-from-6 : tie.Need-slice-aggregate-extended-from-6
+slice-aggregate-extended-from-6 c = rw length-take (omega arith)
+
+extended-from-requires : tie.Need-extended-from-requires
+extended-from-requires c κs =
+    let s = c .before .before .before .before .before .before .before .before .before .before .before .before .before .before .before .before .before .before .before .before .before .before .before .before .before .before .before .before .before in
+    let r = s .pre in
+    let z = r .1 .curves in
+    let l = c .before .before .before .before .before .before .before .before .before .before .before .before .before .before .lay-curves .ensures (omega arith) (columns-fit (r .2) (r .5)) (omega arith) (omega arith) (omega arith) (omega arith) (omega arith) in (
+      begun-at (s .args .sk) (s .args .place) (s .args .at) (r .0) (r .1) (r .2) (r .3) (r .4) (long s),
+      ap isLine (c .before .before .before .before .before .before .before .before .before .before .before .before .before .before .before .before .before .before .before .before .before .enum-told .given .1),
+      record { points = r .5; curves = sketch-curves (s .args .sk) l (omega arith) (omega arith) (omega arith) (omega arith) (omega arith) (r .2) (r .5) },
+    )
+
+same-length : tie.Need-same-length
+same-length c = search needs
+
+same-length-2 : tie.Need-same-length-2
+same-length-2 c = search needs
+
 returns-2 : tie.Need-returns-2
-returns-2 c = choice-turned _ _ _ (c .before .before .before .before .before .before .before .picked .ensures .0 .passed (search needs)) (c .before .before .before .before .before .before .before .before .pre .1) _ (c .before .before .before .before .ending .ensures .0) (c .before .before .number .given .1) (c .answer2 .ensures .0) (c .answer2 .ensures .1)
-
--- src/extending.rt:182:1
-returns-3 : tie.Need-returns-3
-returns-3 c = move-answered _ _ _ (c .before .before .before .before .before .before .before .before .picked .ensures .0 .passed (search needs)) (c .before .before .before .before .before .before .before .before .before .pre .1) _ (c .before .before .before .before .before .ending .ensures .0) (c .before .before .before .k .given .1) (c .before .before .before .before .before .ending .ensures .1) (c .before .move-end .ensures) (c .settled .ensures)
+returns-2 c = c .before .before .before .before .extended-from .ensures
 
 pub extended-spec : {M : Type 1} → statement M
 extended-spec =
     tie.close
     (tie.spec
-    picked-requires
+    mul-c
+    array-copy-out-c
+    enum-told
     answer-requires
     returns
-    ending-requires
-    enum-known-number
-    answer-requires-2
-    enum-known-k
-    move-end-requires
-    settled-requires
-    returns-2
-    returns-3)
+    slice-aggregate-lay-curves
+    slice-aggregate-lay-curves-2
+    slice-aggregate-lay-curves-3
+    slice-aggregate-lay-curves-4
+    slice-aggregate-lay-curves-5
+    slice-aggregate-lay-curves-6
+    lay-curves-requires
+    array-share-prefix-curves
+    slice-aggregate-extended-from
+    slice-aggregate-extended-from-2
+    array-share-prefix-kinds
+    slice-aggregate-extended-from-3
+    array-share-prefix-firsts
+    slice-aggregate-extended-from-4
+    array-share-prefix-seconds
+    slice-aggregate-extended-from-5
+    array-share-prefix-numbers
+    slice-aggregate-extended-from-6
+    extended-from-requires
+    same-length
+    same-length-2
+    returns-2)

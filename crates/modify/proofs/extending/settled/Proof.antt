@@ -1,60 +1,43 @@
-use mathlib.Core.Path.{_≡_, refl, sym, ap, _∙_}
-use Rattle.modify.proofs.Extends.{settled-out, settled-never, settled-unmet, settled-met}
-use native.Mathlib.Omega.{arith}
+-- `modify::extending::settled` meets its contract.
+use mathlib.Core.Path.{_≡_, sym, _∙_}
+use lib.ListN.{length, length-map}
 use borrow.Author.Needs.{needs}
+use Rattle.sketch.specs.Drawing.{view}
+use Rattle.relations.proofs.Verdicts.{told-met, told-unmet}
+use Rattle.modify.proofs.Extends.{settled-out, settled-unmet, settled-met}
 use Rattle.modify.proofs.extending.settled.Statement.{statement}
 use Rattle.modify.proofs.extending.settled.Tie as tie
-use Rattle.modify.proofs.extending.settled.Reads as reads
-use Rattle.modify.proofs.extending.settled.Lts as lts
-use Rattle.modify.proofs.moving.answer.Reads as answer-reads
+
+long : (c : tie.Start) → length (c .args .e .sketch .relations) ≡ 256
+long c = sym (length-map (c .args .e .sketch .relations) _) ∙ c .good .1 .0 .1 .1 .0 .1 .1 .1 .1 .1 .1 .1 .1 .0 .1 .0 .1
+
+returns : tie.Need-returns
+returns c = settled-out (c .if1 .taken) (c .before .before .before .before .before .before .before .before .before .before .before .before .pre .0 (c .if1 .taken))
+
+first-unmet-requires : tie.Need-first-unmet-requires
+first-unmet-requires c κs = search needs
 
 answer-requires : tie.Need-answer-requires
 answer-requires c κs = search needs
 
-returns : tie.Need-returns
-returns c = settled-out (c .before .if1 .taken) (c .answer .ensures .0) (c .answer .ensures .1)
-
-unmet-untested-requires : tie.Need-unmet-untested-requires
-unmet-untested-requires c κs = search needs
-
-enum-known-number : tie.Need-enum-known-number
-enum-known-number c = search needs
-
-answer-requires-2 : tie.Need-answer-requires-2
-answer-requires-2 c κs = search needs
-
-enum-told : tie.Need-enum-told
-enum-told c = search needs
-
-enum-known-k : tie.Need-enum-known-k
-enum-known-k c = search needs
-
-answer-requires-3 : tie.Need-answer-requires-3
-answer-requires-3 c κs = search needs
-
 returns-2 : tie.Need-returns-2
 returns-2 c =
-    let valid = c .before .before .before .before .before .before .before .before .pre (search needs) in
-    settled-never (search needs) _ (c .before .before .before .before .unmet-untested .ensures valid) valid (c .before .before .number .given .1)
+    let s = c .before .before .before .before .before .before .before .before .before .before .before .before .before .before .before .before .before in
+    let z = c .before .before .before .before .before .if1 .left in
+    let w = s .pre .1 z in
+    let t = s .args .e .sketch in
+    let k = c .before .before .first-unmet .ensures (view t .points) (view t .curves) (w .1 .points) (w .1 .curves) in
+    settled-unmet z (told-unmet t (w .0) (long s) k (c .before .if2 .taken) .1) (c .answer .ensures .0) (c .answer .ensures .1) (c .answer .ensures .2)
 
 returns-3 : tie.Need-returns-3
-returns-3 c = settled-met (search needs) _ (c .before .before .unmet-untested .ensures (c .before .before .before .before .before .before .pre (search needs))) (c .enum-told .given .1)
-
-returns-4 : tie.Need-returns-4
-returns-4 c = settled-unmet (search needs) _ (c .before .before .before .before .unmet-untested .ensures (c .before .before .before .before .before .before .before .before .pre (search needs))) (c .before .before .k .given .1) (c .answer3 .ensures .0) (c .answer3 .ensures .1) (c .answer3 .ensures .2)
+returns-3 c =
+    let s = c .before .before .before .before .before .before .before .before .before .before .before .before .before .before .before .before in
+    let z = c .before .before .before .before .if1 .left in
+    let w = s .pre .1 z in
+    let t = s .args .e .sketch in
+    let k = c .before .first-unmet .ensures (view t .points) (view t .curves) (w .1 .points) (w .1 .curves) in
+    settled-met z (told-met t (w .0) (long s) k (c .if2 .left) .1)
 
 pub settled-spec : {M : Type 1} → statement M
 settled-spec =
-    tie.close
-    (tie.spec
-    answer-requires
-    returns
-    unmet-untested-requires
-    enum-known-number
-    answer-requires-2
-    enum-told
-    enum-known-k
-    answer-requires-3
-    returns-2
-    returns-3
-    returns-4)
+    tie.close (tie.spec returns first-unmet-requires answer-requires returns-2 returns-3)
