@@ -214,8 +214,11 @@ module _ (s : Sketch) (t : ℕ) (p : Vec2) where
           unfolding decided
           plain-is = untested-is ∙ ap (decided (λ d′. true) limits d t) plan-is ∙ carries (λ d′. true)
 
-          kept : Kept (movePoint (getD (s .points) k noPoint .id) v d) (outcomeOf e)
-          kept = subst (Kept (movePoint (getD (s .points) k noPoint .id) v d)) (sym (a .outcome)) (move-keeps (okPlace v) (movePoint (getD (s .points) k noPoint .id) v d) (getD (s .points) k noPoint .id) q)
+          abbrev end : ℕ
+          end = getD (s .points) k noPoint .id
+
+          kept : Kept (movePoint end v d) (outcomeOf e)
+          kept = subst (Kept (movePoint end v d)) (sym (a .outcome)) (move-keeps (okPlace v) (movePoint end v d) end q)
 
           -- ---- accepted before the test
 
@@ -233,13 +236,13 @@ module _ (s : Sketch) (t : ℕ) (p : Vec2) where
                 (plan-valid (λ d′. true) limits d (sketch-valid s (w .valid) .1) t (P.Move atB v q) (view (e .sketch)) (e .removed) (carries (λ d′. true) ∙ judged-is (λ d′. true)) pinned)
 
             -- the columns with that end moved are those of what was made
-            pub moved-shown : Sized s → length (s .points) ≡ 512 → {ids : List ℕ} {xs ys : List Float} {lines kinds firsts seconds : List ℕ} {numbers : List Float}
-                → Shown d ids xs ys lines kinds firsts seconds numbers → Shown (view (e .sketch)) ids (set xs k (v .x)) (set ys k (v .y)) lines kinds firsts seconds numbers
-            moved-shown sized long {ids} {xs} {ys} {lines} {kinds} {firsts} {seconds} {numbers} w′ =
-                let u = subst (Kept (movePoint (getD (s .points) k noPoint .id) v d)) out kept in
+            pub moved-shown : Sized s → length (s .points) ≡ 512 → {ids : List ℕ} {xs ys : List Float} {curves kinds firsts seconds : List ℕ} {numbers : List Float}
+                → Shown d ids xs ys curves kinds firsts seconds numbers → Shown (view (e .sketch)) ids (set xs k (v .x)) (set ys k (v .y)) curves kinds firsts seconds numbers
+            moved-shown sized long {ids} {xs} {ys} {curves} {kinds} {firsts} {seconds} {numbers} w′ =
+                let u = subst (Kept (movePoint end v d)) out kept in
                 record {
                   points = subst (λ (l : List Point). PointColumns l ids (set xs k (v .x)) (set ys k (v .y))) (sym (u .0)) (columns-moved s k v sized (sketch-valid s (w .valid) .1) (stands .2) long (w′ .points));
-                  curves = subst (λ (l : List Curve). CurveColumns ids l lines kinds firsts seconds numbers) (sym (u .1)) (w′ .curves);
+                  curves = subst (λ (l : List Curve). CurveColumns ids l curves kinds firsts seconds numbers) (sym (u .1)) (w′ .curves);
                 }
 
           -- ---- refused before it
@@ -252,7 +255,7 @@ module _ (s : Sketch) (t : ℕ) (p : Vec2) where
             judged-out f = ap (λ (x : Outcome Drawing Removed). x then (λ d′ told. need (f d′) 19 (accepted d′ told))) turned-out
 
             not-13 : e .refusal ≡ 13 → ⊥
-            not-13 = subst (Kept (movePoint (getD (s .points) k noPoint .id) v d)) turned-out kept
+            not-13 = subst (Kept (movePoint end v d)) turned-out kept
 
           pub move-answered : {r : Edited} → Settled s e r → Answered Extend s t p r
           unfolding need

@@ -148,9 +148,9 @@ pub record MovedTo (d : Drawing) (end : ℕ) (v : Vec2) (w : Pin) (r : Edited) :
   pub sized : r .refusal ≡ 0 → Sized (r .sketch)
 
 -- the columns are those of the drawing's points and curves
-pub record Shown (d : Drawing) (ids : List ℕ) (xs ys : List Float) (lines kinds firsts seconds : List ℕ) (numbers : List Float) : Type 0 where
+pub record Shown (d : Drawing) (ids : List ℕ) (xs ys : List Float) (cids kinds firsts seconds : List ℕ) (numbers : List Float) : Type 0 where
   pub points : PointColumns (d .points) ids xs ys
-  pub curves : CurveColumns ids (d .curves) lines kinds firsts seconds numbers
+  pub curves : CurveColumns ids (d .curves) cids kinds firsts seconds numbers
 
 pub record Undone (s : Sketch) (e r : Edited) : Type 0 where
   pub number : r .refusal ≡ 19
