@@ -5,8 +5,6 @@ use mathlib.Core.List.{List, [], _∷_}
 use mathlib.Core.Option.{Option, some, none}
 use Prim.Native.Nat.{ℕ, _≤_, _<_}
 use native.Mathlib.Omega.{arith}
-use lib.Dec.{eqb}
-use lib.ListN.{getD}
 use borrow.Author.Tests.{eq-eqb, ne-eqb}
 use Rattle.geom.specs.declared.Vec2.{Vec2}
 use Rattle.shape.specs.declared.Shape.{Shape}
@@ -14,11 +12,8 @@ use Rattle.shape.specs.Measures.{isFull, point}
 use Rattle.sketch.specs.declared.Curve.{Curve}
 use Rattle.sketch.specs.declared.Sketch.{Sketch}
 use Rattle.sketch.specs.Lists.{pick}
-use Rattle.sketch.specs.Blanks.{noCurve}
 use Rattle.sketch.specs.Drawing.{Drawing, view, limits, curveIn}
-use Rattle.sketch.specs.Facts.{Sized, Valid}
 use Rattle.sketch.specs.Valid.{okCoordinate, sketchFault}
-use Rattle.sketch.proofs.Facts.{curve-at, rising-ascends}
 use Rattle.sketch.proofs.Sketches.{sketch-valid, valid-sketch}
 use Rattle.image.specs.declared.Operation.{Operation}
 use Rattle.image.specs.declared.Operation.the-variants.{Trim, Split, Extend}
@@ -29,17 +24,15 @@ use Rattle.cuts.specs.Bracket.{bracket}
 use Rattle.carry.specs.declared.Plan.{Plan}
 use Rattle.carry.specs.declared.Plan.the-variants as P
 use Rattle.carry.specs.declared.Edited.{Edited}
-use Rattle.carry.specs.declared.Removed.{Removed}
-use Rattle.carry.specs.Outcome.{Outcome, refused, accepted, need}
+use Rattle.carry.specs.Outcome.{refused, accepted, need}
 use Rattle.carry.specs.Tables.{okPlace}
-use Rattle.carry.specs.CarryOut.{carryOut}
 use Rattle.carry.specs.Suited.{Suited, outcomeOf, targetOf, CarriedOut}
 use Rattle.carry.proofs.Tables.{look-some}
 use Rattle.modify.specs.declared.Choice.{Choice}
 use Rattle.modify.specs.declared.Choice.the-variants.{Refused, Chosen}
 use Rattle.modify.specs.declared.Target.{Target}
 use Rattle.modify.specs.Choose.{unless, cutsOf, pickedAt, trimPlan, splitFull, atEnd, splitPlan}
-use Rattle.modify.specs.Edits.{isCircle, isFullArc, noFreeform, trimCurve, splitCurve, onCurve, onFound, choose, decided, editOf, editSketch, Answered}
+use Rattle.modify.specs.Edits.{isCircle, isFullArc, noFreeform, trimCurve, splitCurve, onCurve, onFound, decided, editOf, editSketch, Answered}
 use Rattle.modify.specs.Told.{Sought, Begun, Tested, isExtend, isSplit}
 use Rattle.modify.proofs.Suits.{trim-chosen, split-chosen}
 use Rattle.modify.proofs.Planned.{edit-valid}

@@ -2,7 +2,7 @@
 use mathlib.Core.Path.{_≡_, refl, sym, ap, _∙_, subst}
 use mathlib.Core.Bool.{Bool, true, false, not, _&&_}
 use mathlib.Core.List.{List, [], _∷_}
-use Prim.Native.Nat.{ℕ, zero, suc, _≤_, _<_}
+use Prim.Native.Nat.{ℕ, zero, suc, _<_}
 use native.Mathlib.Omega.{arith}
 use lib.Dec.{eqb, ltb}
 use lib.ListN.{length, getD, set}
@@ -46,7 +46,7 @@ use Rattle.modify.specs.declared.Target.{Target}
 use Rattle.modify.specs.Choose.{unless}
 use Rattle.modify.specs.Edits.{onCurve, onFound, decided, editSketch, editUntested, Answered}
 use Rattle.modify.specs.Extend.{extendCurve}
-use Rattle.modify.specs.Told.{Begun, BegunAt, Tested}
+use Rattle.modify.specs.Told.{Begun, BegunAt}
 use Rattle.modify.specs.Seek.{choiceOf, EndStands, MovedTo, Shown, Settled}
 use Rattle.modify.proofs.Answers.{answered-refused}
 use Rattle.modify.proofs.Moves.{extend-chosen}

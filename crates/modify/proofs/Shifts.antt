@@ -5,7 +5,7 @@ use mathlib.Core.List.{List, [], _∷_, _++_, map}
 use Prim.Native.Nat.{ℕ, zero, suc, _+_, _≤_, _<_}
 use native.Mathlib.Numerals.{add-one}
 use native.Mathlib.Omega.{arith}
-use lib.Dec.{eqb, ltb}
+use lib.Dec.{eqb}
 use lib.ListN.{length, take, getD, set, length-map, length-set, length-take}
 use lib.Seq.{getD-take, getD-set-same, getD-set-other, map-set-same, take-suc-set, take-set-lt}
 use lib.Ieee.{Float, nan}
@@ -26,9 +26,8 @@ use Rattle.placed.specs.Columns.{spot, PointColumns}
 use Rattle.carry.specs.declared.Pin.{Pin}
 use Rattle.carry.specs.declared.Pin.the-variants.{On, At}
 use Rattle.carry.specs.declared.Edited.{Edited}
-use Rattle.carry.specs.declared.Removed.{Removed}
-use Rattle.carry.specs.Outcome.{Outcome, refused, accepted, _then_, need}
-use Rattle.carry.specs.Tables.{okPlace, addRelation, withRelation, moved, movePoint}
+use Rattle.carry.specs.Outcome.{refused, accepted, _then_, need}
+use Rattle.carry.specs.Tables.{okPlace, withRelation, moved, movePoint}
 use Rattle.carry.specs.Once.{pinned}
 use Rattle.carry.specs.Steps.{pin, nothing}
 use Rattle.carry.specs.Suited.{outcomeOf}

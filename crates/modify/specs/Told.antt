@@ -93,6 +93,8 @@ pub record Tested (s : Sketch) (id : ℕ) (p : Vec2) (r : Target) : Type 0 where
   pub passed : r .refusal ≡ 0 → Begun s id p r
   pub turned : (r .refusal ≡ 0 → ⊥) → (op : Operation) → editSketch op s id p ≡ refused (r .refusal)
 
+-- ---- which operation it is
+
 unfoldable pub isExtend : Operation → Bool
 isExtend Trim = false
 isExtend Split = false

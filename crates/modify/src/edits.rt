@@ -15,6 +15,7 @@ ghost use Rattle.image.specs.declared.Operation.the-variants as Operation;
 ghost use Rattle.modify.specs.Edits.{Answered};
 ghost use Rattle.modify.specs.Told.{isExtend, isSplit};
 
+// The operation by two tests, so that each course is called from one place and compiled into `edit`: a call that hands a sketch on copies it.
 fn is_extend(operation: Operation) -> bool
     ensures { λ r. ⌜ r ≡ isExtend operation ⌝ }
 {
@@ -35,8 +36,7 @@ fn is_split(operation: Operation) -> bool
     }
 }
 
-// One edit: the tests that all begin with, and then its own. All edits go through here, and the sketch is tested here and no deeper: each
-// function that takes it on costs a copy.
+// One edit: the tests that all begin with, and then its own. The sketch is tested here and no deeper.
 pub fn edit(operation: Operation, sk: Sketch, curve: u32, at: Vec2) -> Edited
     ensures { λ r. ⌜ Answered operation sk curve at r ⌝ }
 {

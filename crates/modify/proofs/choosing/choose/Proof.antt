@@ -4,9 +4,6 @@ use native.Mathlib.Omega.{arith}
 use borrow.Author.Needs.{needs}
 use Rattle.modify.proofs.choosing.choose.Statement.{statement}
 use Rattle.modify.proofs.choosing.choose.Tie as tie
-use Rattle.modify.proofs.choosing.choose.Reads as reads
-use Rattle.modify.proofs.choosing.choose.Lts as lts
-use Rattle.modify.proofs.choosing.choose_from.Reads as choose-from-reads
 
 mul-c : tie.Need-mul-c
 mul-c c = search needs

@@ -15,17 +15,6 @@ use native.Mathlib.Omega.{arith}
 use borrow.Author.Needs.{needs}
 use Rattle.modify.proofs.edits.edit.Statement.{statement}
 use Rattle.modify.proofs.edits.edit.Tie as tie
-use Rattle.modify.proofs.edits.edit.Reads as reads
-use Rattle.modify.proofs.edits.edit.Lts as lts
-use Rattle.carry.proofs.carry_out.Reads as carry-out-reads
-use Rattle.modify.proofs.choosing.choose.Reads as choose-reads
-use Rattle.modify.proofs.edits.is_extend.Reads as is-extend-reads
-use Rattle.modify.proofs.edits.is_split.Reads as is-split-reads
-use Rattle.modify.proofs.extending.extended.Reads as extended-reads
-use Rattle.modify.proofs.moving.answer.Reads as answer-reads
-use Rattle.modify.proofs.picking.picked.Reads as picked-reads
-use Rattle.placed.proofs.lay_points.Reads as lay-points-reads
-use Rattle.sketch.proofs.fault.Reads as fault-reads
 
 fault-requires : tie.Need-fault-requires
 fault-requires c κs = search needs

@@ -4,8 +4,6 @@ use native.Mathlib.Omega.{arith}
 use borrow.Author.Needs.{needs}
 use Rattle.modify.proofs.edits.is_extend.Statement.{statement}
 use Rattle.modify.proofs.edits.is_extend.Tie as tie
-use Rattle.modify.proofs.edits.is_extend.Reads as reads
-use Rattle.modify.proofs.edits.is_extend.Lts as lts
 
 enum-told : tie.Need-enum-told
 enum-told c = search needs
