@@ -9,15 +9,15 @@ fn main() {
         PathBuf::from(std::env::var("CARGO_MANIFEST_DIR").expect("set by cargo")).join("..");
     let named = std::env::var("MULKEFI_STATICLIB").unwrap_or("../target/staticlib".into());
     let folder = bindings.join(named);
-    let library = folder.join("libkiosk.a");
+    let library = folder.join("libmulkefi.a");
     println!("cargo::rerun-if-changed={}", library.display());
     if !library.is_file() {
         println!(
-            "cargo::error=no {}: run `rt staticlib kiosk` first or set MULKEFI_STATICLIB",
+            "cargo::error=no {}: run `rt staticlib mulkefi` first or set MULKEFI_STATICLIB",
             library.display()
         );
         return;
     }
     println!("cargo::rustc-link-search=native={}", folder.display());
-    println!("cargo::rustc-link-lib=static=kiosk");
+    println!("cargo::rustc-link-lib=static=mulkefi");
 }

@@ -26,7 +26,7 @@
 //! Nothing is altered by a call that is refused. A [`Refusal`] has the number that the formats'
 //! document gives it, and a sentence for the person at the screen.
 //!
-//! The engine itself is the static library `kiosk`; [`raw`] declares its calls. [`Drawing`], [`read`]
+//! The engine itself is the static library `mulkefi`; [`raw`] declares its calls. [`Drawing`], [`read`]
 //! and [`svg`] are plain Rust for making, showing and drawing images, and no part of the proof.
 
 pub mod raw;

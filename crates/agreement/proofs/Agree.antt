@@ -5,34 +5,34 @@ use mathlib.Core.List.{List, _∷_, _++_, map}
 use Prim.Native.Nat.{ℕ}
 use native.Mathlib.Omega.{arith}
 use lib.ListN.{take}
-use Rattle.agreement.specs.Machines.{Side, fresh, Rules, Entry, callOn, ledger, DeskStep, calls, messages, deskTold, DeskRun, WallStep, wallAfter, Delivered, WallRun}
-use Rattle.agreement.specs.Agreement.{raised, InOrder, WallAt, Rise, Agreement}
-use Rattle.agreement.proofs.Book.{Linked, linked, book-at}
-use Rattle.agreement.proofs.Runs.{written, desk-messages, desk-side, desk-front, desk-rest, wall-parts, delivered-parts}
-use Rattle.agreement.proofs.Wall.{told, Keeping, Read, Inv, walked, reached, rose}
+use Rattle.agreement.specs.Machines.{State, initial, Protocol, Entry, callOutcome, acceptedLog, DeskStep, calls, messages, replyTo, DeskRun, WallStep, wallAfter, Delivered, WallRun}
+use Rattle.agreement.specs.Agreement.{appliedReplies, Subsequence, WallAt, CountStep, Agreement}
+use Rattle.agreement.proofs.Reference.{Linked, linked, reference-at}
+use Rattle.agreement.proofs.Runs.{written, desk-messages, desk-state, desk-front, desk-rest, wall-parts, delivered-parts}
+use Rattle.agreement.proofs.Wall.{appliedReply, Keeping, Read, Inv, walked, reached, rose}
 
-module _ {D E R : Type 0} (p : Rules D E R) (Valid : D → Type 0) (keeps : Keeping p Valid) (read : Read p Valid) where
+module _ {D E R : Type 0} (p : Protocol D E R) (Valid : D → Type 0) (keeps : Keeping p Valid) (read : Read p Valid) where
   pub agreement :
       (start : D) (desk : List (DeskStep D E R)) (wall : List (WallStep D R))
-      → Valid start → DeskRun p (fresh start) desk → WallRun p (fresh start) wall → Delivered (messages desk) wall
+      → Valid start → DeskRun p (initial start) desk → WallRun p (initial start) wall → Delivered (messages desk) wall
       → Agreement p start desk wall
   agreement start desk wall y dr wr dv =
       record {
-        desk-side = λ before later e. desk-side p S before (desk-front p S before later (subst (DeskRun p S) e dr));
-        desk-told = λ before later x e.
+        desk-state = λ before later e. desk-state p S before (desk-front p S before later (subst (DeskRun p S) e dr));
+        desk-reply = λ before later x e.
             let run = subst (DeskRun p S) e dr in
-            desk-rest p S before (x ∷ later) run .0 .told
-            ∙ ap (λ (s : Side D). deskTold p (x .call .edit) (callOn p s (x .call))) (desk-side p S before (desk-front p S before (x ∷ later) run));
+            desk-rest p S before (x ∷ later) run .0 .reply
+            ∙ ap (λ (s : State D). replyTo p (x .call .edit) (callOutcome p s (x .call))) (desk-state p S before (desk-front p S before (x ∷ later) run));
         desk-messages = mm;
         always = λ before later e. at before later e;
         rises = λ before later x e. up before later x e;
       }
     where
-      S : Side D
-      S = fresh start
+      S : State D
+      S = initial start
 
       l : List (Entry D E R)
-      l = ledger p S (calls desk)
+      l = acceptedLog p S (calls desk)
 
       mm : messages desk ≡ map (written p) l
       mm = desk-messages p S desk dr
@@ -48,28 +48,28 @@ module _ {D E R : Type 0} (p : Rules D E R) (Valid : D → Type 0) (keeps : Keep
 
       there :
           (before later : List (WallStep D R)) → wall ≡ before ++ later
-          → Inv p Valid keeps read S l k y refl (wallAfter S before) × (raised S before ≡ take (wallAfter S before .count) (map told l))
+          → Inv p Valid keeps read S l k y refl (wallAfter S before) × (appliedReplies S before ≡ take (wallAfter S before .count) (map appliedReply l))
       there before later e = walked p Valid keeps read S l k y refl S before (refl, omega arith) (run before later e .0) (given before later e .0)
 
       at : (before later : List (WallStep D R)) → wall ≡ before ++ later → WallAt p S desk before
       at before later e =
           let (v, r) = there before later e in
           record {
-            side = v .0;
-            booked =
-                let (f, g, a, b) = book-at p S (calls desk) (wallAfter S before .count) (v .1) in
+            state = v .0;
+            reference =
+                let (f, g, a, b) = reference-at p S (calls desk) (wallAfter S before .count) (v .1) in
                 (f, g, a, b ∙ sym (v .0));
             within = v .1;
             reports = r;
             all = λ o.
                 reached p Valid keeps read S l k y refl S before (refl, omega arith) (run before later e .0) (given before later e .0)
-                (subst (λ (m : List (List ℕ)). InOrder m (map (λ (x : WallStep D R). x .bytes) before)) mm o);
+                (subst (λ (m : List (List ℕ)). Subsequence m (map (λ (x : WallStep D R). x .bytes) before)) mm o);
           }
 
       up :
           (before later : List (WallStep D R)) (x : WallStep D R) → wall ≡ before ++ (x ∷ later)
-          → Rise (messages desk) (wallAfter S before .count) x
+          → CountStep (messages desk) (wallAfter S before .count) x
       up before later x e =
           let (v, r) = there before (x ∷ later) e in
-          subst (λ (m : List (List ℕ)). Rise m (wallAfter S before .count) x) (sym mm)
+          subst (λ (m : List (List ℕ)). CountStep m (wallAfter S before .count) x) (sym mm)
           (rose p Valid keeps read S l k y refl (wallAfter S before) x v (run before (x ∷ later) e .1 .0) (given before (x ∷ later) e .1 .0))

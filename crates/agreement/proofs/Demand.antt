@@ -1,4 +1,4 @@
--- The claim, whole, over any edit that keeps drawings valid and whose accepted edits have a `Shape`: `demand-3`. And that every side's drawing is valid.
+-- The claim, whole, over any edit that keeps drawings valid and whose accepted edits have a `EditEffect`: `demand-3`. And that every side's drawing is valid.
 use mathlib.Core.Path.{_≡_, refl, sym, _∙_, subst}
 use mathlib.Core.Bool.{true}
 use mathlib.Core.List.{List, [], _∷_, _++_, append-assoc, append-nil}
@@ -7,59 +7,59 @@ use Prim.Native.Nat.{ℕ, zero, suc, _<_}
 use native.Mathlib.Omega.{arith}
 use native.Mathlib.Decide.{ℕ-discrete}
 use lib.ListN.{length, take}
-use Rattle.carry.specs.declared.Removed.{Removed}
-use Rattle.carry.specs.Outcome.{accepted}
-use Rattle.carry.specs.Counts.{occ}
-use Rattle.carry.proofs.Tables.{occ-other}
-use Rattle.agreement.specs.Machines.{Side, fresh, Rules, Call, Entry, bookAfter, ledger, DeskStep, calls, deskAfter, messages, DeskRun, WallStep, wallAfter, Delivered, WallRun}
-use Rattle.agreement.specs.Agreement.{sideAt}
-use Rattle.agreement.specs.Families.{Curves, reports, family, ChainOf}
+use Rattle.edit_plan.specs.declared.Removed.{Removed}
+use Rattle.edit_plan.specs.Outcome.{accepted}
+use Rattle.edit_plan.specs.Counts.{occurrences}
+use Rattle.edit_plan.proofs.Tables.{occ-other}
+use Rattle.agreement.specs.Machines.{State, initial, Protocol, Call, Entry, referenceAfter, acceptedLog, DeskStep, calls, deskAfter, messages, DeskRun, WallStep, wallAfter, Delivered, WallRun}
+use Rattle.agreement.specs.Agreement.{stateAt}
+use Rattle.agreement.specs.Families.{CurveView, reports, family, ChainOf}
 use Rattle.agreement.specs.Demand.{Demand3}
-use Rattle.agreement.specs.Shape.{Shape}
+use Rattle.agreement.specs.EditEffect.{EditEffect}
 use Rattle.agreement.proofs.Counts.{at-most}
-use Rattle.agreement.proofs.Book.{Linked, linked, linked-take, last-entry}
+use Rattle.agreement.proofs.Reference.{Linked, linked, linked-take, last-entry}
 use Rattle.agreement.proofs.Wall.{Keeping, Read}
 use Rattle.agreement.proofs.Agree.{agreement}
 use Rattle.agreement.proofs.Chains.{Inv, step}
 
 -- what is asked of an edit, `Valid` telling which drawings it may be given
-pub record Keeps {D E : Type 0} (p : Rules D E Removed) (v : Curves D) (target : E → ℕ) (Valid : D → Type 0) : Type 0 where
+pub record Keeps {D E : Type 0} (p : Protocol D E Removed) (v : CurveView D) (target : E → ℕ) (Valid : D → Type 0) : Type 0 where
   pub valid : Keeping p Valid
-  pub shape : (d : D) (e : E) (d′ : D) (r : Removed) → Valid d → p .edit d e ≡ accepted d′ r → Shape v d (target e) d′ r
+  pub shape : (d : D) (e : E) (d′ : D) (r : Removed) → Valid d → p .edit d e ≡ accepted d′ r → EditEffect v d (target e) d′ r
   pub bounded : (d : D) (c a b : ℕ) → Valid d → v .ends d c ≡ some (a, b) → c < v .next d
 
-module _ {D E : Type 0} (p : Rules D E Removed) (v : Curves D) (target : E → ℕ) (Valid : D → Type 0) (k : Keeps p v target Valid) where
+module _ {D E : Type 0} (p : Protocol D E Removed) (v : CurveView D) (target : E → ℕ) (Valid : D → Type 0) (k : Keeps p v target Valid) where
   -- where some entries end
-  abbrev last : Side D → List (Entry D E Removed) → Side D
+  abbrev last : State D → List (Entry D E Removed) → State D
   last s [] = s
   last s (x ∷ xs) = last (x .after) xs
 
-  last-take : (s : Side D) (l : List (Entry D E Removed)) (n : ℕ) → last s (take n l) ≡ sideAt s l n
+  last-take : (s : State D) (l : List (Entry D E Removed)) (n : ℕ) → last s (take n l) ≡ stateAt s l n
   last-take s l zero = refl
   last-take s [] (suc n) = refl
   last-take s (x ∷ xs) (suc n) = last-take (x .after) xs n
 
-  last-all : (s : Side D) (l : List (Entry D E Removed)) → last s l ≡ sideAt s l (length l)
+  last-all : (s : State D) (l : List (Entry D E Removed)) → last s l ≡ stateAt s l (length l)
   last-all s [] = refl
   last-all s (x ∷ xs) = last-all (x .after) xs
 
   -- ---- every drawing is valid
 
-  last-valid : (s : Side D) (l : List (Entry D E Removed)) → Linked p s l → Valid (s .drawing) → Valid (last s l .drawing)
+  last-valid : (s : State D) (l : List (Entry D E Removed)) → Linked p s l → Valid (s .drawing) → Valid (last s l .drawing)
   last-valid s [] h y = y
   last-valid s (x ∷ xs) h y = last-valid (x .after) xs (h .1) (k .valid (s .drawing) (x .edit) (x .after .drawing) (x .report) y (h .0 .gives))
 
-  -- the book's, after any calls
-  pub book-valid : (start : D) (cs : List (Call E)) → Valid start → Valid (bookAfter p (fresh start) cs .drawing)
-  book-valid start cs y =
-      let l = ledger p (fresh start) cs in
-      subst (λ (t : Side D). Valid (t .drawing)) (last-all (fresh start) l ∙ last-entry p (fresh start) cs)
-      (last-valid (fresh start) l (linked p (fresh start) cs) y)
+  -- the reference machine's, after any calls
+  pub reference-valid : (start : D) (cs : List (Call E)) → Valid start → Valid (referenceAfter p (initial start) cs .drawing)
+  reference-valid start cs y =
+      let l = acceptedLog p (initial start) cs in
+      subst (λ (t : State D). Valid (t .drawing)) (last-all (initial start) l ∙ last-entry p (initial start) cs)
+      (last-valid (initial start) l (linked p (initial start) cs) y)
 
   -- ---- chains
 
   run :
-      (s : Side D) (l : List (Entry D E Removed)) → Linked p s l → Valid (s .drawing) → (fam : List ℕ) (rs : List Removed) (a b : ℕ)
+      (s : State D) (l : List (Entry D E Removed)) → Linked p s l → Valid (s .drawing) → (fam : List ℕ) (rs : List Removed) (a b : ℕ)
       → Inv v fam (s .drawing) rs a b
       → Inv v (family v target (s .drawing) fam l) (last s l .drawing) (rs ++ reports l) a b
   run s [] h y fam rs a b w = subst (λ (r : List Removed). Inv v fam (s .drawing) r a b) (sym (append-nil rs)) w
@@ -87,18 +87,18 @@ module _ {D E : Type 0} (p : Rules D E Removed) (v : Curves D) (target : E → �
         below = λ i q. under i q (ℕ-discrete i c);
       }
     where
-      under : (i : ℕ) → 0 < occ i (c ∷ []) → Dec (i ≡ c) → i < v .next d
+      under : (i : ℕ) → 0 < occurrences i (c ∷ []) → Dec (i ≡ c) → i < v .next d
       under i q (yes z) = omega (arith, k .bounded d c a b y e)
       under i q (no ne) = absurd (omega (arith, occ-other i c [] ne))
 
   chained :
-      (s : Side D) (l : List (Entry D E Removed)) → Linked p s l → Valid (s .drawing) → (t : Side D) → last s l ≡ t → (c a b : ℕ) → v .ends (s .drawing) c ≡ some (a, b)
+      (s : State D) (l : List (Entry D E Removed)) → Linked p s l → Valid (s .drawing) → (t : State D) → last s l ≡ t → (c a b : ℕ) → v .ends (s .drawing) c ≡ some (a, b)
       → ChainOf v target (s .drawing) l (t .drawing) c a b
-  chained s l h y t q c a b e = subst (λ (u : Side D). ChainOf v target (s .drawing) l (u .drawing) c a b) q (run s l h y (c ∷ []) [] a b (begin (s .drawing) c a b y e) .chain)
+  chained s l h y t q c a b e = subst (λ (u : State D). ChainOf v target (s .drawing) l (u .drawing) c a b) q (run s l h y (c ∷ []) [] a b (begin (s .drawing) c a b y e) .chain)
 
   module _
       (read : Read p Valid) (start : D) (desk : List (DeskStep D E Removed)) (wall : List (WallStep D Removed))
-      (y : Valid start) (dr : DeskRun p (fresh start) desk) (wr : WallRun p (fresh start) wall) (dv : Delivered (messages desk) wall)
+      (y : Valid start) (dr : DeskRun p (initial start) desk) (wr : WallRun p (initial start) wall) (dv : Delivered (messages desk) wall)
     where
       pub demand-3 : Demand3 p v target start desk wall
       demand-3 =
@@ -106,22 +106,22 @@ module _ {D E : Type 0} (p : Rules D E Removed) (v : Curves D) (target : E → �
           record {
             agreement = g;
             desk-chains = λ before later q c a b e.
-                let l = ledger p (fresh start) (calls before) in
-                chained (fresh start) l (linked p (fresh start) (calls before)) y (deskAfter (fresh start) before)
-                (last-all (fresh start) l ∙ last-entry p (fresh start) (calls before) ∙ sym (g .desk-side before later q)) c a b e;
+                let l = acceptedLog p (initial start) (calls before) in
+                chained (initial start) l (linked p (initial start) (calls before)) y (deskAfter (initial start) before)
+                (last-all (initial start) l ∙ last-entry p (initial start) (calls before) ∙ sym (g .desk-state before later q)) c a b e;
             wall-chains = λ before later q c a b e.
-                let l = ledger p (fresh start) (calls desk) in
-                let n = wallAfter (fresh start) before .count in
-                chained (fresh start) (take n l) (linked-take p (fresh start) l n (linked p (fresh start) (calls desk))) y (wallAfter (fresh start) before)
-                (last-take (fresh start) l n ∙ sym (g .always before later q .side)) c a b e;
+                let l = acceptedLog p (initial start) (calls desk) in
+                let n = wallAfter (initial start) before .count in
+                chained (initial start) (take n l) (linked-take p (initial start) l n (linked p (initial start) (calls desk))) y (wallAfter (initial start) before)
+                (last-take (initial start) l n ∙ sym (g .always before later q .state)) c a b e;
           }
 
       -- so neither side is ever given a drawing that is not valid
-      pub desk-valid : (before later : List (DeskStep D E Removed)) → desk ≡ before ++ later → Valid (deskAfter (fresh start) before .drawing)
+      pub desk-valid : (before later : List (DeskStep D E Removed)) → desk ≡ before ++ later → Valid (deskAfter (initial start) before .drawing)
       desk-valid before later q =
-          subst (λ (t : Side D). Valid (t .drawing)) (sym (agreement p Valid (k .valid) read start desk wall y dr wr dv .desk-side before later q)) (book-valid start (calls before) y)
+          subst (λ (t : State D). Valid (t .drawing)) (sym (agreement p Valid (k .valid) read start desk wall y dr wr dv .desk-state before later q)) (reference-valid start (calls before) y)
 
-      pub wall-valid : (before later : List (WallStep D Removed)) → wall ≡ before ++ later → Valid (wallAfter (fresh start) before .drawing)
+      pub wall-valid : (before later : List (WallStep D Removed)) → wall ≡ before ++ later → Valid (wallAfter (initial start) before .drawing)
       wall-valid before later q =
-          let (front, rest, a, b) = agreement p Valid (k .valid) read start desk wall y dr wr dv .always before later q .booked in
-          subst (λ (t : Side D). Valid (t .drawing)) b (book-valid start front y)
+          let (front, rest, a, b) = agreement p Valid (k .valid) read start desk wall y dr wr dv .always before later q .reference in
+          subst (λ (t : State D). Valid (t .drawing)) b (reference-valid start front y)

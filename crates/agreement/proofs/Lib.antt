@@ -1,7 +1,7 @@
 -- Desk, wall and book agree (`Agree`), chains outlive every edit (`Chains`), and so the whole claim holds (`Demand`).
 pub mod Orders
 pub mod Counts
-pub mod Book
+pub mod Reference
 pub mod Runs
 pub mod Wall
 pub mod Agree

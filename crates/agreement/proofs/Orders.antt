@@ -5,7 +5,7 @@ use mathlib.Core.Option.{some}
 use Prim.Native.Nat.{ℕ, zero, suc, _≤_, _<_}
 use native.Mathlib.Omega.{arith}
 use lib.ListN.{length, take, drop, getElem?}
-use Rattle.agreement.specs.Agreement.{InOrder, none-left, passed, came}
+use Rattle.agreement.specs.Agreement.{Subsequence, subsequence-nil, subsequence-skip, subsequence-match}
 
 module _ {A : Type 0} where
   pub some-inj : {a b : A} → some a ≡ some b → a ≡ b
@@ -37,41 +37,41 @@ module _ {A : Type 0} where
   drop-head (x ∷ xs) zero a r e = cc
   drop-head (x ∷ xs) (suc k) a r e = drop-head xs k a r e
 
-  order-tail : (xs ys : List A) (a : A) → InOrder (a ∷ xs) ys → InOrder xs ys
+  order-tail : (xs ys : List A) (a : A) → Subsequence (a ∷ xs) ys → Subsequence xs ys
   order-tail xs ys a h = go (a ∷ xs) ys h refl
     where
-      go : (zs ys : List A) → InOrder zs ys → zs ≡ a ∷ xs → InOrder xs ys
-      go zs ys none-left e = let z : _≡_ {A = ℕ} 0 1 = cc in absurd (omega arith)
-      go zs ys (passed {y = y} h) e = passed (go zs _ h e)
-      go zs ys (came {xs = t} {ys = us} q h) e = let p : t ≡ xs = cc in passed (subst (λ (v : List A). InOrder v us) p h)
+      go : (zs ys : List A) → Subsequence zs ys → zs ≡ a ∷ xs → Subsequence xs ys
+      go zs ys subsequence-nil e = let z : _≡_ {A = ℕ} 0 1 = cc in absurd (omega arith)
+      go zs ys (subsequence-skip {y = y} h) e = subsequence-skip (go zs _ h e)
+      go zs ys (subsequence-match {xs = t} {ys = us} q h) e = let p : t ≡ xs = cc in subsequence-skip (subst (λ (v : List A). Subsequence v us) p h)
 
-  pub order-nil : (zs ys : List A) → InOrder zs ys → ys ≡ [] → zs ≡ []
-  order-nil zs ys none-left e = refl
-  order-nil zs ys (passed h) e = let z : _≡_ {A = ℕ} 0 1 = cc in absurd (omega arith)
-  order-nil zs ys (came q h) e = let z : _≡_ {A = ℕ} 0 1 = cc in absurd (omega arith)
+  pub order-nil : (zs ys : List A) → Subsequence zs ys → ys ≡ [] → zs ≡ []
+  order-nil zs ys subsequence-nil e = refl
+  order-nil zs ys (subsequence-skip h) e = let z : _≡_ {A = ℕ} 0 1 = cc in absurd (omega arith)
+  order-nil zs ys (subsequence-match q h) e = let z : _≡_ {A = ℕ} 0 1 = cc in absurd (omega arith)
 
   -- past a first element that is not looked for
-  pub order-stay : (l : List A) (k : ℕ) (y : A) (ys : List A) → InOrder (drop k l) (y ∷ ys) → (getElem? l k ≡ some y → ⊥) → InOrder (drop k l) ys
+  pub order-stay : (l : List A) (k : ℕ) (y : A) (ys : List A) → Subsequence (drop k l) (y ∷ ys) → (getElem? l k ≡ some y → ⊥) → Subsequence (drop k l) ys
   order-stay l k y ys h ne = go (drop k l) (y ∷ ys) h refl refl
     where
-      go : (zs us : List A) → InOrder zs us → zs ≡ drop k l → us ≡ y ∷ ys → InOrder (drop k l) ys
-      go zs us none-left e f = subst (λ (v : List A). InOrder v ys) e none-left
-      go zs us (passed {xs = t} {ys = vs} h) e f = let p : vs ≡ ys = cc in subst (λ (v : List A). InOrder v ys) e (subst (λ (v : List A). InOrder t v) p h)
-      go zs us (came {xs = t} {ys = vs} {x = a} {y = b} q h) e f =
+      go : (zs us : List A) → Subsequence zs us → zs ≡ drop k l → us ≡ y ∷ ys → Subsequence (drop k l) ys
+      go zs us subsequence-nil e f = subst (λ (v : List A). Subsequence v ys) e subsequence-nil
+      go zs us (subsequence-skip {xs = t} {ys = vs} h) e f = let p : vs ≡ ys = cc in subst (λ (v : List A). Subsequence v ys) e (subst (λ (v : List A). Subsequence t v) p h)
+      go zs us (subsequence-match {xs = t} {ys = vs} {x = a} {y = b} q h) e f =
           let p : a ≡ y = cc in
           let r : drop k l ≡ y ∷ t = sym e ∙ ap (λ (c : A). c ∷ t) p in
           absurd (ne (drop-head l k y t r))
 
   -- past a first element that is the one looked for
-  pub order-next : (l : List A) (k : ℕ) (y : A) (ys : List A) → InOrder (drop k l) (y ∷ ys) → getElem? l k ≡ some y → InOrder (drop (suc k) l) ys
+  pub order-next : (l : List A) (k : ℕ) (y : A) (ys : List A) → Subsequence (drop k l) (y ∷ ys) → getElem? l k ≡ some y → Subsequence (drop (suc k) l) ys
   order-next l k y ys h at = go (drop k l) (y ∷ ys) h (drop-more l k y at) refl
     where
-      go : (zs us : List A) → InOrder zs us → zs ≡ y ∷ drop (suc k) l → us ≡ y ∷ ys → InOrder (drop (suc k) l) ys
-      go zs us none-left e f = let z : _≡_ {A = ℕ} 0 1 = cc in absurd (omega arith)
-      go zs us (passed {xs = t} {ys = vs} h) e f =
+      go : (zs us : List A) → Subsequence zs us → zs ≡ y ∷ drop (suc k) l → us ≡ y ∷ ys → Subsequence (drop (suc k) l) ys
+      go zs us subsequence-nil e f = let z : _≡_ {A = ℕ} 0 1 = cc in absurd (omega arith)
+      go zs us (subsequence-skip {xs = t} {ys = vs} h) e f =
           let p : vs ≡ ys = cc in
-          order-tail (drop (suc k) l) ys y (subst (λ (v : List A). InOrder v ys) e (subst (λ (v : List A). InOrder t v) p h))
-      go zs us (came {xs = t} {ys = vs} q h) e f =
+          order-tail (drop (suc k) l) ys y (subst (λ (v : List A). Subsequence v ys) e (subst (λ (v : List A). Subsequence t v) p h))
+      go zs us (subsequence-match {xs = t} {ys = vs} q h) e f =
           let p : vs ≡ ys = cc in
           let r : t ≡ drop (suc k) l = cc in
-          subst (λ (v : List A). InOrder v ys) r (subst (λ (v : List A). InOrder t v) p h)
+          subst (λ (v : List A). Subsequence v ys) r (subst (λ (v : List A). Subsequence t v) p h)

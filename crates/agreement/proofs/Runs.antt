@@ -1,42 +1,42 @@
--- Runs and their parts, and the desk's run beside the book. Assumes nothing.
+-- Runs and their parts, and the desk's run beside the reference machine. Assumes nothing.
 use mathlib.Core.Path.{_≡_, refl, ap, _∙_}
 use mathlib.Core.List.{List, [], _∷_, _++_, map}
 use Prim.Native.Nat.{ℕ}
-use Rattle.carry.specs.Outcome.{Outcome, refused, accepted}
-use Rattle.agreement.specs.Machines.{Side, Rules, left, Entry, callOn, bookAfter, enter, ledger, DeskStep, calls, deskAfter, messageOf, messages, deskTold, DeskRun, WallStep, wallAfter, Delivered, WallRun}
+use Rattle.edit_plan.specs.Outcome.{Outcome, refused, accepted}
+use Rattle.agreement.specs.Machines.{State, Protocol, stateAfter, Entry, callOutcome, referenceAfter, appendAccepted, acceptedLog, DeskStep, calls, deskAfter, prependMessage, messages, replyTo, DeskRun, WallStep, wallAfter, Delivered, WallRun}
 
-module _ {D E R : Type 0} (p : Rules D E R) where
+module _ {D E R : Type 0} (p : Protocol D E R) where
   -- the message of an entry
   abbrev pub written : Entry D E R → List ℕ
   written x = p .encode (x .after .count) (x .edit)
 
   messages-step :
-      (x : DeskStep D E R) (o : Outcome (Side D) R) (ms : List (List ℕ)) (l : List (Entry D E R)) → x .told ≡ deskTold p (x .call .edit) o → ms ≡ map written l
-      → messageOf (x .told) ms ≡ map written (enter (x .call .edit) o l)
+      (x : DeskStep D E R) (o : Outcome (State D) R) (ms : List (List ℕ)) (l : List (Entry D E R)) → x .reply ≡ replyTo p (x .call .edit) o → ms ≡ map written l
+      → prependMessage (x .reply) ms ≡ map written (appendAccepted (x .call .edit) o l)
   messages-step x (refused k) ms l e h = rw e h
   messages-step x (accepted t r) ms l e h = rw (e, h)
 
-  pub desk-messages : (s : Side D) (xs : List (DeskStep D E R)) → DeskRun p s xs → messages xs ≡ map written (ledger p s (calls xs))
+  pub desk-messages : (s : State D) (xs : List (DeskStep D E R)) → DeskRun p s xs → messages xs ≡ map written (acceptedLog p s (calls xs))
   desk-messages s [] h = refl
   desk-messages s (x ∷ xs) h =
-      messages-step x (callOn p s (x .call)) (messages xs) (ledger p (left s (callOn p s (x .call))) (calls xs)) (h .0 .told)
-      (rw (← h .0 .side) (desk-messages (x .side) xs (h .1)))
+      messages-step x (callOutcome p s (x .call)) (messages xs) (acceptedLog p (stateAfter s (callOutcome p s (x .call))) (calls xs)) (h .0 .reply)
+      (rw (← h .0 .state) (desk-messages (x .state) xs (h .1)))
 
-  pub desk-side : (s : Side D) (xs : List (DeskStep D E R)) → DeskRun p s xs → deskAfter s xs ≡ bookAfter p s (calls xs)
-  desk-side s [] h = refl
-  desk-side s (x ∷ xs) h = desk-side (x .side) xs (h .1) ∙ ap (λ (t : Side D). bookAfter p t (calls xs)) (h .0 .side)
+  pub desk-state : (s : State D) (xs : List (DeskStep D E R)) → DeskRun p s xs → deskAfter s xs ≡ referenceAfter p s (calls xs)
+  desk-state s [] h = refl
+  desk-state s (x ∷ xs) h = desk-state (x .state) xs (h .1) ∙ ap (λ (t : State D). referenceAfter p t (calls xs)) (h .0 .state)
 
-  pub desk-front : (s : Side D) (xs ys : List (DeskStep D E R)) → DeskRun p s (xs ++ ys) → DeskRun p s xs
+  pub desk-front : (s : State D) (xs ys : List (DeskStep D E R)) → DeskRun p s (xs ++ ys) → DeskRun p s xs
   desk-front s [] ys h = tt
-  desk-front s (x ∷ xs) ys h = (h .0, desk-front (x .side) xs ys (h .1))
+  desk-front s (x ∷ xs) ys h = (h .0, desk-front (x .state) xs ys (h .1))
 
-  pub desk-rest : (s : Side D) (xs ys : List (DeskStep D E R)) → DeskRun p s (xs ++ ys) → DeskRun p (deskAfter s xs) ys
+  pub desk-rest : (s : State D) (xs ys : List (DeskStep D E R)) → DeskRun p s (xs ++ ys) → DeskRun p (deskAfter s xs) ys
   desk-rest s [] ys h = h
-  desk-rest s (x ∷ xs) ys h = desk-rest (x .side) xs ys (h .1)
+  desk-rest s (x ∷ xs) ys h = desk-rest (x .state) xs ys (h .1)
 
-  pub wall-parts : (s : Side D) (xs ys : List (WallStep D R)) → WallRun p s (xs ++ ys) → WallRun p s xs × WallRun p (wallAfter s xs) ys
+  pub wall-parts : (s : State D) (xs ys : List (WallStep D R)) → WallRun p s (xs ++ ys) → WallRun p s xs × WallRun p (wallAfter s xs) ys
   wall-parts s [] ys h = (tt, h)
-  wall-parts s (x ∷ xs) ys h = let i = wall-parts (x .side) xs ys (h .1) in ((h .0, i .0), i .1)
+  wall-parts s (x ∷ xs) ys h = let i = wall-parts (x .state) xs ys (h .1) in ((h .0, i .0), i .1)
 
 pub delivered-parts : {D R : Type 0} (ms : List (List ℕ)) (xs ys : List (WallStep D R)) → Delivered ms (xs ++ ys) → Delivered ms xs × Delivered ms ys
 delivered-parts ms [] ys h = (tt, h)

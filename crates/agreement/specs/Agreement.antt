@@ -1,4 +1,4 @@
--- How desk, wall and book agree: after each of the desk's calls, and at the wall's start and after every delivery. Definitions only.
+-- How desk and wall agree with the reference machine: after each of the desk's calls, and at the wall's start and after every delivery. Definitions only.
 use mathlib.Core.Path.{_≡_}
 use mathlib.Core.List.{List, [], _∷_, _++_, map}
 use mathlib.Core.Option.{some}
@@ -6,60 +6,60 @@ use mathlib.Core.Logic.{_⊎_}
 use Prim.Native.Nat.{ℕ, zero, suc, _+_, _≤_}
 use lib.ListN.{length, take, getElem?}
 use lib.Dec.{ltb}
-use Rattle.sketch.specs.Lists.{pick}
-use Rattle.agreement.specs.Machines.{Side, fresh, Rules, Call, Entry, callOn, bookAfter, ledger, DeskStep, calls, deskAfter, messages, deskTold, WallTold, applied, WallStep, wallAfter}
+use Rattle.sketch.specs.Lists.{ite}
+use Rattle.agreement.specs.Machines.{State, initial, Protocol, Call, Entry, callOutcome, referenceAfter, acceptedLog, DeskStep, calls, deskAfter, messages, replyTo, WallReply, wallApplied, WallStep, wallAfter}
 
--- the book's side at count k, by its entries
-abbrev pub sideAt : {D E R : Type 0} → Side D → List (Entry D E R) → ℕ → Side D
-sideAt s l zero = s
-sideAt s [] (suc k) = s
-sideAt s (x ∷ xs) (suc k) = sideAt (x .after) xs k
+-- the reference machine's state at count k, by its log
+abbrev pub stateAt : {D E R : Type 0} → State D → List (Entry D E R) → ℕ → State D
+stateAt s l zero = s
+stateAt s [] (suc k) = s
+stateAt s (x ∷ xs) (suc k) = stateAt (x .after) xs k
 
--- what the deliveries that raised the count told
-abbrev pub raised : {D R : Type 0} → Side D → List (WallStep D R) → List (WallTold R)
-raised s [] = []
-raised s (x ∷ xs) = pick (ltb (s .count) (x .side .count)) (x .told ∷ raised (x .side) xs) (raised (x .side) xs)
+-- the replies of the deliveries that raised the count
+abbrev pub appliedReplies : {D R : Type 0} → State D → List (WallStep D R) → List (WallReply R)
+appliedReplies s [] = []
+appliedReplies s (x ∷ xs) = ite (ltb (s .count) (x .state .count)) (x .reply ∷ appliedReplies (x .state) xs) (appliedReplies (x .state) xs)
 
--- all of xs come in ys, in their order, with others between or not
-pub data InOrder {A : Type 0} : List A → List A → Type 0 where
-  none-left : {ys : List A} → InOrder [] ys
-  passed : {xs ys : List A} {y : A} → InOrder xs ys → InOrder xs (y ∷ ys)
-  came : {xs ys : List A} {x y : A} → x ≡ y → InOrder xs ys → InOrder (x ∷ xs) (y ∷ ys)
+-- xs is a subsequence of ys: all of xs come in ys, in their order, with others between or not
+pub data Subsequence {A : Type 0} : List A → List A → Type 0 where
+  subsequence-nil : {ys : List A} → Subsequence [] ys
+  subsequence-skip : {xs ys : List A} {y : A} → Subsequence xs ys → Subsequence xs (y ∷ ys)
+  subsequence-match : {xs ys : List A} {x y : A} → x ≡ y → Subsequence xs ys → Subsequence (x ∷ xs) (y ∷ ys)
 
 -- a delivery at count k: it is message k + 1, and the count is k + 1 after it; or it is not, and the count stays
-abbrev pub Rise : {D R : Type 0} → List (List ℕ) → ℕ → WallStep D R → Type 0
-Rise ms k x =
-    ((getElem? ms k ≡ some (x .bytes)) × (x .side .count ≡ k + 1))
-    ⊎ ((getElem? ms k ≡ some (x .bytes) → ⊥) × (x .side .count ≡ k))
+abbrev pub CountStep : {D R : Type 0} → List (List ℕ) → ℕ → WallStep D R → Type 0
+CountStep ms k x =
+    ((getElem? ms k ≡ some (x .bytes)) × (x .state .count ≡ k + 1))
+    ⊎ ((getElem? ms k ≡ some (x .bytes) → ⊥) × (x .state .count ≡ k))
 
-module _ {D E R : Type 0} (p : Rules D E R) where
+module _ {D E R : Type 0} (p : Protocol D E R) where
   -- the wall after the deliveries `before`, its count being k
-  pub record WallAt (s : Side D) (desk : List (DeskStep D E R)) (before : List (WallStep D R)) : Type 0 where
-    -- it has the book's side at count k
-    pub side : wallAfter s before ≡ sideAt s (ledger p s (calls desk)) (wallAfter s before .count)
-    -- which the book had after some of the desk's calls
-    pub booked : (front : List (Call E)) × (later : List (Call E)) × (calls desk ≡ front ++ later) × (bookAfter p s front ≡ wallAfter s before)
+  pub record WallAt (s : State D) (desk : List (DeskStep D E R)) (before : List (WallStep D R)) : Type 0 where
+    -- it has the reference machine's state at count k
+    pub state : wallAfter s before ≡ stateAt s (acceptedLog p s (calls desk)) (wallAfter s before .count)
+    -- which the reference machine had after some of the desk's calls
+    pub reference : (front : List (Call E)) × (later : List (Call E)) × (calls desk ≡ front ++ later) × (referenceAfter p s front ≡ wallAfter s before)
     -- k is at most the number of accepted calls
-    pub within : wallAfter s before .count ≤ length (ledger p s (calls desk))
-    -- the deliveries that raised the count gave the book's reports up to k
-    pub reports : raised s before ≡ take (wallAfter s before .count) (map (λ (x : Entry D E R). applied (x .report)) (ledger p s (calls desk)))
+    pub within : wallAfter s before .count ≤ length (acceptedLog p s (calls desk))
+    -- the deliveries that raised the count gave the reference machine's reports up to k
+    pub reports : appliedReplies s before ≡ take (wallAfter s before .count) (map (λ (x : Entry D E R). wallApplied (x .report)) (acceptedLog p s (calls desk)))
     -- k is all of them once each message has come, in rising order
-    pub all : InOrder (messages desk) (map (λ x. x .bytes) before) → wallAfter s before .count ≡ length (ledger p s (calls desk))
+    pub all : Subsequence (messages desk) (map (λ x. x .bytes) before) → wallAfter s before .count ≡ length (acceptedLog p s (calls desk))
 
   pub record Agreement (start : D) (desk : List (DeskStep D E R)) (wall : List (WallStep D R)) : Type 0 where
-    -- the desk has the book's side, at the start and after each call
-    pub desk-side :
+    -- the desk has the reference machine's state, at the start and after each call
+    pub desk-state :
         (before later : List (DeskStep D E R)) → desk ≡ before ++ later
-        → deskAfter (fresh start) before ≡ bookAfter p (fresh start) (calls before)
-    -- a call told the book's refusal, or the book's report and the message of that edit and number
-    pub desk-told :
+        → deskAfter (initial start) before ≡ referenceAfter p (initial start) (calls before)
+    -- a call's reply is the reference machine's refusal, or its report and the message of that edit and number
+    pub desk-reply :
         (before later : List (DeskStep D E R)) (x : DeskStep D E R) → desk ≡ before ++ (x ∷ later)
-        → x .told ≡ deskTold p (x .call .edit) (callOn p (bookAfter p (fresh start) (calls before)) (x .call))
-    -- so its messages are those of the book's entries, in order
-    pub desk-messages : messages desk ≡ map (λ (x : Entry D E R). p .encode (x .after .count) (x .edit)) (ledger p (fresh start) (calls desk))
+        → x .reply ≡ replyTo p (x .call .edit) (callOutcome p (referenceAfter p (initial start) (calls before)) (x .call))
+    -- so its messages are those of the reference machine's log, in order
+    pub desk-messages : messages desk ≡ map (λ (x : Entry D E R). p .encode (x .after .count) (x .edit)) (acceptedLog p (initial start) (calls desk))
     -- the wall, at the start and after every delivery
-    pub always : (before later : List (WallStep D R)) → wall ≡ before ++ later → WallAt (fresh start) desk before
+    pub always : (before later : List (WallStep D R)) → wall ≡ before ++ later → WallAt (initial start) desk before
     -- its count rises exactly when the next message is delivered
     pub rises :
         (before later : List (WallStep D R)) (x : WallStep D R) → wall ≡ before ++ (x ∷ later)
-        → Rise (messages desk) (wallAfter (fresh start) before .count) x
+        → CountStep (messages desk) (wallAfter (initial start) before .count) x

@@ -3,4 +3,4 @@ pub mod Machines
 pub mod Agreement
 pub mod Families
 pub mod Demand
-pub mod Shape
+pub mod EditEffect

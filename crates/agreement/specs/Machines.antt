@@ -1,34 +1,35 @@
--- Desk, wall and book over any edit: each is a drawing with a count, and takes one call at a time. Definitions only.
+-- State machine replication over any edit function: the desk is the primary, the wall the replica that applies the desk's messages, and the
+-- reference machine (document 01's book) applies the desk's accepted calls alone. "Desk" and "wall" are 01's terms. Definitions only.
 use mathlib.Core.Path.{_≡_}
 use mathlib.Core.List.{List, [], _∷_, map, List·Memᴰ}
 use Prim.Native.Nat.{ℕ, _+_}
 use lib.Dec.{leb, ltb, eqb}
-use Rattle.sketch.specs.Lists.{pick}
-use Rattle.carry.specs.Outcome.{Outcome, refused, accepted, need}
+use Rattle.sketch.specs.Lists.{ite}
+use Rattle.edit_plan.specs.Outcome.{Outcome, refused, accepted, guard}
 
--- a drawing, and how many edits made it so
-pub record Side (D : Type 0) : Type 0 where
+-- the state of a machine: a drawing, and how many edits were applied to it (01's count)
+pub record State (D : Type 0) : Type 0 where
   pub drawing : D
   pub count : ℕ
 
--- every side starts with a drawing at count 0
-abbrev pub fresh : {D : Type 0} → D → Side D
-fresh d = record { drawing = d; count = 0 }
+-- every machine starts with a drawing at count 0
+abbrev pub initial : {D : Type 0} → D → State D
+initial d = record { drawing = d; count = 0 }
 
--- what a reader makes of a message: it is bad by a number, or carries an edit and the edit's number
-pub data Reading (E : Type 0) : Type 0 where
-  bad : ℕ → Reading E
-  message : ℕ → E → Reading E
+-- a decoded message: invalid by a refusal's number, or an edit and the edit's number
+pub data Decoded (E : Type 0) : Type 0 where
+  invalid : ℕ → Decoded E
+  message : ℕ → E → Decoded E
 
--- what the machines are given: one edit of a drawing, a message's bytes, and how they are read
-pub record Rules (D E R : Type 0) : Type 0 where
+-- what the machines are built over: the edit function, and the message format's encoder and decoder
+pub record Protocol (D E R : Type 0) : Type 0 where
   pub edit : D → E → Outcome D R
   pub encode : ℕ → E → List ℕ
-  pub decode : List ℕ → Reading E
+  pub decode : List ℕ → Decoded E
 
 -- the largest edit number
-abbrev pub lastNumber : ℕ
-lastNumber = 4_294_967_295
+abbrev pub maxNumber : ℕ
+maxNumber = 4_294_967_295
 
 -- ---- the desk
 
@@ -37,127 +38,127 @@ pub record Call (E : Type 0) : Type 0 where
   pub edit : E
   pub room : ℕ
 
--- what it told: a refusal, or a report and a message
-pub data DeskTold (R : Type 0) : Type 0 where
-  declined : ℕ → DeskTold R
-  done : R → List ℕ → DeskTold R
+-- the desk's reply: refused by a number, or accepted with a report and a message
+pub data DeskReply (R : Type 0) : Type 0 where
+  deskRefused : ℕ → DeskReply R
+  deskAccepted : R → List ℕ → DeskReply R
 
--- the call as it happened: what it was, the side that it left, what it told
+-- one step of the desk: the call, the state after it, the reply
 pub record DeskStep (D E R : Type 0) : Type 0 where
   pub call : Call E
-  pub side : Side D
-  pub told : DeskTold R
+  pub state : State D
+  pub reply : DeskReply R
 
 -- an accepted edit gives the drawing and the number
-abbrev pub counted : {D R : Type 0} → ℕ → Outcome D R → Outcome (Side D) R
-counted n (refused k) = refused k
-counted n (accepted d r) = accepted (record { drawing = d; count = n }) r
+abbrev pub withCount : {D R : Type 0} → ℕ → Outcome D R → Outcome (State D) R
+withCount n (refused k) = refused k
+withCount n (accepted d r) = accepted (record { drawing = d; count = n }) r
 
--- a refused call leaves the side as it was
-abbrev pub left : {D R : Type 0} → Side D → Outcome (Side D) R → Side D
-left s (refused k) = s
-left s (accepted t r) = t
+-- the state after a call: a refused one leaves it as it was
+abbrev pub stateAfter : {D R : Type 0} → State D → Outcome (State D) R → State D
+stateAfter s (refused k) = s
+stateAfter s (accepted t r) = t
 
-module _ {D E R : Type 0} (p : Rules D E R) where
-  -- what a call comes to on a side: 25 for a buffer too short, 23 where no number is left, then as the edit has it
-  abbrev pub callOn : Side D → Call E → Outcome (Side D) R
-  callOn s c =
-      need (leb 30 (c .room)) 25 (need (ltb (s .count) lastNumber) 23 (counted (s .count + 1) (p .edit (s .drawing) (c .edit))))
+module _ {D E R : Type 0} (p : Protocol D E R) where
+  -- the outcome of a call in a state: 25 for a buffer too short, 23 where no number is left, then the edit's outcome
+  abbrev pub callOutcome : State D → Call E → Outcome (State D) R
+  callOutcome s c =
+      guard (leb 30 (c .room)) 25 (guard (ltb (s .count) maxNumber) 23 (withCount (s .count + 1) (p .edit (s .drawing) (c .edit))))
 
-  -- an accepted call tells its report, and the message of its edit and number
-  abbrev pub deskTold : E → Outcome (Side D) R → DeskTold R
-  deskTold e (refused k) = declined k
-  deskTold e (accepted t r) = done r (p .encode (t .count) e)
+  -- an accepted call replies with its report, and the message of its edit and number
+  abbrev pub replyTo : E → Outcome (State D) R → DeskReply R
+  replyTo e (refused k) = deskRefused k
+  replyTo e (accepted t r) = deskAccepted r (p .encode (t .count) e)
 
-  -- what is promised of one call
-  pub record DeskSays (s : Side D) (x : DeskStep D E R) : Type 0 where
-    pub side : x .side ≡ left s (callOn s (x .call))
-    pub told : x .told ≡ deskTold (x .call .edit) (callOn s (x .call))
+  -- a step is valid: its state and its reply are those of the call's outcome
+  pub record DeskStepValid (s : State D) (x : DeskStep D E R) : Type 0 where
+    pub state : x .state ≡ stateAfter s (callOutcome s (x .call))
+    pub reply : x .reply ≡ replyTo (x .call .edit) (callOutcome s (x .call))
 
   -- calls one after the other, each on what the last one left
-  abbrev pub DeskRun : Side D → List (DeskStep D E R) → Type 0
+  abbrev pub DeskRun : State D → List (DeskStep D E R) → Type 0
   DeskRun s [] = Unit {0}
-  DeskRun s (x ∷ xs) = DeskSays s x × DeskRun (x .side) xs
+  DeskRun s (x ∷ xs) = DeskStepValid s x × DeskRun (x .state) xs
 
-abbrev pub deskAfter : {D E R : Type 0} → Side D → List (DeskStep D E R) → Side D
+abbrev pub deskAfter : {D E R : Type 0} → State D → List (DeskStep D E R) → State D
 deskAfter s [] = s
-deskAfter s (x ∷ xs) = deskAfter (x .side) xs
+deskAfter s (x ∷ xs) = deskAfter (x .state) xs
 
-abbrev pub messageOf : {R : Type 0} → DeskTold R → List (List ℕ) → List (List ℕ)
-messageOf (declined k) ms = ms
-messageOf (done r m) ms = m ∷ ms
+abbrev pub prependMessage : {R : Type 0} → DeskReply R → List (List ℕ) → List (List ℕ)
+prependMessage (deskRefused k) ms = ms
+prependMessage (deskAccepted r m) ms = m ∷ ms
 
 -- the messages that some calls wrote, in order
 abbrev pub messages : {D E R : Type 0} → List (DeskStep D E R) → List (List ℕ)
 messages [] = []
-messages (x ∷ xs) = messageOf (x .told) (messages xs)
+messages (x ∷ xs) = prependMessage (x .reply) (messages xs)
 
 -- ---- the wall
 
--- what a delivery told: a refusal, that it is old, or a report
-pub data WallTold (R : Type 0) : Type 0 where
-  rejected : ℕ → WallTold R
-  old : WallTold R
-  applied : R → WallTold R
+-- the wall's reply: refused by a number, old, or applied with a report
+pub data WallReply (R : Type 0) : Type 0 where
+  wallRefused : ℕ → WallReply R
+  wallOld : WallReply R
+  wallApplied : R → WallReply R
 
--- the delivery as it happened
+-- one step of the wall: the bytes delivered, the state after it, the reply
 pub record WallStep (D R : Type 0) : Type 0 where
   pub bytes : List ℕ
-  pub side : Side D
-  pub told : WallTold R
+  pub state : State D
+  pub reply : WallReply R
 
-module _ {D E R : Type 0} (p : Rules D E R) where
-  abbrev pub wallEdit : Side D → ℕ → Outcome D R → Side D × WallTold R
-  wallEdit s n (refused k) = (s, rejected k)
-  wallEdit s n (accepted d r) = (record { drawing = d; count = n }, applied r)
+module _ {D E R : Type 0} (p : Protocol D E R) where
+  abbrev pub wallApply : State D → ℕ → Outcome D R → State D × WallReply R
+  wallApply s n (refused k) = (s, wallRefused k)
+  wallApply s n (accepted d r) = (record { drawing = d; count = n }, wallApplied r)
 
   -- old at or below the count, the edit at the next number, 7 beyond it
-  abbrev pub wallRead : Side D → Reading E → Side D × WallTold R
-  wallRead s (bad k) = (s, rejected k)
-  wallRead s (message n e) =
-      pick (leb n (s .count)) (s, old)
-      (pick (eqb n (s .count + 1)) (wallEdit s n (p .edit (s .drawing) e)) (s, rejected 7))
+  abbrev pub wallTransition : State D → Decoded E → State D × WallReply R
+  wallTransition s (invalid k) = (s, wallRefused k)
+  wallTransition s (message n e) =
+      ite (leb n (s .count)) (s, wallOld)
+      (ite (eqb n (s .count + 1)) (wallApply s n (p .edit (s .drawing) e)) (s, wallRefused 7))
 
-  -- what is promised of one delivery
-  pub record WallSays (s : Side D) (x : WallStep D R) : Type 0 where
-    pub side : x .side ≡ wallRead s (p .decode (x .bytes)) .0
-    pub told : x .told ≡ wallRead s (p .decode (x .bytes)) .1
+  -- a step is valid: its state and its reply are those of the wall's transition
+  pub record WallStepValid (s : State D) (x : WallStep D R) : Type 0 where
+    pub state : x .state ≡ wallTransition s (p .decode (x .bytes)) .0
+    pub reply : x .reply ≡ wallTransition s (p .decode (x .bytes)) .1
 
   -- deliveries one after the other, each on what the last one left
-  abbrev pub WallRun : Side D → List (WallStep D R) → Type 0
+  abbrev pub WallRun : State D → List (WallStep D R) → Type 0
   WallRun s [] = Unit {0}
-  WallRun s (x ∷ xs) = WallSays s x × WallRun (x .side) xs
+  WallRun s (x ∷ xs) = WallStepValid s x × WallRun (x .state) xs
 
-abbrev pub wallAfter : {D R : Type 0} → Side D → List (WallStep D R) → Side D
+abbrev pub wallAfter : {D R : Type 0} → State D → List (WallStep D R) → State D
 wallAfter s [] = s
-wallAfter s (x ∷ xs) = wallAfter (x .side) xs
+wallAfter s (x ∷ xs) = wallAfter (x .state) xs
 
 -- each delivery is one of the messages, as written
 abbrev pub Delivered : {D R : Type 0} → List (List ℕ) → List (WallStep D R) → Type 0
 Delivered ms [] = Unit {0}
 Delivered ms (x ∷ xs) = List·Memᴰ (x .bytes) ms × Delivered ms xs
 
--- ---- the book: it sees the desk's calls alone
+-- ---- the reference machine, 01's book: it sees the desk's calls alone
 
 abbrev pub calls : {D E R : Type 0} → List (DeskStep D E R) → List (Call E)
 calls xs = map (λ x. x .call) xs
 
--- an accepted call: the book's side after it, its edit, its report
+-- a log entry for an accepted call: the reference machine's state after it, its edit, its report
 pub record Entry (D E R : Type 0) : Type 0 where
-  pub after : Side D
+  pub after : State D
   pub edit : E
   pub report : R
 
-abbrev pub enter : {D E R : Type 0} → E → Outcome (Side D) R → List (Entry D E R) → List (Entry D E R)
-enter e (refused k) l = l
-enter e (accepted t r) l = record { after = t; edit = e; report = r } ∷ l
+abbrev pub appendAccepted : {D E R : Type 0} → E → Outcome (State D) R → List (Entry D E R) → List (Entry D E R)
+appendAccepted e (refused k) l = l
+appendAccepted e (accepted t r) l = record { after = t; edit = e; report = r } ∷ l
 
-module _ {D E R : Type 0} (p : Rules D E R) where
-  abbrev pub bookAfter : Side D → List (Call E) → Side D
-  bookAfter s [] = s
-  bookAfter s (c ∷ cs) = bookAfter (left s (callOn p s c)) cs
+module _ {D E R : Type 0} (p : Protocol D E R) where
+  abbrev pub referenceAfter : State D → List (Call E) → State D
+  referenceAfter s [] = s
+  referenceAfter s (c ∷ cs) = referenceAfter (stateAfter s (callOutcome p s c)) cs
 
-  -- the accepted ones of some calls, in order
-  abbrev pub ledger : Side D → List (Call E) → List (Entry D E R)
-  ledger s [] = []
-  ledger s (c ∷ cs) = enter (c .edit) (callOn p s c) (ledger (left s (callOn p s c)) cs)
+  -- the log of the accepted ones of some calls, in order
+  abbrev pub acceptedLog : State D → List (Call E) → List (Entry D E R)
+  acceptedLog s [] = []
+  acceptedLog s (c ∷ cs) = appendAccepted (c .edit) (callOutcome p s c) (acceptedLog (stateAfter s (callOutcome p s c)) cs)

@@ -11,12 +11,12 @@ use Rattle.float.specs.Numbers.{_⊖_, 0f, 1f, 1e-13, 1e-10}
 use Rattle.float.specs.Sign.{abs}
 use Rattle.bernstein.specs.Evaluate.{evaluateOf}
 use Rattle.bernstein.specs.Bisect.{bisectOf}
-use Rattle.bernstein.specs.Roots.{Outcome, found, refused, allFinite, tiny, toleranceOf, slopes, derivativeOf, sortOnto, insert, dedupAfter, dedupOf, knotsOf, isZero, zerosOf, noBracket, withRoot, andThen, bracketsOf, brackets, gathered, settled, levelOf, onLevel, rootsAt, rootsOf}
+use Rattle.bernstein.specs.Roots.{RootsResult, found, refused, allFinite, tiny, toleranceOf, slopes, derivativeOf, sortOnto, insert, dedupAfter, dedupOf, knotsOf, isZero, zerosOf, noBracket, withRoot, andThen, bracketsOf, brackets, gathered, sortedDedup, levelOf, onLevel, rootsAt, rootsOf}
 use Rattle.bernstein.specs.declared.Bisected.{Bisected}
 use Rattle.bernstein.specs.declared.Bisected.the-variants.{At, Spent}
 use Rattle.bernstein.proofs.OrderWalks.{insert-length}
 
-abbrev pub count : Outcome → ℕ
+abbrev pub count : RootsResult → ℕ
 count (found l b) = length l
 count (refused w b) = 0
 
@@ -56,17 +56,17 @@ knots-length ts =
     let e = 0f ∷ 1f ∷ [] in
     omega (arith, dedup-length 1e-13 (sortOnto [] (ts ++ e)), sort-length [] (ts ++ e), length-append ts e)
 
-settled-count : (z : List Float) (o : Outcome) → count (settled (gathered z o)) ≤ length z + count o
-unfolding settled gathered
+settled-count : (z : List Float) (o : RootsResult) → count (sortedDedup (gathered z o)) ≤ length z + count o
+unfolding sortedDedup gathered
 settled-count z (found l b) = omega (arith, dedup-length 1e-10 (sortOnto [] (z ++ l)), sort-length [] (z ++ l), length-append z l)
 settled-count z (refused w b) = omega arith
 
-with-count : (r : Float) (o : Outcome) → count (withRoot r o) ≤ suc (count o)
+with-count : (r : Float) (o : RootsResult) → count (withRoot r o) ≤ suc (count o)
 unfolding withRoot
 with-count r (found l b) = omega arith
 with-count r (refused w b) = omega arith
 
-then-count : (rest : ℕ → Outcome) (x : Bisected) (n : ℕ) → ((b : ℕ) → count (rest b) ≤ n) → count (andThen rest x) ≤ suc n
+then-count : (rest : ℕ → RootsResult) (x : Bisected) (n : ℕ) → ((b : ℕ) → count (rest b) ≤ n) → count (andThen rest x) ≤ suc n
 unfolding andThen
 then-count rest (At r b) n h = omega (arith, with-count r (rest b), h b)
 then-count rest Spent n h = omega arith
@@ -82,7 +82,7 @@ pick-cons : (t : Bool) (x : Float) (l : List Float) → length (cond t (x ∷ l)
 pick-cons true x l = refl
 pick-cons false x l = refl
 
-pick-count : (t : Bool) (o p : Outcome) → count (cond t o p) ≡ cond t (count o) (count p)
+pick-count : (t : Bool) (o p : RootsResult) → count (cond t o p) ≡ cond t (count o) (count p)
 pick-count true o p = refl
 pick-count false o p = refl
 
@@ -101,7 +101,7 @@ module _ (c : List Float) (eps : Float) where
   after-count lo (hi ∷ l) b =
       let z = length (zerosOf c eps l) in
       let x = bisectOf c 64 lo hi (evaluateOf c lo) b in
-      let rest : ℕ → Outcome = λ b'. bracketsOf c eps hi l b' in
+      let rest : ℕ → RootsResult = λ b'. bracketsOf c eps hi l b' in
       let k : count (andThen rest x) ≤ suc (length l - z) = then-count rest x (length l - z) (λ b'. omega (arith, after-count hi l b')) in
       let m : z + count (rest b) ≤ length l = after-count hi l b in
       rw (pick-cons (isZero eps (evaluateOf c hi)) hi (zerosOf c eps l), pick-count (noBracket eps (evaluateOf c lo) (evaluateOf c hi)) (rest b) (andThen rest x))
@@ -123,12 +123,12 @@ level-count c ts b =
     let eps = toleranceOf c in
     omega (arith, settled-count (zerosOf c eps (knotsOf ts)) (brackets c eps (knotsOf ts) b), all-count c eps (knotsOf ts) b, knots-length ts)
 
-on-count : (c : List Float) (o : Outcome) (n : ℕ) → count o ≤ n → count (onLevel c o) ≤ n + 2
+on-count : (c : List Float) (o : RootsResult) (n : ℕ) → count o ≤ n → count (onLevel c o) ≤ n + 2
 unfolding onLevel
 on-count c (found ts b) n h = omega (arith, level-count c ts b)
 on-count c (refused w b) n h = omega arith
 
-pick-bound : (t : Bool) (o p : Outcome) (n : ℕ) → count o ≤ n → count p ≤ n → count (cond t o p) ≤ n
+pick-bound : (t : Bool) (o p : RootsResult) (n : ℕ) → count o ≤ n → count p ≤ n → count (cond t o p) ≤ n
 pick-bound true o p n h k = h
 pick-bound false o p n h k = k
 

@@ -10,8 +10,8 @@ use lib.Seq.{drop-cons, take-suc-set, take-at, length-take-le}
 use lib.Ieee.{Float, nan}
 use Rattle.bernstein.specs.Evaluate.{evaluateOf}
 use Rattle.bernstein.specs.Bisect.{sameSign, bisectOf}
-use Rattle.bernstein.specs.Roots.{Outcome, found, refused, isZero, zerosOf, noBracket, withRoot, andThen, bracketsOf, brackets, gathered, answerOf}
-use Rattle.bernstein.specs.Level.{listOf, Laid}
+use Rattle.bernstein.specs.Roots.{RootsResult, found, refused, isZero, zerosOf, noBracket, withRoot, andThen, bracketsOf, brackets, gathered, answerOf}
+use Rattle.bernstein.specs.Contracts.{listOf, RootsAtFront}
 use Rattle.bernstein.specs.declared.Bisected.{Bisected}
 use Rattle.bernstein.specs.declared.Bisected.the-variants.{At, Spent}
 use Rattle.bernstein.specs.declared.Roots.the-variants.{Found, Refused}
@@ -104,13 +104,13 @@ module _ (eps fl fh : Float) where
   unfolding noBracket
   neither e f = rw (e, f)
 
-pub laid-found : (o : Outcome) (f : List Float) (q left : ℕ) → found (take q f ++ []) left ≡ o → q ≤ length f → Laid o f (Found q left)
+pub laid-found : (o : RootsResult) (f : List Float) (q left : ℕ) → found (take q f ++ []) left ≡ o → q ≤ length f → RootsAtFront o f (Found q left)
 unfolding answerOf listOf
 laid-found o f q left e h =
     let n : length (take q f ++ []) ≡ q = simp append-nil (length-take-le q f h) in
     rw (← e) (record { answer = ap (λ (m : ℕ). Found m left) (sym n); front = rw n (sym (append-nil (take q f))) })
 
-pub laid-refused : (o : Outcome) (f : List Float) → refused 21 0 ≡ o → Laid o f (Refused 21 0)
+pub laid-refused : (o : RootsResult) (f : List Float) → refused 21 0 ≡ o → RootsAtFront o f (Refused 21 0)
 unfolding answerOf listOf
 laid-refused o f e = rw (← e) (record { answer = refl; front = refl })
 
@@ -124,7 +124,7 @@ unfolding brackets
 first-knot c eps [] b h = absurd (omega arith)
 first-knot c eps (k ∷ knots) b h = refl
 
-with-root : (z : List Float) (r : Float) (o : Outcome) → gathered z (withRoot r o) ≡ gathered (z ++ (r ∷ [])) o
+with-root : (z : List Float) (r : Float) (o : RootsResult) → gathered z (withRoot r o) ≡ gathered (z ++ (r ∷ [])) o
 unfolding gathered withRoot
 with-root z r (found l b) = ap (λ (x : List Float). found x b) (sym (append-assoc z (r ∷ []) l))
 with-root z r (refused w b) = refl
@@ -145,14 +145,14 @@ search-first c knots eps f z budget fl h g e =
 
 module _ (c knots : List Float) (eps : Float) (f₀ : List Float) (z budget : ℕ) (f : List Float) (q left : ℕ) (lo fl : Float) (i : ℕ)
     (s : Searching c knots eps f₀ z budget f q left lo fl i) where
-  abbrev whole : Outcome
+  abbrev whole : RootsResult
   whole = gathered (take z f₀) (brackets c eps knots budget)
 
   module _ (h : i < length knots) (fh : Float) (eh : fh ≡ evaluateOf c (getD knots i nan)) (n : Bool) (en : n ≡ noBracket eps fl fh) where
     abbrev hi : Float
     hi = getD knots i nan
 
-    abbrev rest : ℕ → Outcome
+    abbrev rest : ℕ → RootsResult
     rest b = bracketsOf c eps hi (drop (suc i) knots) b
 
     test : (t : Bool) → n ≡ t → noBracket eps (evaluateOf c lo) (evaluateOf c hi) ≡ t
@@ -197,7 +197,7 @@ module _ (c knots : List Float) (eps : Float) (f₀ : List Float) (z budget : �
             done = rw (ef, eq, el, add-one, add-one, take-suc-set f q r k, ← with-root (take q f) r (rest b), ← step) ahead;
           }
 
-  pub all-searched : length knots ≤ i → Laid whole f (Found q left)
+  pub all-searched : length knots ≤ i → RootsAtFront whole f (Found q left)
   unfolding gathered bracketsOf
   all-searched h =
       let w : q + 1 ≤ z + i = s .few in

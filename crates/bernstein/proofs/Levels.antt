@@ -9,27 +9,27 @@ use lib.ListN.{length, take, drop, length-append, length-take}
 use lib.Seq.{take-at, take-append-le}
 use lib.Ieee.{Float, lt}
 use Rattle.float.specs.Numbers.{_⊗_, 0f, 1f, 1e-28, 2e-13, 1e-13, 1e-10}
-use Rattle.bernstein.specs.Roots.{Outcome, found, refused, allFinite, largestOf, tiny, toleranceOf, derivativeOf, sortOnto, dedupOf, knotsOf, zerosOf, brackets, gathered, settled, levelOf, onLevel, rootsAt, rootsOf, searchOf, answerOf, leftIn, Searched}
-use Rattle.bernstein.specs.Level.{listOf, Laid}
+use Rattle.bernstein.specs.Roots.{RootsResult, found, refused, allFinite, largestOf, tiny, toleranceOf, derivativeOf, sortOnto, dedupOf, knotsOf, zerosOf, brackets, gathered, sortedDedup, levelOf, onLevel, rootsAt, rootsOf, searchOf, answerOf, leftIn, Searched}
+use Rattle.bernstein.specs.Contracts.{listOf, RootsAtFront}
 use Rattle.bernstein.specs.declared.Roots.{Roots}
 use Rattle.bernstein.specs.declared.Roots.the-variants.{Found, Refused}
 use Rattle.bernstein.proofs.Counts.{count, level-count, roots-count, derivative-length}
 
 -- ---- what a call answers and leaves, once its outcome is known
 
-pub refuses : (o : Outcome) (w b : ℕ) (lent : List Float) → o ≡ refused w b → Searched o lent lent (Refused w b)
+pub refuses : (o : RootsResult) (w b : ℕ) (lent : List Float) → o ≡ refused w b → Searched o lent lent (Refused w b)
 unfolding answerOf leftIn
 refuses o w b lent e = rw e (record { answer = refl; buffer = refl })
 
-pub finds-none : (o : Outcome) (b : ℕ) (lent : List Float) → o ≡ found [] b → Searched o lent lent (Found 0 b)
+pub finds-none : (o : RootsResult) (b : ℕ) (lent : List Float) → o ≡ found [] b → Searched o lent lent (Found 0 b)
 unfolding answerOf leftIn
 finds-none o b lent e = rw e (record { answer = refl; buffer = refl })
 
-pub finds : (o : Outcome) (l : List Float) (n b : ℕ) (lent later : List Float) → o ≡ found l b → n ≡ length l → later ≡ l ++ drop (length l) lent → Searched o lent later (Found n b)
+pub finds : (o : RootsResult) (l : List Float) (n b : ℕ) (lent later : List Float) → o ≡ found l b → n ≡ length l → later ≡ l ++ drop (length l) lent → Searched o lent later (Found n b)
 unfolding answerOf leftIn
 finds o l n b lent later e en el = rw e (record { answer = ap (λ (m : ℕ). Found m b) en; buffer = el })
 
-refusal-is : (o : Outcome) (w b : ℕ) → Refused w b ≡ answerOf o → o ≡ refused w b
+refusal-is : (o : RootsResult) (w b : ℕ) → Refused w b ≡ answerOf o → o ≡ refused w b
 unfolding answerOf
 refusal-is (found ts b') w b e = let z : _≡_ {A = ℕ} 0 1 = cc in absurd (omega arith)
 refusal-is (refused w' b') w b e = cc
@@ -67,17 +67,17 @@ module _ (ts j t : List Float) (m : ℕ) (ej : take (length ts + 2) j ≡ ts ++ 
 
 -- what lies between the zeros and their tidying: k the knots, z the zeros and s the largest coefficient
 module _ (c ts k z : List Float) (b : ℕ) (s : Float) (ek : k ≡ knotsOf ts) (es : s ≡ largestOf 0f c) (ez : z ≡ zerosOf c (s ⊗ 2e-13) k) where
-  pub level-is : levelOf c ts b ≡ settled (gathered z (brackets c (s ⊗ 2e-13) k b))
+  pub level-is : levelOf c ts b ≡ sortedDedup (gathered z (brackets c (s ⊗ 2e-13) k b))
   unfolding levelOf toleranceOf
   level-is = rw (ez, ek, es)
 
-module _ (c ts : List Float) (b : ℕ) (o : Outcome) (el : levelOf c ts b ≡ settled o) (f : List Float) (r : Roots) (laid : Laid o f r) where
+module _ (c ts : List Float) (b : ℕ) (o : RootsResult) (el : levelOf c ts b ≡ sortedDedup o) (f : List Float) (r : Roots) (laid : RootsAtFront o f r) where
   pub level-refused : (w left : ℕ) → r ≡ Refused w left → levelOf c ts b ≡ refused w left
-  unfolding settled
-  level-refused w left e = el ∙ ap settled (refusal-is o w left (sym e ∙ laid .answer))
+  unfolding sortedDedup
+  level-refused w left e = el ∙ ap sortedDedup (refusal-is o w left (sym e ∙ laid .answer))
 
   module _ (q left : ℕ) (e : r ≡ Found q left) where
-    found-is : (o : Outcome) → Found q left ≡ answerOf o → take (length (listOf o)) f ≡ listOf o → (o ≡ found (take q f) left) × (q ≡ length (take q f))
+    found-is : (o : RootsResult) → Found q left ≡ answerOf o → take (length (listOf o)) f ≡ listOf o → (o ≡ found (take q f) left) × (q ≡ length (take q f))
     unfolding answerOf listOf
     found-is (found l b') a g =
         let e₁ : length l ≡ q = cc in
@@ -87,8 +87,8 @@ module _ (c ts : List Float) (b : ℕ) (o : Outcome) (el : levelOf c ts b ≡ se
     found-is (refused w b') a g = let z : _≡_ {A = ℕ} 0 1 = cc in absurd (omega arith)
 
     pub level-found : levelOf c ts b ≡ found (dedupOf 1e-10 (sortOnto [] (take q f))) left
-    unfolding settled
-    level-found = el ∙ ap settled (found-is o (sym e ∙ laid .answer) (laid .front) .0)
+    unfolding sortedDedup
+    level-found = el ∙ ap sortedDedup (found-is o (sym e ∙ laid .answer) (laid .front) .0)
 
     pub q-counted : q ≡ length (take q f)
     q-counted = found-is o (sym e ∙ laid .answer) (laid .front) .1
@@ -158,7 +158,7 @@ module _ (c d k z : List Float) (b : ℕ) (r : Roots) (hc : 1 < length c) (h : l
   below = ap (λ (x : List Float). rootsOf x b) ed
 
   module _ (m left : ℕ) (e : r ≡ Found m left) where
-    found-is-below : (o : Outcome) → Found m left ≡ answerOf o → k ≡ leftIn o z → (o ≡ found (take m k) left) × (m ≡ length (take m k))
+    found-is-below : (o : RootsResult) → Found m left ≡ answerOf o → k ≡ leftIn o z → (o ≡ found (take m k) left) × (m ≡ length (take m k))
     unfolding answerOf leftIn
     found-is-below (found ts b') a f =
         let e₁ : length ts ≡ m = cc in
@@ -198,5 +198,5 @@ unfolding searchOf
 room-enough room c b h = rw (le-ltb room 28 h)
 
 -- the same outcome under another name
-pub renamed : (o p : Outcome) (lent later : List Float) (r : Roots) → o ≡ p → Searched p lent later r → Searched o lent later r
+pub renamed : (o p : RootsResult) (lent later : List Float) (r : Roots) → o ≡ p → Searched p lent later r → Searched o lent later r
 renamed o p lent later r e s = rw e s

@@ -8,28 +8,28 @@ use lib.ListN.{length, getD, take, drop, set, length-set, length-take}
 use lib.Seq.{take-at}
 use lib.Ieee.{Float, nan}
 use Rattle.float.specs.Numbers.{0f}
-use Rattle.bernstein.specs.Evaluate.{mix, lower, lowered, valueOf, evaluateOf}
+use Rattle.bernstein.specs.Evaluate.{mix, casteljauStep, casteljauSteps, valueOf, evaluateOf}
 use Rattle.bernstein.proofs.Lists.{laid-more, laid-all}
 
-lower-length : (t : Float) (c : List Float) → length (lower t c) ≡ length c - 1
-unfolding lower
+lower-length : (t : Float) (c : List Float) → length (casteljauStep t c) ≡ length c - 1
+unfolding casteljauStep
 lower-length t [] = omega arith
 lower-length t (x ∷ []) = omega arith
 lower-length t (x ∷ y ∷ r) = omega (arith, lower-length t (y ∷ r))
 
-pub lowered-length : (t : Float) (n : ℕ) (c : List Float) → length (lowered t n c) ≡ length c - n
-unfolding lowered
+pub lowered-length : (t : Float) (n : ℕ) (c : List Float) → length (casteljauSteps t n c) ≡ length c - n
+unfolding casteljauSteps
 lowered-length t zero c = omega arith
-lowered-length t (suc n) c = omega (arith, lowered-length t n (lower t c), lower-length t c)
+lowered-length t (suc n) c = omega (arith, lowered-length t n (casteljauStep t c), lower-length t c)
 
-lowered-add : (t : Float) (m n : ℕ) (c : List Float) → lowered t m (lowered t n c) ≡ lowered t (n + m) c
-unfolding lowered
+lowered-add : (t : Float) (m n : ℕ) (c : List Float) → casteljauSteps t m (casteljauSteps t n c) ≡ casteljauSteps t (n + m) c
+unfolding casteljauSteps
 lowered-add t m zero c = let e : 0 + m ≡ m = omega arith in rw e
-lowered-add t m (suc n) c = let e : suc n + m ≡ suc (n + m) = omega arith in rw e (lowered-add t m n (lower t c))
+lowered-add t m (suc n) c = let e : suc n + m ≡ suc (n + m) = omega arith in rw e (lowered-add t m n (casteljauStep t c))
 
 -- two neighbours mixed, j being the place behind i
-mixed : (t : Float) (c : List Float) (i j : ℕ) → j ≡ i + 1 → j < length c → mix t (getD c i nan) (getD c j nan) ≡ getD (lower t c) i nan
-unfolding lower
+mixed : (t : Float) (c : List Float) (i j : ℕ) → j ≡ i + 1 → j < length c → mix t (getD c i nan) (getD c j nan) ≡ getD (casteljauStep t c) i nan
+unfolding casteljauStep
 mixed t [] i j e h = absurd (omega arith)
 mixed t (x ∷ []) i j e h = absurd (omega arith)
 mixed t (x ∷ y ∷ r) zero zero e h = absurd (omega arith)
@@ -47,20 +47,20 @@ pub record Walk (t : Float) (u v₀ : List Float) (n i : ℕ) (v : List Float) (
   pub room : n ≤ length v
   pub same : length v ≡ length v₀
   pub at0 : last0 ≡ getD u (i + 3) nan
-  pub at1 : last1 ≡ getD (lower t u) (i + 2) nan
-  pub at2 : last2 ≡ getD (lower t (lower t u)) (i + 1) nan
-  pub at3 : last3 ≡ getD (lower t (lower t (lower t u))) i nan
-  pub done : v ≡ take i (lowered t 4 u) ++ drop i v₀
+  pub at1 : last1 ≡ getD (casteljauStep t u) (i + 2) nan
+  pub at2 : last2 ≡ getD (casteljauStep t (casteljauStep t u)) (i + 1) nan
+  pub at3 : last3 ≡ getD (casteljauStep t (casteljauStep t (casteljauStep t u))) i nan
+  pub done : v ≡ take i (casteljauSteps t 4 u) ++ drop i v₀
 
 module _ (t : Float) (u : List Float) where
   abbrev u₁ : List Float
-  u₁ = lower t u
+  u₁ = casteljauStep t u
 
   abbrev u₂ : List Float
-  u₂ = lower t u₁
+  u₂ = casteljauStep t u₁
 
   abbrev u₃ : List Float
-  u₃ = lower t u₂
+  u₃ = casteljauStep t u₂
 
   one-less : length u₁ ≡ length u - 1
   one-less = lower-length t u
@@ -89,7 +89,7 @@ module _ (t : Float) (u : List Float) where
   module _ (v₀ v : List Float) (n i : ℕ) (last0 last1 last2 last3 : Float) (w : Walk t u v₀ n i v last0 last1 last2 last3) where
     pub turn : i < n → (next0 next1 next2 next3 out : Float) → next0 ≡ getD u (i + 4) nan → next1 ≡ mix t last0 next0 → next2 ≡ mix t last1 next1
         → next3 ≡ mix t last2 next2 → out ≡ mix t last3 next3 → Walk t u v₀ n (i + 1) (set v i out) next0 next1 next2 next3
-    unfolding lowered
+    unfolding casteljauSteps
     turn h next0 next1 next2 next3 out e0 e1 e2 e3 eo =
         let c : n + 4 ≡ length u = w .count in
         let a₀ : next0 ≡ getD u (i + 1 + 3) nan = e0 ∙ ap (λ (j : ℕ). getD u j nan) (omega arith) in
@@ -99,8 +99,8 @@ module _ (t : Float) (u : List Float) where
         let h₂ : i + 2 < length u₂ = omega (arith, two-less) in
         let a₃ : next3 ≡ getD u₃ (i + 1) nan = e3 ∙ rw (w .at2, a₂) (mixed t u₂ (i + 1) (i + 2) (omega arith) h₂) in
         let h₃ : i + 1 < length u₃ = omega (arith, three-less) in
-        let a₄ : out ≡ getD (lowered t 4 u) i nan = eo ∙ rw (w .at3, a₃) (mixed t u₃ i (i + 1) refl h₃) in
-        let g : i < length (lowered t 4 u) = omega (arith, lowered-length t 4 u) in
+        let a₄ : out ≡ getD (casteljauSteps t 4 u) i nan = eo ∙ rw (w .at3, a₃) (mixed t u₃ i (i + 1) refl h₃) in
+        let g : i < length (casteljauSteps t 4 u) = omega (arith, lowered-length t 4 u) in
         let r : n ≤ length v = w .room in
         let s : length v ≡ length v₀ = w .same in
         let k : length (set v i out) ≡ length v = length-set v i out in
@@ -113,38 +113,38 @@ module _ (t : Float) (u : List Float) where
           at1 = a₁ ∙ ap (λ (j : ℕ). getD u₁ j nan) (omega arith);
           at2 = a₂ ∙ ap (λ (j : ℕ). getD u₂ j nan) (omega arith);
           at3 = a₃;
-          done = rw a₄ (laid-more v₀ (lowered t 4 u) v i nan (w .done) (omega arith) g);
+          done = rw a₄ (laid-more v₀ (casteljauSteps t 4 u) v i nan (w .done) (omega arith) g);
         }
 
-    pub finish : n ≤ i → v ≡ lowered t 4 u ++ drop (length u - 4) v₀
+    pub finish : n ≤ i → v ≡ casteljauSteps t 4 u ++ drop (length u - 4) v₀
     finish h =
         let b : i ≤ n = w .within in
         let c : n + 4 ≡ length u = w .count in
-        let e : i ≡ length (lowered t 4 u) = omega (arith, lowered-length t 4 u) in
-        rw (← lowered-length t 4 u) (laid-all v₀ (lowered t 4 u) v i (w .done) e)
+        let e : i ≡ length (casteljauSteps t 4 u) = omega (arith, lowered-length t 4 u) in
+        rw (← lowered-length t 4 u) (laid-all v₀ (casteljauSteps t 4 u) v i (w .done) e)
 
 -- ---- the last few steps
 
 pub none : (t : Float) (c : List Float) → length c ≡ 0 → 0f ≡ valueOf c t
-unfolding lowered
+unfolding casteljauSteps
 none t [] e = refl
 none t (x ∷ c) e = absurd (omega arith)
 
 pub single : (t : Float) (c : List Float) → length c ≡ 1 → getD c 0 nan ≡ valueOf c t
-unfolding lowered
+unfolding casteljauSteps
 single t [] e = absurd (omega arith)
 single t (x ∷ []) e = refl
 single t (x ∷ y ∷ c) e = absurd (omega arith)
 
 pub pair : (t : Float) (c : List Float) → length c ≡ 2 → mix t (getD c 0 nan) (getD c 1 nan) ≡ valueOf c t
-unfolding lowered lower
+unfolding casteljauSteps casteljauStep
 pair t [] e = absurd (omega arith)
 pair t (x ∷ []) e = absurd (omega arith)
 pair t (x ∷ y ∷ []) e = refl
 pair t (x ∷ y ∷ z ∷ c) e = absurd (omega arith)
 
 pub triple : (t : Float) (c : List Float) → length c ≡ 3 → mix t (mix t (getD c 0 nan) (getD c 1 nan)) (mix t (getD c 1 nan) (getD c 2 nan)) ≡ valueOf c t
-unfolding lowered lower
+unfolding casteljauSteps casteljauStep
 triple t [] e = absurd (omega arith)
 triple t (x ∷ []) e = absurd (omega arith)
 triple t (x ∷ y ∷ []) e = absurd (omega arith)
@@ -154,7 +154,7 @@ triple t (x ∷ y ∷ z ∷ w ∷ c) e = absurd (omega arith)
 pub four : (t : Float) (c : List Float) → length c ≡ 4
     → mix t (mix t (mix t (getD c 0 nan) (getD c 1 nan)) (mix t (getD c 1 nan) (getD c 2 nan))) (mix t (mix t (getD c 1 nan) (getD c 2 nan)) (mix t (getD c 2 nan) (getD c 3 nan)))
     ≡ valueOf c t
-unfolding lowered lower
+unfolding casteljauSteps casteljauStep
 four t [] e = absurd (omega arith)
 four t (x ∷ []) e = absurd (omega arith)
 four t (x ∷ y ∷ []) e = absurd (omega arith)
@@ -173,11 +173,11 @@ unfolding evaluateOf
 many t c h = rw (lt-ltb 15 (length c) h)
 
 -- the front k of a buffer over which four steps were laid
-module _ (t : Float) (u v v₀ : List Float) (k : ℕ) (hu : 4 < length u) (e : v ≡ lowered t 4 u ++ drop (length u - 4) v₀) (ek : k + 4 ≡ length u) where
-  front : take k v ≡ lowered t 4 u
+module _ (t : Float) (u v v₀ : List Float) (k : ℕ) (hu : 4 < length u) (e : v ≡ casteljauSteps t 4 u ++ drop (length u - 4) v₀) (ek : k + 4 ≡ length u) where
+  front : take k v ≡ casteljauSteps t 4 u
   front =
-      let l : length (lowered t 4 u) ≡ k = omega (arith, lowered-length t 4 u) in
-      rw (e, take-at (lowered t 4 u) (drop (length u - 4) v₀) k l)
+      let l : length (casteljauSteps t 4 u) ≡ k = omega (arith, lowered-length t 4 u) in
+      rw (e, take-at (casteljauSteps t 4 u) (drop (length u - 4) v₀) k l)
 
   pub front-length : k ≡ length (take k v)
   front-length = omega (arith, ap length front, lowered-length t 4 u)
@@ -187,6 +187,6 @@ module _ (t : Float) (u v v₀ : List Float) (k : ℕ) (hu : 4 < length u) (e : 
 
   pub front-value : valueOf (take k v) t ≡ valueOf u t
   front-value =
-      let n : length (lowered t 4 u) - 1 ≡ length u - 5 = omega (arith, lowered-length t 4 u) in
+      let n : length (casteljauSteps t 4 u) - 1 ≡ length u - 5 = omega (arith, lowered-length t 4 u) in
       let m : 4 + (length u - 5) ≡ length u - 1 = omega arith in
       rw (front, n, lowered-add t (length u - 5) 4 u, m)

@@ -8,27 +8,27 @@ use lib.ListN.{length}
 use lib.Ieee.{Float}
 use Rattle.bernstein.specs.Evaluate.{evaluateOf}
 use Rattle.bernstein.specs.Bisect.{bisectOf}
-use Rattle.bernstein.specs.Roots.{Outcome, found, refused, allFinite, tiny, toleranceOf, derivativeOf, knotsOf, zerosOf, noBracket, withRoot, andThen, bracketsOf, brackets, gathered, settled, levelOf, onLevel, rootsAt, rootsOf}
+use Rattle.bernstein.specs.Roots.{RootsResult, found, refused, allFinite, tiny, toleranceOf, derivativeOf, knotsOf, zerosOf, noBracket, withRoot, andThen, bracketsOf, brackets, gathered, sortedDedup, levelOf, onLevel, rootsAt, rootsOf}
 use Rattle.bernstein.specs.declared.Bisected.{Bisected}
 use Rattle.bernstein.specs.declared.Bisected.the-variants.{At, Spent}
 
-abbrev pub By20Or21 : Outcome → Type 0
+abbrev pub By20Or21 : RootsResult → Type 0
 By20Or21 (found l b) = Unit {0}
 By20Or21 (refused n b) = (20 ≤ n) × (n ≤ 21)
 
-by-either : (t : Bool) (x y : Outcome) → By20Or21 x → By20Or21 y → By20Or21 (cond t x y)
+by-either : (t : Bool) (x y : RootsResult) → By20Or21 x → By20Or21 y → By20Or21 (cond t x y)
 by-either true x y h k = h
 by-either false x y h k = k
 
 by-20 : (b : ℕ) → By20Or21 (refused 20 b)
 by-20 b = (omega arith, omega arith)
 
-with-root : (r : Float) (o : Outcome) → By20Or21 o → By20Or21 (withRoot r o)
+with-root : (r : Float) (o : RootsResult) → By20Or21 o → By20Or21 (withRoot r o)
 unfolding withRoot
 with-root r (found l b) h = tt
 with-root r (refused n b) h = h
 
-and-then : (f : ℕ → Outcome) (x : Bisected) → ((b : ℕ) → By20Or21 (f b)) → By20Or21 (andThen f x)
+and-then : (f : ℕ → RootsResult) (x : Bisected) → ((b : ℕ) → By20Or21 (f b)) → By20Or21 (andThen f x)
 unfolding andThen
 and-then f (At r b) h = with-root r (f b) (h b)
 and-then f Spent h = (omega arith, omega arith)
@@ -45,12 +45,12 @@ unfolding brackets
 between-all c eps [] b = tt
 between-all c eps (k ∷ l) b = between c eps k l b
 
-in-order : (z : List Float) (o : Outcome) → By20Or21 o → By20Or21 (settled (gathered z o))
-unfolding settled gathered
+in-order : (z : List Float) (o : RootsResult) → By20Or21 o → By20Or21 (sortedDedup (gathered z o))
+unfolding sortedDedup gathered
 in-order z (found l b) h = tt
 in-order z (refused n b) h = h
 
-on-level : (c : List Float) (o : Outcome) → By20Or21 o → By20Or21 (onLevel c o)
+on-level : (c : List Float) (o : RootsResult) → By20Or21 o → By20Or21 (onLevel c o)
 unfolding onLevel levelOf
 on-level c (found ts b) h = in-order (zerosOf c (toleranceOf c) (knotsOf ts)) (brackets c (toleranceOf c) (knotsOf ts) b) (between-all c (toleranceOf c) (knotsOf ts) b)
 on-level c (refused n b) h = h

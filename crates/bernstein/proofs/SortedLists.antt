@@ -9,7 +9,7 @@ use lib.Ieee.{Float, binary64, fits}
 use Rattle.float.specs.Order.{before}
 use Rattle.float.proofs.TotalOrder.{key, before-key}
 use Rattle.bernstein.specs.Roots.{insert, sortOnto}
-use Rattle.bernstein.specs.Sorted.{All, Fit, InOrder}
+use Rattle.bernstein.specs.Sorted.{All, Fit, Ordered}
 
 -- z does not stand before x, which stands before y, if it does not stand before y
 not-before : (x y z : Float) → T (fits binary64 x) → T (fits binary64 y) → T (fits binary64 z) → before x y ≡ true → before z y ≡ false → before z x ≡ false
@@ -37,16 +37,16 @@ none-before : (x y : Float) → T (fits binary64 x) → T (fits binary64 y) → 
 none-before x y hx hy p [] f h = tt
 none-before x y hx hy p (z ∷ l) f h = (not-before x y z hx hy (f .0) p (h .0), none-before x y hx hy p l (f .1) (h .1))
 
-insert-in-order : (x : Float) (l : List Float) → T (fits binary64 x) → Fit l → InOrder l → InOrder (insert x l)
+insert-in-order : (x : Float) (l : List Float) → T (fits binary64 x) → Fit l → Ordered l → Ordered (insert x l)
 unfolding insert
 insert-in-order x [] hx f h = (tt, tt)
 insert-in-order x (y ∷ l) hx f h = go (before x y) refl (insert-in-order y l (f .0) (f .1) (h .1)) (insert-in-order x l hx (f .1) (h .1))
   where
-    go : (t : Bool) → before x y ≡ t → InOrder (insert y l) → InOrder (insert x l) → InOrder (cond t (x ∷ insert y l) (y ∷ insert x l))
+    go : (t : Bool) → before x y ≡ t → Ordered (insert y l) → Ordered (insert x l) → Ordered (cond t (x ∷ insert y l) (y ∷ insert x l))
     go true e b a = (insert-all (λ z. before z x ≡ false) y l (never-back x y hx (f .0) e) (none-before x y hx (f .0) e l (f .1) (h .0)), b)
     go false e b a = (insert-all (λ z. before z y ≡ false) x l e (h .0), a)
 
-sort-in-order : (s l : List Float) → Fit s → Fit l → InOrder s → InOrder (sortOnto s l)
+sort-in-order : (s l : List Float) → Fit s → Fit l → Ordered s → Ordered (sortOnto s l)
 unfolding sortOnto
 sort-in-order s [] f g h = h
 sort-in-order s (x ∷ l) f g h =
@@ -71,5 +71,5 @@ sort-perm s (x ∷ l) =
     Perm·trans (sort-perm (insert x s) l) (Perm·trans (Perm·append-left l (insert-perm x s)) (perm-middle l s))
 
 -- ---- the theorem
-pub sorted : (l : List Float) → Fit l → InOrder (sortOnto [] l) × Perm (sortOnto [] l) l
+pub sorted : (l : List Float) → Fit l → Ordered (sortOnto [] l) × Perm (sortOnto [] l) l
 sorted l f = (sort-in-order [] l tt f tt, rw append-nil at (sort-perm [] l))

@@ -12,12 +12,12 @@ use lib.ListN.{length}
 use lib.Ieee.{Float}
 use Rattle.bernstein.specs.Evaluate.{evaluateOf}
 use Rattle.bernstein.specs.Bisect.{middle, narrow, sameSign, bisectOf}
-use Rattle.bernstein.specs.Roots.{Outcome, found, refused, allFinite, tiny, toleranceOf, derivativeOf, knotsOf, zerosOf, noBracket, withRoot, andThen, bracketsOf, brackets, gathered, settled, levelOf, onLevel, rootsAt, rootsOf}
+use Rattle.bernstein.specs.Roots.{RootsResult, found, refused, allFinite, tiny, toleranceOf, derivativeOf, knotsOf, zerosOf, noBracket, withRoot, andThen, bracketsOf, brackets, gathered, sortedDedup, levelOf, onLevel, rootsAt, rootsOf}
 use Rattle.bernstein.specs.declared.Bisected.{Bisected}
 use Rattle.bernstein.specs.declared.Bisected.the-variants.{At, Spent}
 use Rattle.bernstein.proofs.Counts.{count, knots-length, at-count}
 
-abbrev pub left : Outcome → ℕ
+abbrev pub left : RootsResult → ℕ
 left (found l b) = b
 left (refused w b) = b
 
@@ -51,16 +51,16 @@ bisect-spends c (suc k) lo hi fl b =
 
 -- ---- a level
 
-with-left : (r : Float) (o : Outcome) → left (withRoot r o) ≡ left o
+with-left : (r : Float) (o : RootsResult) → left (withRoot r o) ≡ left o
 unfolding withRoot
 with-left r (found l b) = refl
 with-left r (refused w b) = refl
 
-pick-left : (t : Bool) (o p : Outcome) (b n : ℕ) → b ≤ left o + n → b ≤ left p + n → b ≤ left (cond t o p) + n
+pick-left : (t : Bool) (o p : RootsResult) (b n : ℕ) → b ≤ left o + n → b ≤ left p + n → b ≤ left (cond t o p) + n
 pick-left true o p b n h k = h
 pick-left false o p b n h k = k
 
-then-spends : (rest : ℕ → Outcome) (x : Bisected) (b n : ℕ) → b ≤ remains x + 64 → ((b' : ℕ) → b' ≤ left (rest b') + n) → b ≤ left (andThen rest x) + (n + 64)
+then-spends : (rest : ℕ → RootsResult) (x : Bisected) (b n : ℕ) → b ≤ remains x + 64 → ((b' : ℕ) → b' ≤ left (rest b') + n) → b ≤ left (andThen rest x) + (n + 64)
 unfolding andThen
 then-spends rest (At r b') b n h k = omega (arith, k b', with-left r (rest b'))
 then-spends rest Spent b n h k = omega arith
@@ -70,7 +70,7 @@ module _ (c : List Float) (eps : Float) where
   unfolding bracketsOf
   pairs-spend lo [] b = omega arith
   pairs-spend lo (hi ∷ l) b =
-      let rest : ℕ → Outcome = λ b'. bracketsOf c eps hi l b' in
+      let rest : ℕ → RootsResult = λ b'. bracketsOf c eps hi l b' in
       let x = bisectOf c 64 lo hi (evaluateOf c lo) b in
       let n : 64 * suc (length l) ≡ 64 * length l + 64 = omega arith in
       let h : b ≤ left (rest b) + (64 * length l + 64) = omega (arith, pairs-spend hi l b) in
@@ -82,8 +82,8 @@ module _ (c : List Float) (eps : Float) where
   brackets-spend [] b n h = omega arith
   brackets-spend (k ∷ l) b n h = omega (arith, pairs-spend k l b)
 
-settled-left : (z : List Float) (o : Outcome) → left (settled (gathered z o)) ≡ left o
-unfolding settled gathered
+settled-left : (z : List Float) (o : RootsResult) → left (sortedDedup (gathered z o)) ≡ left o
+unfolding sortedDedup gathered
 settled-left z (found l b) = refl
 settled-left z (refused w b) = refl
 
@@ -97,7 +97,7 @@ level-spends c ts b =
 
 -- ---- all levels
 
-on-spends : (c : List Float) (o : Outcome) (n : ℕ) → count o ≤ n → left o ≤ left (onLevel c o) + 64 * (n + 1)
+on-spends : (c : List Float) (o : RootsResult) (n : ℕ) → count o ≤ n → left o ≤ left (onLevel c o) + 64 * (n + 1)
 unfolding onLevel
 on-spends c (found ts b) n h = omega (arith, level-spends c ts b)
 on-spends c (refused w b) n h = omega arith

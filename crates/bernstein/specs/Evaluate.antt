@@ -12,19 +12,19 @@ abbrev pub mix : Float → Float → Float → Float
 mix t x y = x ⊗ (1f ⊖ t) ⊕ y ⊗ t
 
 -- each coefficient mixed with the one behind it: a list one shorter
-unfoldable pub lower : Float → List Float → List Float
-lower t [] = []
-lower t (x ∷ []) = []
-lower t (x ∷ y ∷ r) = mix t x y ∷ lower t (y ∷ r)
+unfoldable pub casteljauStep : Float → List Float → List Float
+casteljauStep t [] = []
+casteljauStep t (x ∷ []) = []
+casteljauStep t (x ∷ y ∷ r) = mix t x y ∷ casteljauStep t (y ∷ r)
 
 -- that n times over
-unfoldable pub lowered : Float → ℕ → List Float → List Float
-lowered t zero c = c
-lowered t (suc n) c = lowered t n (lower t c)
+unfoldable pub casteljauSteps : Float → ℕ → List Float → List Float
+casteljauSteps t zero c = c
+casteljauSteps t (suc n) c = casteljauSteps t n (casteljauStep t c)
 
 -- the one number to which the list comes down, and 0 for an empty list
 abbrev pub valueOf : List Float → Float → Float
-valueOf c t = getD (lowered t (length c - 1) c) 0 0f
+valueOf c t = getD (casteljauSteps t (length c - 1) c) 0 0f
 
 -- No coefficients, and more than 15, have the value 0.
 unfoldable pub evaluateOf : List Float → Float → Float

@@ -2,5 +2,5 @@
 pub mod Evaluate
 pub mod Bisect
 pub mod Roots
-pub mod Level
+pub mod Contracts
 pub mod Sorted

@@ -17,9 +17,9 @@ use Rattle.bernstein.specs.declared.Roots.{Roots}
 use Rattle.bernstein.specs.declared.Roots.the-variants.{Found, Refused}
 
 -- the roots in order, or a refusal's number; and the budget that is left
-pub data Outcome : Type 0 where
-  found : List Float → ℕ → Outcome
-  refused : ℕ → ℕ → Outcome
+pub data RootsResult : Type 0 where
+  found : List Float → ℕ → RootsResult
+  refused : ℕ → ℕ → RootsResult
 
 -- ---- the coefficients
 
@@ -96,70 +96,70 @@ zerosOf c eps (t ∷ l) =
 unfoldable pub noBracket : Float → Float → Float → Bool
 noBracket eps fl fh = cond (isZero eps fl) true (cond (isZero eps fh) true (sameSign fl fh))
 
-unfoldable pub withRoot : Float → Outcome → Outcome
+unfoldable pub withRoot : Float → RootsResult → RootsResult
 withRoot r (found l b) = found (r ∷ l) b
 withRoot r (refused w b) = refused w b
 
 -- the root that halving found and then the rest, or 21
-unfoldable pub andThen : (ℕ → Outcome) → Bisected → Outcome
+unfoldable pub andThen : (ℕ → RootsResult) → Bisected → RootsResult
 andThen rest (At r b) = withRoot r (rest b)
 andThen rest Spent = refused 21 0
 
 -- the roots between neighbours, from lo on
-unfoldable pub bracketsOf : List Float → Float → Float → List Float → ℕ → Outcome
+unfoldable pub bracketsOf : List Float → Float → Float → List Float → ℕ → RootsResult
 bracketsOf c eps lo [] b = found [] b
 bracketsOf c eps lo (hi ∷ l) b =
     let passed = bracketsOf c eps hi l b in
     let halved = andThen (λ b'. bracketsOf c eps hi l b') (bisectOf c 64 lo hi (evaluateOf c lo) b) in
     cond (noBracket eps (evaluateOf c lo) (evaluateOf c hi)) passed halved
 
-unfoldable pub brackets : List Float → Float → List Float → ℕ → Outcome
+unfoldable pub brackets : List Float → Float → List Float → ℕ → RootsResult
 brackets c eps [] b = found [] b
 brackets c eps (k ∷ l) b = bracketsOf c eps k l b
 
 -- roots, and those of an outcome behind them
-unfoldable pub gathered : List Float → Outcome → Outcome
+unfoldable pub gathered : List Float → RootsResult → RootsResult
 gathered z (found l b) = found (z ++ l) b
 gathered z (refused w b) = refused w b
 
 -- in order, and of those near each other one only
-unfoldable pub settled : Outcome → Outcome
-settled (found l b) = found (dedupOf 1e-10 (sortOnto [] l)) b
-settled (refused w b) = refused w b
+unfoldable pub sortedDedup : RootsResult → RootsResult
+sortedDedup (found l b) = found (dedupOf 1e-10 (sortOnto [] l)) b
+sortedDedup (refused w b) = refused w b
 
-unfoldable pub levelOf : List Float → List Float → ℕ → Outcome
-levelOf c ts b = settled (gathered (zerosOf c (toleranceOf c) (knotsOf ts)) (brackets c (toleranceOf c) (knotsOf ts) b))
+unfoldable pub levelOf : List Float → List Float → ℕ → RootsResult
+levelOf c ts b = sortedDedup (gathered (zerosOf c (toleranceOf c) (knotsOf ts)) (brackets c (toleranceOf c) (knotsOf ts) b))
 
 -- ---- the search
 
-unfoldable pub onLevel : List Float → Outcome → Outcome
+unfoldable pub onLevel : List Float → RootsResult → RootsResult
 onLevel c (found ts b) = levelOf c ts b
 onLevel c (refused w b) = refused w b
 
 -- of n coefficients: first the roots of the derivative, which has one coefficient fewer
-unfoldable pub rootsAt : ℕ → List Float → ℕ → Outcome
+unfoldable pub rootsAt : ℕ → List Float → ℕ → RootsResult
 rootsAt zero c b = refused 20 b
 rootsAt (suc n) c b =
     cond (allFinite c) (cond (tiny c) (found [] b) (cond (eqb n 0) (found [] b) (onLevel c (rootsAt n (derivativeOf c) b)))) (refused 20 b)
 
-unfoldable pub rootsOf : List Float → ℕ → Outcome
+unfoldable pub rootsOf : List Float → ℕ → RootsResult
 rootsOf c b = cond (ltb 15 (length c)) (refused 20 b) (rootsAt (length c) c b)
 
 -- the search with room for so many floats
-unfoldable pub searchOf : ℕ → List Float → ℕ → Outcome
+unfoldable pub searchOf : ℕ → List Float → ℕ → RootsResult
 searchOf room c b = cond (ltb room 28) (refused 25 b) (rootsOf c b)
 
 -- ---- what a call answers and leaves
 
-unfoldable pub answerOf : Outcome → Roots
+unfoldable pub answerOf : RootsResult → Roots
 answerOf (found l b) = Found (length l) b
 answerOf (refused w b) = Refused w b
 
 -- the lent floats afterwards: the roots at the front and the rest unchanged, or all of it unchanged
-unfoldable pub leftIn : Outcome → List Float → List Float
+unfoldable pub leftIn : RootsResult → List Float → List Float
 leftIn (found l b) lent = l ++ drop (length l) lent
 leftIn (refused w b) lent = lent
 
-pub record Searched (o : Outcome) (lent later : List Float) (r : Roots) : Type 0 where
+pub record Searched (o : RootsResult) (lent later : List Float) (r : Roots) : Type 0 where
   pub answer : r ≡ answerOf o
   pub buffer : later ≡ leftIn o lent

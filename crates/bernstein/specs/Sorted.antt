@@ -18,9 +18,9 @@ abbrev pub Fit : List Float → Type 0
 Fit l = All (λ x. T (fits binary64 x)) l
 
 -- none stands before one that it comes behind
-abbrev pub InOrder : List Float → Type 0
-InOrder [] = Unit {0}
-InOrder (x ∷ l) = All (λ y. before y x ≡ false) l × InOrder l
+abbrev pub Ordered : List Float → Type 0
+Ordered [] = Unit {0}
+Ordered (x ∷ l) = All (λ y. before y x ≡ false) l × Ordered l
 
 -- no two neighbours lie nearer than w to each other
 abbrev pub Apart : Float → List Float → Type 0

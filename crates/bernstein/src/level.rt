@@ -1,10 +1,10 @@
 // The roots of a polynomial, given those of its derivative.
 use crate::Bisected;
 use crate::Roots;
+use crate::bisection::bisect;
+use crate::bisection::same_sign;
 use crate::coefficients::largest;
-use crate::halving::bisect;
-use crate::halving::same_sign;
-use crate::tidying::tidy;
+use crate::sort_dedup::sort_dedup;
 use crate::value::evaluate;
 ghost use Prim.Native.Nat.{_+_, _≤_};
 ghost use mathlib.Core.List.{[], _∷_, _++_};
@@ -12,7 +12,7 @@ ghost use mathlib.Core.Path.{_≡_};
 ghost use lib.ListN.{length, take, drop};
 ghost use Rattle.float.specs.Numbers.{0f, 1f, 1e-10};
 ghost use Rattle.bernstein.specs.Roots.{sortOnto, dedupOf, isZero, zerosOf, noBracket, brackets, gathered, levelOf, Searched};
-ghost use Rattle.bernstein.specs.Level.{Laid};
+ghost use Rattle.bernstein.specs.Contracts.{RootsAtFront};
 
 // The derivative's roots and the two ends.
 fn join(ts: &[f64]) -> [f64; 28]
@@ -71,7 +71,7 @@ fn no_bracket(eps: f64, fl: f64, fh: f64) -> bool
 // The roots between neighbouring knots, behind the first z of f.
 fn between(c: &[f64], knots: &[f64], eps: f64, f: &mut [f64], z: usize, budget: usize) -> Roots
     requires { ⌜ z + length (now knots) ≤ length (now f) ⌝ }
-    ensures { λ r. ⌜ Laid (gathered (take z (now (f .entry))) (brackets (now (c .entry)) eps (now (knots .entry)) budget)) (now (f .exit)) r ⌝ }
+    ensures { λ r. ⌜ RootsAtFront (gathered (take z (now (f .entry))) (brackets (now (c .entry)) eps (now (knots .entry)) budget)) (now (f .exit)) r ⌝ }
 {
     let mut q = z;
     let mut left = budget;
@@ -117,7 +117,7 @@ fn settle(f: &mut [f64], out: &mut [f64]) -> usize
     ensures { λ r. ⌜ r ≡ length (dedupOf 1e-10 (sortOnto [] (now (f .entry)))) ⌝ }
     ensures { λ r. ⌜ now (out .exit) ≡ dedupOf 1e-10 (sortOnto [] (now (f .entry))) ++ drop (length (dedupOf 1e-10 (sortOnto [] (now (f .entry))))) (now (out .entry)) ⌝ }
 {
-    let r = tidy(f, 1e-10);
+    let r = sort_dedup(f, 1e-10);
     put(&f[..r], out);
     r
 }
@@ -130,7 +130,7 @@ pub(crate) fn roots_between(c: &[f64], ts: &[f64], out: &mut [f64], budget: usiz
     let eps = largest(c) * 2e-13;
     let n = ts.len() + 2;
     let mut k = join(ts);
-    let m = tidy(&mut k[..n], 1e-13);
+    let m = sort_dedup(&mut k[..n], 1e-13);
     let mut f = [0.0; 56];
     let z = zeros(c, &k[..m], eps, &mut f);
     let got = between(c, &k[..m], eps, &mut f, z, budget);

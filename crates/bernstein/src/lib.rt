@@ -1,9 +1,9 @@
 // Polynomials in Bernstein form, by their coefficients: the value at a place, and the roots from 0 to 1.
+mod bisection;
 mod coefficients;
-mod halving;
 mod level;
 pub mod search;
-mod tidying;
+mod sort_dedup;
 mod value;
 
 pub use value::evaluate;

@@ -5,7 +5,7 @@ ghost use mathlib.Core.List.{_++_};
 ghost use mathlib.Core.Path.{_≡_};
 ghost use lib.ListN.{length, drop};
 ghost use Rattle.bernstein.specs.Evaluate as E;
-ghost use Rattle.bernstein.specs.Evaluate.{lowered, valueOf, evaluateOf};
+ghost use Rattle.bernstein.specs.Evaluate.{casteljauSteps, valueOf, evaluateOf};
 
 fn mix(t: f64, x: f64, y: f64) -> f64
     ensures { λ r. ⌜ r ≡ E.mix t x y ⌝ }
@@ -14,9 +14,9 @@ fn mix(t: f64, x: f64, y: f64) -> f64
 }
 
 // Four steps in one walk. What each step made last stays in a local, so that a turn reads one number and stores one.
-fn lower_four(u: &[f64], v: &mut [f64], t: f64)
+fn casteljau_four(u: &[f64], v: &mut [f64], t: f64)
     requires { ⌜ (4 < length (now u)) × (length (now u) ≤ length (now v) + 4) ⌝ }
-    ensures { λ _. ⌜ now (v .exit) ≡ lowered t 4 (now (u .entry)) ++ drop (length (now (u .entry)) - 4) (now (v .entry)) ⌝ }
+    ensures { λ _. ⌜ now (v .exit) ≡ casteljauSteps t 4 (now (u .entry)) ++ drop (length (now (u .entry)) - 4) (now (v .entry)) ⌝ }
 {
     let second = mix(t, u[1], u[2]);
     let mut last0 = u[3];
@@ -75,16 +75,16 @@ pub fn evaluate(c: &[f64], t: f64) -> f64
         return 0.0;
     }
     let mut a = [0.0; 11];
-    lower_four(c, &mut a, t);
+    casteljau_four(c, &mut a, t);
     if n <= 8 {
         return short_value(&a[..n - 4], t);
     }
     let mut b = [0.0; 7];
-    lower_four(&a[..n - 4], &mut b, t);
+    casteljau_four(&a[..n - 4], &mut b, t);
     if n <= 12 {
         return short_value(&b[..n - 8], t);
     }
     let mut d = [0.0; 3];
-    lower_four(&b[..n - 8], &mut d, t);
+    casteljau_four(&b[..n - 8], &mut d, t);
     short_value(&d[..n - 12], t)
 }

@@ -25,23 +25,23 @@ unfoldable pub over : List ℕ → ℕ → List ℕ → List ℕ
 over l at b = take at l ++ (b ++ drop (at + length b) l)
 
 -- the same where b fits in l, and l unchanged where it doesn't
-unfoldable pub placed : List ℕ → ℕ → List ℕ → List ℕ
-placed l at b = cond (leb (at + length b) (length l)) (over l at b) l
+unfoldable pub overIfFits : List ℕ → ℕ → List ℕ → List ℕ
+overIfFits l at b = cond (leb (at + length b) (length l)) (over l at b) l
 
 -- eight bytes as one number, the lowest first
-abbrev pub rising : ℕ → ℕ → ℕ → ℕ → ℕ → ℕ → ℕ → ℕ → ℕ
-rising a b c d e f g h =
+abbrev pub fromLeBytes : ℕ → ℕ → ℕ → ℕ → ℕ → ℕ → ℕ → ℕ → ℕ
+fromLeBytes a b c d e f g h =
     a + b * 0x0000_0000_0000_0100 + (c * 0x0000_0000_0001_0000 + d * 0x0000_0000_0100_0000)
     + (e * 0x0000_0001_0000_0000 + f * 0x0000_0100_0000_0000 + (g * 0x0001_0000_0000_0000 + h * 0x0100_0000_0000_0000))
 
 -- and the highest first
-abbrev pub falling : ℕ → ℕ → ℕ → ℕ → ℕ → ℕ → ℕ → ℕ → ℕ
-falling a b c d e f g h =
+abbrev pub fromBeBytes : ℕ → ℕ → ℕ → ℕ → ℕ → ℕ → ℕ → ℕ → ℕ
+fromBeBytes a b c d e f g h =
     a * 0x0100_0000_0000_0000 + b * 0x0001_0000_0000_0000 + (c * 0x0000_0100_0000_0000 + d * 0x0000_0001_0000_0000)
     + (e * 0x0000_0000_0100_0000 + f * 0x0000_0000_0001_0000 + (g * 0x0000_0000_0000_0100 + h))
 
 -- r has the bytes of v the other way round
-abbrev pub Turned : ℕ → ℕ → Type 0
-Turned v r =
+abbrev pub BytesSwapped : ℕ → ℕ → Type 0
+BytesSwapped v r =
     (a b c d e f g h : ℕ) → a < 256 → b < 256 → c < 256 → d < 256 → e < 256 → f < 256 → g < 256 → h < 256
-    → v ≡ rising a b c d e f g h → r ≡ falling a b c d e f g h
+    → v ≡ fromLeBytes a b c d e f g h → r ≡ fromBeBytes a b c d e f g h

@@ -10,7 +10,7 @@ use lib.Arith.{digits-lt, digits-div, digits-mod}
 use lib.ListN.{length, take, drop, getD, set, length-append, length-drop, length-set, take-append-drop, List·getD-eq-default, List·getD-append}
 use lib.Seq.{take-suc, getD-drop, length-take-le, take-at, drop-at, drop-append-add, drop-drop, take-set-le, set-split, take-add, getD-append-add}
 use borrow.Author.Tests.{le-leb, lt-leb}
-use Rattle.big_endian.specs.Fields.{field, bytes, part, over, placed, rising, falling}
+use Rattle.big_endian.specs.Fields.{field, bytes, part, over, overIfFits, fromLeBytes, fromBeBytes}
 
 -- every element is a byte
 abbrev pub Bytes : List ℕ → Type 0
@@ -143,12 +143,12 @@ over-one l at x h = rw (set-split l at x h, add-one)
 
 -- ---- the same, or nothing
 
-pub placed-fits : (l : List ℕ) (at : ℕ) (b : List ℕ) → at + length b ≤ length l → placed l at b ≡ over l at b
-unfolding placed
+pub placed-fits : (l : List ℕ) (at : ℕ) (b : List ℕ) → at + length b ≤ length l → overIfFits l at b ≡ over l at b
+unfolding overIfFits
 placed-fits l at b h = rw (le-leb _ _ h)
 
-pub placed-not : (l : List ℕ) (at : ℕ) (b : List ℕ) → length l < at + length b → placed l at b ≡ l
-unfolding placed
+pub placed-not : (l : List ℕ) (at : ℕ) (b : List ℕ) → length l < at + length b → overIfFits l at b ≡ l
+unfolding overIfFits
 placed-not l at b h = rw (lt-leb _ _ h)
 
 -- two parts side by side are one
@@ -161,7 +161,7 @@ pub record Run (l : List ℕ) (at k : ℕ) (b now : List ℕ) : Type 0 where
   pub is : now ≡ over l at b
   pub long : length b ≡ k
 
-pub run-starts : (l : List ℕ) (at n v : ℕ) {then : List ℕ} → at + n ≤ length l → then ≡ placed l at (bytes n v) → Run l at n (bytes n v) then
+pub run-starts : (l : List ℕ) (at n v : ℕ) {then : List ℕ} → at + n ≤ length l → then ≡ overIfFits l at (bytes n v) → Run l at n (bytes n v) then
 run-starts l at n v h f =
     let q : length (bytes n v) ≡ n = length-bytes n v in
     record { is = f ∙ placed-fits l at (bytes n v) (omega arith); long = q }
@@ -171,7 +171,7 @@ run-over l at k n a b now then h e w f =
     let z = w .long in
     record { is = f ∙ rw (w .is, ← z) (over-over l at a b (omega arith)); long = length-append a b ∙ rw (z, e) }
 
-pub run-puts : (l : List ℕ) (at k n v : ℕ) (a now then : List ℕ) → at + (k + n) ≤ length l → Run l at k a now → then ≡ placed now (at + k) (bytes n v) → Run l at (k + n) (a ++ bytes n v) then
+pub run-puts : (l : List ℕ) (at k n v : ℕ) (a now then : List ℕ) → at + (k + n) ≤ length l → Run l at k a now → then ≡ overIfFits now (at + k) (bytes n v) → Run l at (k + n) (a ++ bytes n v) then
 run-puts l at k n v a now then h w f =
     let z = w .long in
     let e : length now ≡ length l = rw (w .is) (length-over l at a (omega arith)) in
@@ -180,14 +180,14 @@ run-puts l at k n v a now then h w f =
 
 -- ---- a number written: its low byte, its low bytes, or nothing where they don't fit
 
-pub put-byte : (l : List ℕ) (at v : ℕ) → at < length l → set l at (v % 256) ≡ placed l at (bytes 1 v)
+pub put-byte : (l : List ℕ) (at v : ℕ) → at < length l → set l at (v % 256) ≡ overIfFits l at (bytes 1 v)
 unfolding bytes
 put-byte l at v h = rw (over-one l at (v % 256) h) (sym (placed-fits l at (v % 256 ∷ []) (omega arith)))
 
-pub put-bytes : (l : List ℕ) (at n v : ℕ) {then : List ℕ} → at + n ≤ length l → then ≡ over l at (bytes n v) → then ≡ placed l at (bytes n v)
+pub put-bytes : (l : List ℕ) (at n v : ℕ) {then : List ℕ} → at + n ≤ length l → then ≡ over l at (bytes n v) → then ≡ overIfFits l at (bytes n v)
 put-bytes l at n v h e = e ∙ sym (placed-fits l at (bytes n v) (rw length-bytes h))
 
-pub put-nothing : (l : List ℕ) (at n v : ℕ) → length l < at + n → l ≡ placed l at (bytes n v)
+pub put-nothing : (l : List ℕ) (at n v : ℕ) → length l < at + n → l ≡ overIfFits l at (bytes n v)
 put-nothing l at n v h = sym (placed-not l at (bytes n v) (rw length-bytes h))
 
 -- one half after the other
@@ -220,10 +220,10 @@ field-flat s at a b c d e f g h ea eb ec ed ee ef eg eh =
     omega arith
 
 -- the bytes of a number, taken off from the lowest on
-pub turns : (v a b c d e f g h : ℕ) → a < 256 → b < 256 → c < 256 → d < 256 → e < 256 → f < 256 → g < 256 → h < 256 → v ≡ rising a b c d e f g h
-    → falling (v % 256) (v / 256 % 256) (v / 256 / 256 % 256) (v / 256 / 256 / 256 % 256) (v / 256 / 256 / 256 / 256 % 256) (v / 256 / 256 / 256 / 256 / 256 % 256)
+pub turns : (v a b c d e f g h : ℕ) → a < 256 → b < 256 → c < 256 → d < 256 → e < 256 → f < 256 → g < 256 → h < 256 → v ≡ fromLeBytes a b c d e f g h
+    → fromBeBytes (v % 256) (v / 256 % 256) (v / 256 / 256 % 256) (v / 256 / 256 / 256 % 256) (v / 256 / 256 / 256 / 256 % 256) (v / 256 / 256 / 256 / 256 / 256 % 256)
     (v / 256 / 256 / 256 / 256 / 256 / 256 % 256) (v / 256 / 256 / 256 / 256 / 256 / 256 / 256 % 256)
-    ≡ falling a b c d e f g h
+    ≡ fromBeBytes a b c d e f g h
 turns v a b c d e f g h la lb lc ld le lf lg lh z =
     let t7 = h in
     let t6 = g + h * 256 in

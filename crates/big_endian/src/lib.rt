@@ -4,7 +4,7 @@ mod short;
 mod store;
 
 ghost use mathlib.Core.Path.{_≡_};
-ghost use Rattle.big_endian.specs.Fields.{field, bytes, placed};
+ghost use Rattle.big_endian.specs.Fields.{field, bytes, overIfFits};
 
 // The byte at a place; 0 past the end.
 pub fn get1(s: &[u8], at: usize) -> u8
@@ -57,7 +57,7 @@ pub fn get8(s: &[u8], at: usize) -> u64
 
 // Writes the low byte of a number; nothing past the end.
 pub fn put1(buf: &mut [u8], at: usize, v: u64)
-    ensures { λ r. ⌜ now (buf .exit) ≡ placed (now (buf .entry)) at (bytes 1 v) ⌝ }
+    ensures { λ r. ⌜ now (buf .exit) ≡ overIfFits (now (buf .entry)) at (bytes 1 v) ⌝ }
 {
     if at < buf.len() {
         buf[at] = (v % 256) as u8;
@@ -66,7 +66,7 @@ pub fn put1(buf: &mut [u8], at: usize, v: u64)
 
 // Writes the two low bytes of a number, the higher first; nothing where they don't fit.
 pub fn put2(buf: &mut [u8], at: usize, v: u64)
-    ensures { λ r. ⌜ now (buf .exit) ≡ placed (now (buf .entry)) at (bytes 2 v) ⌝ }
+    ensures { λ r. ⌜ now (buf .exit) ≡ overIfFits (now (buf .entry)) at (bytes 2 v) ⌝ }
 {
     let n = buf.len();
     if n < 2 {
@@ -80,7 +80,7 @@ pub fn put2(buf: &mut [u8], at: usize, v: u64)
 
 // Writes the four low bytes of a number, the highest first; nothing where they don't fit.
 pub fn put4(buf: &mut [u8], at: usize, v: u64)
-    ensures { λ r. ⌜ now (buf .exit) ≡ placed (now (buf .entry)) at (bytes 4 v) ⌝ }
+    ensures { λ r. ⌜ now (buf .exit) ≡ overIfFits (now (buf .entry)) at (bytes 4 v) ⌝ }
 {
     let n = buf.len();
     if n < 4 {
@@ -94,7 +94,7 @@ pub fn put4(buf: &mut [u8], at: usize, v: u64)
 
 // Writes the eight bytes of a number, the highest first; nothing where they don't fit.
 pub fn put8(buf: &mut [u8], at: usize, v: u64)
-    ensures { λ r. ⌜ now (buf .exit) ≡ placed (now (buf .entry)) at (bytes 8 v) ⌝ }
+    ensures { λ r. ⌜ now (buf .exit) ≡ overIfFits (now (buf .entry)) at (bytes 8 v) ⌝ }
 {
     let n = buf.len();
     if n < 8 {

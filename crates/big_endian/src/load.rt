@@ -2,7 +2,7 @@
 ghost use mathlib.Core.Path.{_≡_};
 ghost use Prim.Native.Nat.{_+_, _≤_, _<_};
 ghost use lib.ListN.{length};
-ghost use Rattle.big_endian.specs.Fields.{field, Turned};
+ghost use Rattle.big_endian.specs.Fields.{field, BytesSwapped};
 
 fn wide(x: u8) -> u16
     ensures { λ r. ⌜ (r ≡ x) × (r < 256) ⌝ }
@@ -31,8 +31,8 @@ fn wide8(x: u8) -> u64
 }
 
 // Turns eight bytes round: the lowest becomes the highest. The compiler knows that as one instruction.
-fn turned(v: u64) -> u64
-    ensures { λ r. ⌜ Turned v r ⌝ }
+fn swap_bytes(v: u64) -> u64
+    ensures { λ r. ⌜ BytesSwapped v r ⌝ }
 {
     let w1 = v / 256;
     let w2 = w1 / 256;
@@ -65,5 +65,5 @@ pub(crate) fn load8(s: &[u8], at: usize) -> u64
     let f = wide8(s[at + 5]) * 0x0000_0100_0000_0000;
     let g = wide8(s[at + 6]) * 0x0001_0000_0000_0000;
     let h = wide8(s[at + 7]) * 0x0100_0000_0000_0000;
-    turned(((a + b) + (c + d)) + ((e + f) + (g + h)))
+    swap_bytes(((a + b) + (c + d)) + ((e + f) + (g + h)))
 }

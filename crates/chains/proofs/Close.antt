@@ -11,27 +11,27 @@ use borrow.Author.Tests.{eq-eqb, ne-eqb}
 use Rattle.sketch.specs.declared.Curve.{Curve}
 use Rattle.sketch.specs.Lookup.{among}
 use Rattle.sketch.specs.Drawing.{Drawing, curveIds, curveIn}
-use Rattle.carry.specs.declared.Removed.{Removed}
-use Rattle.carry.specs.Counts.{occ}
-use Rattle.carry.specs.Steps.{endsAt}
-use Rattle.carry.proofs.Tables.{occ-append, occ-same, occ-other, look-none}
-use Rattle.agreement.specs.Families.{gone, added, Member, memberIds, Joined, RightAs, Rights}
-use Rattle.agreement.specs.Shape.{Pieces, Shape}
+use Rattle.edit_plan.specs.declared.Removed.{Removed}
+use Rattle.edit_plan.specs.Counts.{occurrences}
+use Rattle.edit_plan.specs.Steps.{endsAt}
+use Rattle.edit_plan.proofs.Tables.{occ-append, occ-same, occ-other, look-none}
+use Rattle.agreement.specs.Families.{removedIds, added, Member, memberIds, Joined, ValidMemberAs, ValidMembers}
+use Rattle.agreement.specs.EditEffect.{Pieces, EditEffect}
 use Rattle.agreement.proofs.Counts.{there, away, at-most, kept, dropped}
-use Rattle.chains.specs.Drawn.{ids, ends, drawn}
-use Rattle.chains.proofs.Laid.{Piece, names, link, Standing, Laid, Low, stand-in}
+use Rattle.chains.specs.CurveView.{ids, ends, curveView}
+use Rattle.chains.proofs.AddedPieces.{Piece, names, link, Standing, Laid, Low, stand-in}
 
-gone-zero : (r : Removed) → occ 0 (gone r) ≡ 0
+gone-zero : (r : Removed) → occurrences 0 (removedIds r) ≡ 0
 gone-zero r = go (ℕ-discrete (r .curve) 0)
   where
-    go : Dec (r .curve ≡ 0) → occ 0 (gone r) ≡ 0
+    go : Dec (r .curve ≡ 0) → occurrences 0 (removedIds r) ≡ 0
     go (yes q) = rw (eq-eqb (r .curve) 0 q)
     go (no ne) = rw (ne-eqb (r .curve) 0 ne) (occ-other 0 (r .curve) [] (λ e. ne (sym e)))
 
-gone-above : (i : ℕ) (r : Removed) → 0 < i → occ i (gone r) ≡ occ i (r .curve ∷ [])
+gone-above : (i : ℕ) (r : Removed) → 0 < i → occurrences i (removedIds r) ≡ occurrences i (r .curve ∷ [])
 gone-above i r h = go (ℕ-discrete (r .curve) 0)
   where
-    go : Dec (r .curve ≡ 0) → occ i (gone r) ≡ occ i (r .curve ∷ [])
+    go : Dec (r .curve ≡ 0) → occurrences i (removedIds r) ≡ occurrences i (r .curve ∷ [])
     go (yes q) = rw (eq-eqb (r .curve) 0 q) (sym (occ-other i (r .curve) [] (λ e. omega arith)))
     go (no ne) = rw (ne-eqb (r .curve) 0 ne)
 
@@ -52,7 +52,7 @@ ids-marked : (g : ℕ) (ps : List Piece) → memberIds (marked g ps) ≡ names p
 ids-marked g [] = refl
 ids-marked g (p ∷ ps) = ap (λ (l : List ℕ). p .curve ∷ l) (ids-marked g ps)
 
-module _ (d : Drawing) (w : Low (d .next) (d .curves)) (t : ℕ) (here : 0 < occ t (ids d)) where
+module _ (d : Drawing) (w : Low (d .next) (d .curves)) (t : ℕ) (here : 0 < occurrences t (ids d)) where
   abbrev new-id : ℕ → Bool
   new-id i = not (among i (ids d))
 
@@ -67,87 +67,87 @@ module _ (d : Drawing) (w : Low (d .next) (d .curves)) (t : ℕ) (here : 0 < occ
   t-above = go (ℕ-discrete t 0)
     where
       go : Dec (t ≡ 0) → 0 < t
-      go (yes q) = absurd (omega (arith, ap (λ (j : ℕ). occ j (ids d)) q, w .above))
+      go (yes q) = absurd (omega (arith, ap (λ (j : ℕ). occurrences j (ids d)) q, w .above))
       go (no ne) = omega arith
 
-  pub laid-zero : (n′ : ℕ) (cs′ : List Curve) (ps : List Piece) → Laid (d .next) (d .curves) t n′ cs′ ps → occ 0 (curveIds cs′) ≡ 0
+  pub laid-zero : (n′ : ℕ) (cs′ : List Curve) (ps : List Piece) → Laid (d .next) (d .curves) t n′ cs′ ps → occurrences 0 (curveIds cs′) ≡ 0
   laid-zero n′ cs′ ps l = l .beside 0 (omega (arith, t-below)) (λ e. omega (arith, t-above)) .1 ∙ w .above
 
   -- t became ps in cs′, and of these g, where it is not 0, is gone from d″
   module _
       (d″ : Drawing) (cs′ : List Curve) (ps : List Piece) (l : Laid (d .next) (d .curves) t (d″ .next) cs′ ps) (r : Removed)
       (look : (i : ℕ) → (i ≡ r .curve → ⊥) → curveIn (d″ .curves) i ≡ curveIn cs′ i)
-      (same : (i : ℕ) → (i ≡ r .curve → ⊥) → occ i (ids d″) ≡ occ i (curveIds cs′))
-      (went : occ (r .curve) (ids d″) ≡ 0)
+      (same : (i : ℕ) → (i ≡ r .curve → ⊥) → occurrences i (ids d″) ≡ occurrences i (curveIds cs′))
+      (went : occurrences (r .curve) (ids d″) ≡ 0)
       (was : 0 < r .curve → endsAt (curveIn cs′ (r .curve)) ≡ some (r .from, r .to))
-      (at : 0 < r .curve → 0 < occ (r .curve) (names ps))
+      (at : 0 < r .curve → 0 < occurrences (r .curve) (names ps))
     where
       -- a curve that stood beside t is not the removed one
       not-gone : (i : ℕ) → 0 < i → i < d .next → (i ≡ t → ⊥) → i ≡ r .curve → ⊥
       not-gone i p q ne e = omega (arith, at (omega arith), l .low (r .curve) (omega arith), occ-other (r .curve) t [] (λ f. ne (e ∙ f)))
 
-      zero-stays : occ 0 (ids d″) ≡ 0
+      zero-stays : occurrences 0 (ids d″) ≡ 0
       zero-stays = go (ℕ-discrete 0 (r .curve))
         where
-          go : Dec (0 ≡ r .curve) → occ 0 (ids d″) ≡ 0
-          go (yes q) = ap (λ (j : ℕ). occ j (ids d″)) q ∙ went
+          go : Dec (0 ≡ r .curve) → occurrences 0 (ids d″) ≡ 0
+          go (yes q) = ap (λ (j : ℕ). occurrences j (ids d″)) q ∙ went
           go (no ne) = same 0 ne ∙ l .beside 0 (omega (arith, t-below)) (λ e. omega (arith, t-above)) .1 ∙ w .above
 
-      added-occ : (i : ℕ) → occ i (ids d) ≡ 0 → occ i (added drawn d d″ r) ≡ occ i (ids d″) + occ i (gone r)
-      added-occ i z = kept new-id i (ids d″ ++ gone r) (ap not (away i (ids d) z)) ∙ occ-append i (ids d″) (gone r)
+      added-occ : (i : ℕ) → occurrences i (ids d) ≡ 0 → occurrences i (added curveView d d″ r) ≡ occurrences i (ids d″) + occurrences i (removedIds r)
+      added-occ i z = kept new-id i (ids d″ ++ removedIds r) (ap not (away i (ids d) z)) ∙ occ-append i (ids d″) (removedIds r)
 
-      old-count : (i : ℕ) → i < d .next → occ i (added drawn d d″ r) ≡ 0
-      old-count i q = go (ℕ-discrete (occ i (ids d)) 0) (ℕ-discrete i 0)
+      old-count : (i : ℕ) → i < d .next → occurrences i (added curveView d d″ r) ≡ 0
+      old-count i q = go (ℕ-discrete (occurrences i (ids d)) 0) (ℕ-discrete i 0)
         where
-          go : Dec (occ i (ids d) ≡ 0) → Dec (i ≡ 0) → occ i (added drawn d d″ r) ≡ 0
-          go (no ne) u = dropped new-id i (ids d″ ++ gone r) (ap not (there i (ids d) (omega arith)))
-          go (yes z) (yes o) = added-occ i z ∙ ap (λ (j : ℕ). occ j (ids d″) + occ j (gone r)) o ∙ omega (arith, zero-stays, gone-zero r)
+          go : Dec (occurrences i (ids d) ≡ 0) → Dec (i ≡ 0) → occurrences i (added curveView d d″ r) ≡ 0
+          go (no ne) u = dropped new-id i (ids d″ ++ removedIds r) (ap not (there i (ids d) (omega arith)))
+          go (yes z) (yes o) = added-occ i z ∙ ap (λ (j : ℕ). occurrences j (ids d″) + occurrences j (removedIds r)) o ∙ omega (arith, zero-stays, gone-zero r)
           go (yes z) (no p) =
-              let nt : i ≡ t → ⊥ = λ e. omega (arith, ap (λ (j : ℕ). occ j (ids d)) e) in
+              let nt : i ≡ t → ⊥ = λ e. omega (arith, ap (λ (j : ℕ). occurrences j (ids d)) e) in
               let ng = not-gone i (omega arith) q nt in
               omega (arith, added-occ i z, same i ng, l .beside i q nt .1, gone-above i r (omega arith), occ-other i (r .curve) [] ng)
 
-      new-count : (i : ℕ) → d .next ≤ i → occ i (added drawn d d″ r) ≡ occ i (names ps)
+      new-count : (i : ℕ) → d .next ≤ i → occurrences i (added curveView d d″ r) ≡ occurrences i (names ps)
       new-count i q = go (ℕ-discrete i (r .curve))
         where
           pos : 0 < i
           pos = omega (arith, t-below)
 
-          go : Dec (i ≡ r .curve) → occ i (added drawn d d″ r) ≡ occ i (names ps)
+          go : Dec (i ≡ r .curve) → occurrences i (added curveView d d″ r) ≡ occurrences i (names ps)
           go (yes e) =
               omega (
                 arith,
                 added-occ i (w .below i q),
-                ap (λ (j : ℕ). occ j (ids d″)) e,
+                ap (λ (j : ℕ). occurrences j (ids d″)) e,
                 went,
                 gone-above i r pos,
-                ap (λ (j : ℕ). occ j (r .curve ∷ [])) e,
+                ap (λ (j : ℕ). occurrences j (r .curve ∷ [])) e,
                 occ-same (r .curve) [],
                 l .high i q,
                 l .once i q,
-                ap (λ (j : ℕ). occ j (names ps)) e,
+                ap (λ (j : ℕ). occurrences j (names ps)) e,
                 at (omega (arith, pos)),
               )
           go (no ne) = omega (arith, added-occ i (w .below i q), same i ne, gone-above i r pos, occ-other i (r .curve) [] ne, l .high i q)
 
-      sum : (i : ℕ) → occ i (t ∷ added drawn d d″ r) ≡ occ i (t ∷ []) + occ i (added drawn d d″ r)
-      sum i = occ-append i (t ∷ []) (added drawn d d″ r)
+      sum : (i : ℕ) → occurrences i (t ∷ added curveView d d″ r) ≡ occurrences i (t ∷ []) + occurrences i (added curveView d d″ r)
+      sum i = occ-append i (t ∷ []) (added curveView d d″ r)
 
-      count : (i : ℕ) → occ i (names ps) ≡ occ i (t ∷ added drawn d d″ r)
+      count : (i : ℕ) → occurrences i (names ps) ≡ occurrences i (t ∷ added curveView d d″ r)
       count i = go (decLt i (d .next))
         where
-          go : Dec (i < d .next) → occ i (names ps) ≡ occ i (t ∷ added drawn d d″ r)
+          go : Dec (i < d .next) → occurrences i (names ps) ≡ occurrences i (t ∷ added curveView d d″ r)
           go (yes q) = omega (arith, sum i, old-count i q, l .low i q)
           go (no ne) = omega (arith, sum i, new-count i (omega arith), occ-other i t [] (λ e. omega (arith, t-below)))
 
-      single : (i : ℕ) → occ i (names ps) ≤ 1
+      single : (i : ℕ) → occurrences i (names ps) ≤ 1
       single i = go (decLt i (d .next))
         where
-          go : Dec (i < d .next) → occ i (names ps) ≤ 1
+          go : Dec (i < d .next) → occurrences i (names ps) ≤ 1
           go (yes q) = omega (arith, l .low i q, at-most i t)
           go (no ne) = omega (arith, l .high i (omega arith), l .once i (omega arith))
 
-      fresh : (i : ℕ) → 0 < occ i (added drawn d d″ r) → (d .next ≤ i) × (i < d″ .next)
+      fresh : (i : ℕ) → 0 < occurrences i (added curveView d d″ r) → (d .next ≤ i) × (i < d″ .next)
       fresh i p = go (decLt i (d .next)) (decLt i (d″ .next))
         where
           go : Dec (i < d .next) → Dec (i < d″ .next) → (d .next ≤ i) × (i < d″ .next)
@@ -155,7 +155,7 @@ module _ (d : Drawing) (w : Low (d .next) (d .curves)) (t : ℕ) (here : 0 < occ
           go (no ne) (yes q) = (omega arith, q)
           go (no ne) (no nf) = absurd (omega (arith, new-count i (omega arith), l .high i (omega arith), l .below i (omega arith)))
 
-      rights : (qs : List Piece) → Standing cs′ qs → Rights drawn d″ (r ∷ []) (marked (r .curve) qs)
+      rights : (qs : List Piece) → Standing cs′ qs → ValidMembers curveView d″ (r ∷ []) (marked (r .curve) qs)
       rights [] h = tt
       rights (q ∷ qs) h = (go (ℕ-discrete (r .curve) (q .curve)), rights qs (h .1))
         where
@@ -164,7 +164,7 @@ module _ (d : Drawing) (w : Low (d .next) (d .curves)) (t : ℕ) (here : 0 < occ
             where
               nonzero : Dec (r .curve ≡ 0) → 0 < r .curve
               nonzero (yes z) =
-                  absurd (omega (arith, stand-in cs′ (q .curve) (q .from, q .to) (h .0), ap (λ (j : ℕ). occ j (curveIds cs′)) (sym e ∙ z), l .beside 0 (omega (arith, t-below)) (λ f. omega (arith, t-above)) .1, w .above))
+                  absurd (omega (arith, stand-in cs′ (q .curve) (q .from, q .to) (h .0), ap (λ (j : ℕ). occurrences j (curveIds cs′)) (sym e ∙ z), l .beside 0 (omega (arith, t-below)) (λ f. omega (arith, t-above)) .1, w .above))
               nonzero (no ne) = omega arith
 
           is : r .curve ≡ q .curve → q ≡ r
@@ -176,22 +176,22 @@ module _ (d : Drawing) (w : Low (d .next) (d .curves)) (t : ℕ) (here : 0 < occ
               let n : q .curve ≡ r .curve = sym e in
               λ j. record { curve = n j; from = f j; to = o j }
 
-          go : Dec (r .curve ≡ q .curve) → RightAs drawn d″ (r ∷ []) (q .curve) (q .from) (q .to) (not (eqb (r .curve) (q .curve)))
-          go (yes e) = rw (eq-eqb (r .curve) (q .curve) e) (away (q .curve) (ids d″) (ap (λ (j : ℕ). occ j (ids d″)) (sym e) ∙ went), List·Memᴰ·head (is e))
+          go : Dec (r .curve ≡ q .curve) → ValidMemberAs curveView d″ (r ∷ []) (q .curve) (q .from) (q .to) (not (eqb (r .curve) (q .curve)))
+          go (yes e) = rw (eq-eqb (r .curve) (q .curve) e) (away (q .curve) (ids d″) (ap (λ (j : ℕ). occurrences j (ids d″)) (sym e) ∙ went), List·Memᴰ·head (is e))
           go (no ne) = rw (ne-eqb (r .curve) (q .curve) ne) (ap endsAt (look (q .curve) (λ e. ne (sym e))) ∙ h .0)
 
-      pub laid-pieces : (a b : ℕ) → Linked a ps b → Pieces drawn d t d″ r a b
+      pub laid-pieces : (a b : ℕ) → Linked a ps b → Pieces curveView d t d″ r a b
       laid-pieces a b j =
           record {
             list = marked (r .curve) ps;
             joined = joined-marked (r .curve) a b ps j;
             right = rights ps (l .stand);
-            are = λ i. ap (occ i) (ids-marked (r .curve) ps) ∙ count i;
+            are = λ i. ap (occurrences i) (ids-marked (r .curve) ps) ∙ count i;
             once = λ i. omega (arith, count i, single i);
             new = fresh;
           }
 
-      pub laid-shape : ((a b : ℕ) → ends d t ≡ some (a, b) → Linked a ps b) → Shape drawn d t d″ r
+      pub laid-shape : ((a b : ℕ) → ends d t ≡ some (a, b) → Linked a ps b) → EditEffect curveView d t d″ r
       laid-shape j =
           record {
             grows = l .grows;
@@ -200,40 +200,40 @@ module _ (d : Drawing) (w : Low (d .next) (d .curves)) (t : ℕ) (here : 0 < occ
             pieces = λ a b e. laid-pieces a b (j a b e);
           }
         where
-          beside-at : (i : ℕ) → i < d .next → (i ≡ t → ⊥) → Dec (i ≡ 0) → (ends d″ i ≡ ends d i) × (occ i (ids d″) ≡ occ i (ids d))
+          beside-at : (i : ℕ) → i < d .next → (i ≡ t → ⊥) → Dec (i ≡ 0) → (ends d″ i ≡ ends d i) × (occurrences i (ids d″) ≡ occurrences i (ids d))
           beside-at i q ne u = go u (ℕ-discrete i (r .curve))
             where
-              go : Dec (i ≡ 0) → Dec (i ≡ r .curve) → (ends d″ i ≡ ends d i) × (occ i (ids d″) ≡ occ i (ids d))
+              go : Dec (i ≡ 0) → Dec (i ≡ r .curve) → (ends d″ i ≡ ends d i) × (occurrences i (ids d″) ≡ occurrences i (ids d))
               go u (no ng) = (ap endsAt (look i ng ∙ l .beside i q ne .0), same i ng ∙ l .beside i q ne .1)
               go (no p) (yes e) = absurd (not-gone i (omega arith) q ne e)
               go (yes z) (yes e) =
-                  let u : occ i (ids d″) ≡ 0 = ap (λ (j : ℕ). occ j (ids d″)) z ∙ zero-stays in
-                  let v : occ i (ids d) ≡ 0 = ap (λ (j : ℕ). occ j (ids d)) z ∙ w .above in
+                  let u : occurrences i (ids d″) ≡ 0 = ap (λ (j : ℕ). occurrences j (ids d″)) z ∙ zero-stays in
+                  let v : occurrences i (ids d) ≡ 0 = ap (λ (j : ℕ). occurrences j (ids d)) z ∙ w .above in
                   (ap endsAt (look-none (d″ .curves) i u ∙ sym (look-none (d .curves) i v)), u ∙ sym v)
 
   -- t went, of which no ends are told: it is its own chain, a ring of one
-  module _ (d″ : Drawing) (same : (i : ℕ) → (i ≡ t → ⊥) → occ i (ids d″) ≡ occ i (ids d)) (went : occ t (ids d″) ≡ 0) where
-    none-added : (i : ℕ) → occ i (added drawn d d″ (link t 0 0)) ≡ 0
-    none-added i = go (ℕ-discrete (occ i (ids d)) 0)
+  module _ (d″ : Drawing) (same : (i : ℕ) → (i ≡ t → ⊥) → occurrences i (ids d″) ≡ occurrences i (ids d)) (went : occurrences t (ids d″) ≡ 0) where
+    none-added : (i : ℕ) → occurrences i (added curveView d d″ (link t 0 0)) ≡ 0
+    none-added i = go (ℕ-discrete (occurrences i (ids d)) 0)
       where
-        go : Dec (occ i (ids d) ≡ 0) → occ i (added drawn d d″ (link t 0 0)) ≡ 0
-        go (no ne) = dropped new-id i (ids d″ ++ gone (link t 0 0)) (ap not (there i (ids d) (omega arith)))
+        go : Dec (occurrences i (ids d) ≡ 0) → occurrences i (added curveView d d″ (link t 0 0)) ≡ 0
+        go (no ne) = dropped new-id i (ids d″ ++ removedIds (link t 0 0)) (ap not (there i (ids d) (omega arith)))
         go (yes z) =
-            let nt : i ≡ t → ⊥ = λ e. omega (arith, here, ap (λ (j : ℕ). occ j (ids d)) e) in
-            kept new-id i (ids d″ ++ gone (link t 0 0)) (ap not (away i (ids d) z)) ∙ occ-append i (ids d″) (gone (link t 0 0))
+            let nt : i ≡ t → ⊥ = λ e. omega (arith, here, ap (λ (j : ℕ). occurrences j (ids d)) e) in
+            kept new-id i (ids d″ ++ removedIds (link t 0 0)) (ap not (away i (ids d) z)) ∙ occ-append i (ids d″) (removedIds (link t 0 0))
             ∙ omega (arith, same i nt, gone-at i nt (ℕ-discrete i 0))
           where
-            gone-at : (i : ℕ) → (i ≡ t → ⊥) → Dec (i ≡ 0) → occ i (gone (link t 0 0)) ≡ 0
-            gone-at i nt (yes e) = ap (λ (j : ℕ). occ j (gone (link t 0 0))) e ∙ gone-zero (link t 0 0)
+            gone-at : (i : ℕ) → (i ≡ t → ⊥) → Dec (i ≡ 0) → occurrences i (removedIds (link t 0 0)) ≡ 0
+            gone-at i nt (yes e) = ap (λ (j : ℕ). occurrences j (removedIds (link t 0 0))) e ∙ gone-zero (link t 0 0)
             gone-at i nt (no p) = gone-above i (link t 0 0) (omega arith) ∙ occ-other i t [] nt
 
-    pub lone-ring : Pieces drawn d t d″ (link t 0 0) 0 0
+    pub lone-ring : Pieces curveView d t d″ (link t 0 0) 0 0
     lone-ring =
         record {
           list = record { id = t; from = 0; to = 0; stands = false } ∷ [];
           joined = (refl, refl);
           right = ((away t (ids d″) went, List·Memᴰ·head refl), tt);
-          are = λ i. sym (occ-append i (t ∷ []) (added drawn d d″ (link t 0 0)) ∙ omega (arith, none-added i));
-          once = λ i. omega (arith, occ-append i (t ∷ []) (added drawn d d″ (link t 0 0)), none-added i, at-most i t);
+          are = λ i. sym (occ-append i (t ∷ []) (added curveView d d″ (link t 0 0)) ∙ omega (arith, none-added i));
+          once = λ i. omega (arith, occ-append i (t ∷ []) (added curveView d d″ (link t 0 0)), none-added i, at-most i t);
           new = λ i p. absurd (omega (arith, none-added i));
         }

@@ -1,4 +1,4 @@
--- What a plan does, once it is carried out: a valid drawing stays valid, and its chains whole. So the claim over desk and wall holds of any edit that carries
+-- What a plan does, once it is applied: a valid drawing stays valid, and its chains whole. So the claim over desk and wall holds of any edit that carries
 -- out a plan with its pins held (`planned-demand-3`). Assumes of the edit `Planned`, and of its messages `Read`.
 use mathlib.Core.Path.{_≡_, _∙_}
 use mathlib.Core.Bool.{Bool, true}
@@ -10,35 +10,35 @@ use Rattle.sketch.specs.declared.Curve.{Curve}
 use Rattle.sketch.specs.Lookup.{among}
 use Rattle.sketch.specs.Drawing.{Drawing, Limits, curveIn}
 use Rattle.sketch.specs.Facts.{Valid}
-use Rattle.carry.specs.declared.Pin.{Pin}
-use Rattle.carry.specs.declared.Plan.{Plan}
-use Rattle.carry.specs.declared.Plan.the-variants.{Move}
-use Rattle.carry.specs.declared.Removed.{Removed}
-use Rattle.carry.specs.Outcome.{Outcome, accepted}
-use Rattle.carry.specs.CarryOut.{carryOut}
-use Rattle.carry.specs.Suited.{Held, Pinned, Suited}
-use Rattle.carry.proofs.Tables.{holds-at, look-some}
-use Rattle.carry.proofs.Every.{rising-among}
-use Rattle.agreement.specs.Machines.{Rules, fresh, DeskStep, messages, DeskRun, WallStep, Delivered, WallRun}
-use Rattle.agreement.specs.Shape.{Pieces, Shape}
+use Rattle.edit_plan.specs.declared.Pin.{Pin}
+use Rattle.edit_plan.specs.declared.Plan.{Plan}
+use Rattle.edit_plan.specs.declared.Plan.the-variants.{Move}
+use Rattle.edit_plan.specs.declared.Removed.{Removed}
+use Rattle.edit_plan.specs.Outcome.{Outcome, accepted}
+use Rattle.edit_plan.specs.ApplyPlan.{applyPlan}
+use Rattle.edit_plan.specs.Suited.{PinHolds, Pinned, Suited}
+use Rattle.edit_plan.proofs.Tables.{holds-at, look-some}
+use Rattle.edit_plan.proofs.Every.{rising-among}
+use Rattle.agreement.specs.Machines.{Protocol, initial, DeskStep, messages, DeskRun, WallStep, Delivered, WallRun}
+use Rattle.agreement.specs.EditEffect.{Pieces, EditEffect}
 use Rattle.agreement.specs.Demand.{Demand3}
 use Rattle.agreement.proofs.Counts.{there, among-as}
 use Rattle.agreement.proofs.Wall.{Read}
 use Rattle.agreement.proofs.Demand.{Keeps, demand-3}
-use Rattle.chains.specs.Drawn.{ids, ends, drawn}
-use Rattle.chains.proofs.Laid.{stand-in}
+use Rattle.chains.specs.CurveView.{ids, ends, curveView}
+use Rattle.chains.proofs.AddedPieces.{stand-in}
 use Rattle.chains.proofs.Steps.{low-of}
-use Rattle.chains.proofs.Shapes.{ShapeAt, carry-shape}
-use Rattle.chains.proofs.Keeps.{carry-valid}
+use Rattle.chains.proofs.Shapes.{ShapeAt, apply-plan-effect}
+use Rattle.chains.proofs.Keeps.{apply-plan-valid}
 
 module _ (met : Drawing → Bool) (m : Limits) (d : Drawing) (v : Valid m d) (t : ℕ) where
   -- ---- any plan
 
-  module _ (plan : Plan) (d′ : Drawing) (r : Removed) (q : carryOut met m d t plan ≡ accepted d′ r) where
+  module _ (plan : Plan) (d′ : Drawing) (r : Removed) (q : applyPlan met m d t plan ≡ accepted d′ r) where
     plan-shape-at : ShapeAt met m d (low-of m d v) t d′ r
-    plan-shape-at = holds-at (ShapeAt met m d (low-of m d v) t) (carryOut met m d t plan) d′ r (carry-shape met m d (low-of m d v) t plan) q
+    plan-shape-at = holds-at (ShapeAt met m d (low-of m d v) t) (applyPlan met m d t plan) d′ r (apply-plan-effect met m d (low-of m d v) t plan) q
 
-    pub plan-shape : Shape drawn d t d′ r
+    pub plan-shape : EditEffect curveView d t d′ r
     plan-shape = plan-shape-at .shape
 
     -- its curve stood in the drawing
@@ -48,7 +48,7 @@ module _ (met : Drawing → Bool) (m : Limits) (d : Drawing) (v : Valid m d) (t 
         (h, rising-among (d .next) 0 t (ids d) (v .curves-rise) h .1)
 
     -- a curve without ends becomes a ring: pieces that lead from a point back to it
-    pub plan-ring : ends d t ≡ none → (i : ℕ) × Pieces drawn d t d′ r i i
+    pub plan-ring : ends d t ≡ none → (i : ℕ) × Pieces curveView d t d′ r i i
     plan-ring = plan-shape-at .ring
 
     -- the next id never falls
@@ -63,27 +63,27 @@ module _ (met : Drawing → Bool) (m : Limits) (d : Drawing) (v : Valid m d) (t 
 
     -- where its pins are held, the drawing stays valid
     pub plan-valid : Pinned d t plan → Valid m d′
-    plan-valid f = holds-at (λ x y. Valid m x) (carryOut met m d t plan) d′ r (carry-valid m met d v t plan f) q
+    plan-valid f = holds-at (λ x y. Valid m x) (applyPlan met m d t plan) d′ r (apply-plan-valid m met d v t plan f) q
 
   -- ---- a plan that suits the curve, and the move of a line's end
 
-  pub suited-valid : (c : Curve) → curveIn (d .curves) t ≡ some c → (plan : Plan) → Suited d c plan → (d′ : Drawing) (r : Removed) → carryOut met m d t plan ≡ accepted d′ r → Valid m d′
+  pub suited-valid : (c : Curve) → curveIn (d .curves) t ≡ some c → (plan : Plan) → Suited d c plan → (d′ : Drawing) (r : Removed) → applyPlan met m d t plan ≡ accepted d′ r → Valid m d′
   suited-valid c at plan s d′ r q = plan-valid plan d′ r q (rw (← look-some (d .curves) t c at .1) (s .pins))
 
-  pub move-valid : (at-end : Bool) (u : Vec2) (w : Pin) → Held d t w → (d′ : Drawing) (r : Removed) → carryOut met m d t (Move at-end u w) ≡ accepted d′ r → Valid m d′
+  pub move-valid : (at-end : Bool) (u : Vec2) (w : Pin) → PinHolds d t w → (d′ : Drawing) (r : Removed) → applyPlan met m d t (Move at-end u w) ≡ accepted d′ r → Valid m d′
   move-valid at-end u w h d′ r q = plan-valid (Move at-end u w) d′ r q h
 
 -- ---- edits
 
 module _ {E : Type 0} (target : E → ℕ) (met : Drawing → Bool) (m : Limits) where
-  -- an accepted edit of a valid drawing carries out some plan for its curve, whose pins are held
+  -- an accepted edit of a valid drawing applies some plan for its curve, whose pins are held
   abbrev pub Planned : (Drawing → E → Outcome Drawing Removed) → Type 0
   Planned edit =
       (d : Drawing) (e : E) (d′ : Drawing) (r : Removed) → Valid m d → edit d e ≡ accepted d′ r
-      → (plan : Plan) × Pinned d (target e) plan × (carryOut met m d (target e) plan ≡ accepted d′ r)
+      → (plan : Plan) × Pinned d (target e) plan × (applyPlan met m d (target e) plan ≡ accepted d′ r)
 
-  module _ (p : Rules Drawing E Removed) (f : Planned (p .edit)) where
-    pub planned-keeps : Keeps p drawn target (Valid m)
+  module _ (p : Protocol Drawing E Removed) (f : Planned (p .edit)) where
+    pub planned-keeps : Keeps p curveView target (Valid m)
     planned-keeps =
         record {
           valid = λ d e d′ r v q. let (plan, h, o) = f d e d′ r v q in plan-valid met m d v (target e) plan d′ r o h;
@@ -93,6 +93,6 @@ module _ {E : Type 0} (target : E → ℕ) (met : Drawing → Bool) (m : Limits)
 
     pub planned-demand-3 :
         Read p (Valid m) → (start : Drawing) (desk : List (DeskStep Drawing E Removed)) (wall : List (WallStep Drawing Removed))
-        → Valid m start → DeskRun p (fresh start) desk → WallRun p (fresh start) wall → Delivered (messages desk) wall
-        → Demand3 p drawn target start desk wall
-    planned-demand-3 = demand-3 p drawn target (Valid m) planned-keeps
+        → Valid m start → DeskRun p (initial start) desk → WallRun p (initial start) wall → Delivered (messages desk) wall
+        → Demand3 p curveView target start desk wall
+    planned-demand-3 = demand-3 p curveView target (Valid m) planned-keeps

@@ -10,22 +10,22 @@ use borrow.Author.Tests.{eqb-true, not-true}
 use Rattle.sketch.specs.declared.Point.{Point}
 use Rattle.sketch.specs.declared.Curve.{Curve}
 use Rattle.sketch.specs.declared.Relation.{Relation}
-use Rattle.sketch.specs.Lists.{pick, every, keep}
+use Rattle.sketch.specs.Lists.{ite, every, keep}
 use Rattle.sketch.specs.Lookup.{among}
 use Rattle.sketch.specs.Drawing.{Drawing, Limits, pointIds, usesOf, pointsOf}
 use Rattle.sketch.specs.Valid.{okPoint, okCurve, okRelation, sortAt, soundCurve, soundRelation}
 use Rattle.sketch.specs.Facts.{Valid}
 use Rattle.sketch.proofs.Bools.{never, and-left, and-right}
-use Rattle.carry.specs.Tables.{curvesOf, uses, others, ofId, stays, remove}
-use Rattle.carry.proofs.Tables.{look-stays}
-use Rattle.carry.proofs.Every.{or-right, every-keep, length-keep, among-dropped, among-left, among-right, every-in, rising-keep}
+use Rattle.edit_plan.specs.Tables.{curvesOf, uses, others, ofId, stays, remove}
+use Rattle.edit_plan.proofs.Tables.{look-stays}
+use Rattle.edit_plan.proofs.Every.{or-right, every-keep, length-keep, among-dropped, among-left, among-right, every-in, rising-keep}
 use Rattle.chains.proofs.Grown.{has, sortOn, relation-kept, curve-kept}
 
 among-keep : (f : ℕ → Bool) (p : ℕ) (ps : List Point) → among p (pointIds ps) ≡ true → f p ≡ true → among p (pointIds (keep (λ q. f (q .id)) ps)) ≡ true
 among-keep f p [] h k = h
 among-keep f p (q ∷ ps) h k = go (f (q .id)) refl (eqb p (q .id)) refl h (λ u. among-keep f p ps u k)
   where
-    go : (b : Bool) → f (q .id) ≡ b → (e : Bool) → eqb p (q .id) ≡ e → e || among p (pointIds ps) ≡ true → (among p (pointIds ps) ≡ true → among p (pointIds (keep (λ q. f (q .id)) ps)) ≡ true) → among p (pointIds (pick b (q ∷ keep (λ q. f (q .id)) ps) (keep (λ q. f (q .id)) ps))) ≡ true
+    go : (b : Bool) → f (q .id) ≡ b → (e : Bool) → eqb p (q .id) ≡ e → e || among p (pointIds ps) ≡ true → (among p (pointIds ps) ≡ true → among p (pointIds (keep (λ q. f (q .id)) ps)) ≡ true) → among p (pointIds (ite b (q ∷ keep (λ q. f (q .id)) ps) (keep (λ q. f (q .id)) ps))) ≡ true
     go true x true y h ih = rw y
     go true x false y h ih = or-right (eqb p (q .id)) _ (ih h)
     go false x true y h ih = never (sym x ∙ ap f (sym (eqb-true p (q .id) y)) ∙ k)

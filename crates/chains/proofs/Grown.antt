@@ -12,10 +12,10 @@ use Rattle.sketch.specs.declared.Relation.the-variants.{Coincident, PointOnCurv
 use Rattle.sketch.specs.Lists.{every}
 use Rattle.sketch.specs.Lookup.{among}
 use Rattle.sketch.specs.Drawing.{Drawing, usesOf, pointsOf}
-use Rattle.sketch.specs.Valid.{isLine, isRound, distinct, soundCurve, fits, apart, soundRelation, hasPoint, sortIn}
+use Rattle.sketch.specs.Valid.{isLineSort, isRoundSort, distinct, soundCurve, fits, apart, soundRelation, hasPoint, sortIn}
 use Rattle.sketch.proofs.Bools.{never, and-left, and-right, both}
-use Rattle.carry.specs.Tables.{curvesOf}
-use Rattle.carry.proofs.Every.{or-right, among-same, every-imp}
+use Rattle.edit_plan.specs.Tables.{curvesOf}
+use Rattle.edit_plan.proofs.Every.{or-right, among-same, every-imp}
 
 abbrev pub has : Drawing → ℕ → Bool
 has d p = hasPoint (d .points) p
@@ -29,7 +29,7 @@ present s = ltb 0 s
 
 -- two lines or two rounds
 abbrev pub alike : ℕ → ℕ → Bool
-alike a b = (isLine a && isLine b) || (isRound a && isRound b)
+alike a b = (isLineSort a && isLineSort b) || (isRoundSort a && isRoundSort b)
 
 abbrev pub soundKind : (ℕ → Bool) → CurveKind → List ℕ → Bool
 soundKind f k s = every f (usesOf k s) && distinct k
@@ -40,7 +40,7 @@ sort-kept : (f : ℕ → Bool) (s s′ : ℕ) → f 0 ≡ false → ((s ≡ 0 �
 sort-kept f s s′ z k h = ap f (k (λ e. never (sym z ∙ ap f (sym e) ∙ h))) ∙ h
 
 alike-none : (a : ℕ) → alike a 0 ≡ false
-alike-none a = go (isLine a) (isRound a)
+alike-none a = go (isLineSort a) (isRoundSort a)
   where
     go : (x y : Bool) → (x && false) || (y && false) ≡ false
     go true true = refl
@@ -53,16 +53,16 @@ unfolding fits curvesOf
 fits-kept s s′ (Coincident p q) k h = h
 fits-kept s s′ (PointOnCurve p c) k h = sort-kept present (s c) (s′ c) refl (k c (among-same c [])) h
 fits-kept s s′ (Collinear a b) k h =
-    both (isLine (s′ a)) (isLine (s′ b)) (sort-kept isLine (s a) (s′ a) refl (k a (among-same a (b ∷ []))) (and-left (isLine (s a)) (isLine (s b)) h))
-    (sort-kept isLine (s b) (s′ b) refl (k b (or-right (eqb b a) _ (among-same b []))) (and-right (isLine (s a)) (isLine (s b)) h))
+    both (isLineSort (s′ a)) (isLineSort (s′ b)) (sort-kept isLineSort (s a) (s′ a) refl (k a (among-same a (b ∷ []))) (and-left (isLineSort (s a)) (isLineSort (s b)) h))
+    (sort-kept isLineSort (s b) (s′ b) refl (k b (or-right (eqb b a) _ (among-same b []))) (and-right (isLineSort (s a)) (isLineSort (s b)) h))
 fits-kept s s′ (Equal a b) k h =
     sort-kept (λ x. alike (s′ a) x) (s b) (s′ b) (alike-none (s′ a)) (k b (or-right (eqb b a) _ (among-same b [])))
     (sort-kept (λ x. alike x (s b)) (s a) (s′ a) refl (k a (among-same a (b ∷ []))) h)
-fits-kept s s′ (Length l v) k h = sort-kept isLine (s l) (s′ l) refl (k l (among-same l [])) h
+fits-kept s s′ (Length l v) k h = sort-kept isLineSort (s l) (s′ l) refl (k l (among-same l [])) h
 fits-kept s s′ (Distance p q v) k h = h
-fits-kept s s′ (Midpoint p l) k h = sort-kept isLine (s l) (s′ l) refl (k l (among-same l [])) h
-fits-kept s s′ (ArcLength c v) k h = sort-kept isRound (s c) (s′ c) refl (k c (among-same c [])) h
-fits-kept s s′ (ArcSweep c v) k h = sort-kept isRound (s c) (s′ c) refl (k c (among-same c [])) h
+fits-kept s s′ (Midpoint p l) k h = sort-kept isLineSort (s l) (s′ l) refl (k l (among-same l [])) h
+fits-kept s s′ (ArcLength c v) k h = sort-kept isRoundSort (s c) (s′ c) refl (k c (among-same c [])) h
+fits-kept s s′ (ArcSweep c v) k h = sort-kept isRoundSort (s c) (s′ c) refl (k c (among-same c [])) h
 
 pub relation-kept :
     (f f′ : ℕ → Bool) (s s′ : ℕ → ℕ) (r : Relation) → ((p : ℕ) → among p (pointsOf r) ≡ true → f p ≡ true → f′ p ≡ true)

@@ -1,4 +1,4 @@
--- A plan whose pins are held, carried out on a valid drawing and not refused, leaves a valid drawing: `carry-valid`. Assumes nothing.
+-- A plan whose pins are held, applied on a valid drawing and not refused, leaves a valid drawing: `apply-plan-valid`. Assumes nothing.
 use mathlib.Core.Path.{_≡_, refl, sym, ap, _∙_, subst}
 use mathlib.Core.Bool.{Bool, true, false}
 use mathlib.Core.List.{List, [], _∷_, map}
@@ -8,21 +8,21 @@ use native.Mathlib.Omega.{arith}
 use Rattle.geom.specs.declared.Vec2.{Vec2}
 use Rattle.sketch.specs.declared.Curve.{Curve}
 use Rattle.sketch.specs.declared.CurveKind.{CurveKind}
-use Rattle.sketch.specs.Lists.{pick}
+use Rattle.sketch.specs.Lists.{ite}
 use Rattle.sketch.specs.Drawing.{Drawing, Limits, curveIn}
 use Rattle.sketch.specs.Valid.{okNumber, sortOf, sortAt}
 use Rattle.sketch.specs.Facts.{Valid}
-use Rattle.carry.specs.declared.Pin.{Pin}
-use Rattle.carry.specs.declared.Place.{Place}
-use Rattle.carry.specs.declared.Plan.{Plan}
-use Rattle.carry.specs.declared.Plan.the-variants.{Whole, Cut, CutTwo, Divide, DivideTwo, Move}
-use Rattle.carry.specs.declared.Removed.{Removed}
-use Rattle.carry.specs.Outcome.{_then_}
-use Rattle.carry.specs.Tables.{setKind, movePoint}
-use Rattle.carry.specs.Steps.{endsOf, endsAt, release, splitAt, pin, pinAll, tie, swap, removal}
-use Rattle.carry.specs.CarryOut.{without, cut, divide, settle, extended, carried, carryAt, carryOut}
-use Rattle.carry.specs.Suited.{Pinned}
-use Rattle.carry.proofs.Tables.{Holds, holds-then, holds-need, look-some, look-set-other}
+use Rattle.edit_plan.specs.declared.Pin.{Pin}
+use Rattle.edit_plan.specs.declared.PinnedPoint.{PinnedPoint}
+use Rattle.edit_plan.specs.declared.Plan.{Plan}
+use Rattle.edit_plan.specs.declared.Plan.the-variants.{Whole, Cut, CutTwo, Divide, DivideTwo, Move}
+use Rattle.edit_plan.specs.declared.Removed.{Removed}
+use Rattle.edit_plan.specs.Outcome.{_then_}
+use Rattle.edit_plan.specs.Tables.{setKind, movePoint}
+use Rattle.edit_plan.specs.Steps.{endsOf, endsAt, releaseExtent, splitAt, pin, pinAll, tie, swap, removal}
+use Rattle.edit_plan.specs.ApplyPlan.{removePiece, cut, divide, checkMet, moveEnd, applyPlanTo, applyPlanAt, applyPlan}
+use Rattle.edit_plan.specs.Suited.{Pinned}
+use Rattle.edit_plan.proofs.Tables.{Holds, holds-then, holds-need, look-some, look-set-other}
 use Rattle.chains.proofs.Grown.{has, sortOn, alike, soundKind, grown-refl, grown-trans}
 use Rattle.chains.proofs.Steps.{grown-set, valid-set, grown-move, valid-move}
 use Rattle.chains.proofs.Released.{curve-sound, curve-ok, grown-release, valid-release}
@@ -70,12 +70,12 @@ module _ (m : Limits) where
   abbrev Ok : Drawing → Removed → Type 0
   Ok d r = Valid m d
 
-  keep-without : (d : Drawing) → Valid m d → (s : ℕ) → alike s s ≡ true → (t : ℕ) (is : List ℕ) → sortOn d t ≡ s → Sorted d s is → UpFrom (suc t) is → (first-goes : Bool) → Holds Ok (without m t first-goes is d)
-  unfolding without
+  keep-without : (d : Drawing) → Valid m d → (s : ℕ) → alike s s ≡ true → (t : ℕ) (is : List ℕ) → sortOn d t ≡ s → Sorted d s is → UpFrom (suc t) is → (first-goes : Bool) → Holds Ok (removePiece m t first-goes is d)
+  unfolding removePiece
   keep-without d v s a t [] p q u b = tt
-  keep-without d v s a t (g ∷ js) p q u b = go (pick b (swap t g d) d) (swapped b)
+  keep-without d v s a t (g ∷ js) p q u b = go (ite b (swap t g d) d) (swapped b)
     where
-      swapped : (b : Bool) → Kept m d (pick b (swap t g d) d)
+      swapped : (b : Bool) → Kept m d (ite b (swap t g d) d)
       swapped true = keep-swap d v s a t g (omega (arith, u .0)) p (q .0)
       swapped false = record { valid = v; grown = grown-refl d }
 
@@ -87,20 +87,20 @@ module _ (m : Limits) where
 
   module _ (met : Drawing → Bool) (d : Drawing) (v : Valid m d) (c : Curve) (at : curveIn (d .curves) (c .id) ≡ some c) where
     abbrev eased : Drawing
-    eased = release (c .id) (c .kind) d
+    eased = releaseExtent (c .id) (c .kind) d
 
-    keep-extend : (at-end : Bool) (s : Vec2) (w : Pin) → Lies d w → Holds Ok (extended met m d at-end s w (endsOf (c .kind)))
-    unfolding extended settle endsAt
+    keep-extend : (at-end : Bool) (s : Vec2) (w : Pin) → Lies d w → Holds Ok (moveEnd met m d at-end s w (endsOf (c .kind)))
+    unfolding moveEnd checkMet endsAt
     keep-extend at-end s w f = go (endsOf (c .kind)) refl
       where
-        end-of : (b : Bool) (e : ℕ × ℕ) → (has d (e .0) ≡ true) × (has d (e .1) ≡ true) → has d (pick b (e .1) (e .0)) ≡ true
+        end-of : (b : Bool) (e : ℕ × ℕ) → (has d (e .0) ≡ true) × (has d (e .1) ≡ true) → has d (ite b (e .1) (e .0)) ≡ true
         end-of true e h = h .1
         end-of false e h = h .0
 
-        go : (o : Option (ℕ × ℕ)) → endsOf (c .kind) ≡ o → Holds Ok (extended met m d at-end s w o)
+        go : (o : Option (ℕ × ℕ)) → endsOf (c .kind) ≡ o → Holds Ok (moveEnd met m d at-end s w o)
         go none q = tt
         go (some e) q =
-            let p : ℕ = pick at-end (e .1) (e .0) in
+            let p : ℕ = ite at-end (e .1) (e .0) in
             let g = grown-move m d v p s in
             holds-need Ok _ 24 _ λ o.
             holds-then (λ d′ x. Kept m (movePoint p s d) d′) Ok (pin m (movePoint p s d) p w) _
@@ -108,7 +108,7 @@ module _ (m : Limits) where
             (g .points p (end-of at-end e (ends-there m d v (c .id) e (ap endsAt at ∙ q)))) (lies-grown d (movePoint p s d) g w f)) λ d′ x k.
             holds-need Ok _ 19 _ λ z. k .valid
 
-    keep-cut : (ws : List Place) (first-goes : Bool) → AllLie d ws → Holds Ok (cut m d c ws first-goes)
+    keep-cut : (ws : List PinnedPoint) (first-goes : Bool) → AllLie d ws → Holds Ok (cut m d c ws first-goes)
     keep-cut ws first-goes f =
         let vs = map (λ w. w .at) ws in
         holds-then (SplitHeld m eased (c .id)) Ok (splitAt m eased c vs) _ (keep-split m eased (valid-release m d v (c .id) c at) (c .id) c at vs) λ d′ q h.
@@ -121,8 +121,8 @@ module _ (m : Limits) where
         holds-then (SplitHeld m eased (c .id)) Ok (splitAt m eased c vs) _ (keep-split m eased (valid-release m d v (c .id) c at) (c .id) c at vs) λ d′ q h.
         holds-then (λ d″ x. Kept m d′ d″) Ok (tie m d′ (c .id) (q .pieces)) _ (keep-tie m d′ (h .sort) (h .solid) (c .id) (q .pieces) (h .held .valid) (h .sort-is) (h .sorted) (h .up)) λ d″ x k. k .valid
 
-    carried-valid : (plan : Plan) → Pinned d (c .id) plan → Holds Ok (carried met m d c plan)
-    unfolding carried
+    carried-valid : (plan : Plan) → Pinned d (c .id) plan → Holds Ok (applyPlanTo met m d c plan)
+    unfolding applyPlanTo
     carried-valid Whole f = valid-remove m d v (c .id)
     carried-valid (Cut w first-goes) f = keep-cut (w ∷ []) first-goes (held-lies m d v (c .id) (w .pin) f, tt)
     carried-valid (CutTwo w u first-goes) f = keep-cut (w ∷ u ∷ []) first-goes (held-lies m d v (c .id) (w .pin) (f .0), (held-lies m d v (c .id) (u .pin) (f .1), tt))
@@ -131,11 +131,11 @@ module _ (m : Limits) where
     carried-valid (Move at-end u w) f = keep-extend at-end u w (held-lies m d v (c .id) w f)
 
   -- the theorem
-  pub carry-valid : (met : Drawing → Bool) (d : Drawing) → Valid m d → (t : ℕ) (plan : Plan) → Pinned d t plan → Holds (λ d′ r. Valid m d′) (carryOut met m d t plan)
-  unfolding carryAt
-  carry-valid met d v t plan f = go (curveIn (d .curves) t) refl
+  pub apply-plan-valid : (met : Drawing → Bool) (d : Drawing) → Valid m d → (t : ℕ) (plan : Plan) → Pinned d t plan → Holds (λ d′ r. Valid m d′) (applyPlan met m d t plan)
+  unfolding applyPlanAt
+  apply-plan-valid met d v t plan f = go (curveIn (d .curves) t) refl
     where
-      go : (o : Option Curve) → curveIn (d .curves) t ≡ o → Holds (λ d′ r. Valid m d′) (carryAt met m d plan o)
+      go : (o : Option Curve) → curveIn (d .curves) t ≡ o → Holds (λ d′ r. Valid m d′) (applyPlanAt met m d plan o)
       go none e = tt
       go (some c) e =
           let q : c .id ≡ t = look-some (d .curves) t c e .1 in

@@ -12,9 +12,9 @@ use Rattle.sketch.specs.Drawing.{Drawing, Limits}
 use Rattle.sketch.specs.Valid.{okRelation, soundRelation}
 use Rattle.sketch.specs.Facts.{Valid}
 use Rattle.sketch.proofs.Bools.{both}
-use Rattle.carry.specs.Tables.{addPoint, addRelation}
-use Rattle.carry.specs.Steps.{addPoints}
-use Rattle.carry.proofs.Tables.{Holds, holds-then, holds-need}
+use Rattle.edit_plan.specs.Tables.{addPoint, addRelation}
+use Rattle.edit_plan.specs.Steps.{addPoints}
+use Rattle.edit_plan.proofs.Tables.{Holds, holds-then, holds-need}
 use Rattle.chains.proofs.Grown.{has, sortOn, Grown, grown-refl, grown-trans}
 use Rattle.chains.proofs.Steps.{grown-point, new-point, valid-point, grown-relation, valid-relation}
 

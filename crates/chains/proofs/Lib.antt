@@ -1,5 +1,5 @@
--- A plan carried out has the shape that chains need (`Shapes`) and leaves a valid drawing (`Keeps`); so the whole claim holds of edits that do so (`Edits`).
-pub mod Laid
+-- A plan applied has the shape that chains need (`Shapes`) and leaves a valid drawing (`Keeps`); so the whole claim holds of edits that do so (`Edits`).
+pub mod AddedPieces
 pub mod Close
 pub mod Same
 pub mod Rows
@@ -16,4 +16,4 @@ pub mod Splits
 pub mod Keeps
 pub mod Refusals
 pub mod Edits
-pub mod Rehearsal
+pub mod Model

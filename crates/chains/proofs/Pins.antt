@@ -11,21 +11,21 @@ use Rattle.sketch.specs.declared.Curve.{Curve}
 use Rattle.sketch.specs.declared.CurveKind.{CurveKind}
 use Rattle.sketch.specs.declared.CurveKind.the-variants.{Line, Arc, Circle, Bezier, Conic}
 use Rattle.sketch.specs.declared.Relation.the-variants.{Coincident, PointOnCurve}
-use Rattle.sketch.specs.Lists.{pick, every, keep}
+use Rattle.sketch.specs.Lists.{ite, every, keep}
 use Rattle.sketch.specs.Lookup.{among}
 use Rattle.sketch.specs.Drawing.{Drawing, Limits, curveIds, curveIn, usesOf, pointsOf}
 use Rattle.sketch.specs.Valid.{okRelation, sortOf, sortAt, differ, distinct, soundCurve, fits, apart}
 use Rattle.sketch.specs.Facts.{Every, Valid}
 use Rattle.sketch.proofs.Bools.{never, and-left, and-right, both}
-use Rattle.carry.specs.declared.Pin.{Pin}
-use Rattle.carry.specs.declared.Pin.the-variants.{On, At}
-use Rattle.carry.specs.declared.Place.{Place}
-use Rattle.carry.specs.Outcome.{accepted}
-use Rattle.carry.specs.Tables.{addRelation, uses}
-use Rattle.carry.specs.Steps.{endsOf, endsAt, pin, pinAll}
-use Rattle.carry.specs.Suited.{Held}
-use Rattle.carry.proofs.Tables.{Holds, holds-map, holds-then}
-use Rattle.carry.proofs.Every.{or-left, or-right, or-cases, among-same, every-in, is-differ, every-imp}
+use Rattle.edit_plan.specs.declared.Pin.{Pin}
+use Rattle.edit_plan.specs.declared.Pin.the-variants.{On, At}
+use Rattle.edit_plan.specs.declared.PinnedPoint.{PinnedPoint}
+use Rattle.edit_plan.specs.Outcome.{accepted}
+use Rattle.edit_plan.specs.Tables.{addRelation, uses}
+use Rattle.edit_plan.specs.Steps.{endsOf, endsAt, pin, pinAll}
+use Rattle.edit_plan.specs.Suited.{PinHolds}
+use Rattle.edit_plan.proofs.Tables.{Holds, holds-map, holds-then}
+use Rattle.edit_plan.proofs.Every.{or-left, or-right, or-cases, among-same, every-in, is-differ, every-imp}
 use Rattle.chains.proofs.Grown.{has, sortOn, present, Grown, grown-refl}
 use Rattle.chains.proofs.Released.{curve-sound}
 use Rattle.chains.proofs.Kept.{Kept, kept-trans, keep-relation}
@@ -35,7 +35,7 @@ abbrev pub Lies : Drawing → Pin → Type 0
 Lies d (On c) = present (sortOn d c) ≡ true
 Lies d (At e) = has d e ≡ true
 
-abbrev pub AllLie : Drawing → List Place → Type 0
+abbrev pub AllLie : Drawing → List PinnedPoint → Type 0
 AllLie d [] = Unit {0}
 AllLie d (w ∷ ws) = Lies d (w .pin) × AllLie d ws
 
@@ -43,7 +43,7 @@ pub lies-grown : (d d′ : Drawing) → Grown d d′ → (w : Pin) → Lies d w 
 lies-grown d d′ g (On c) h = ap present (g .sorts c (λ e. never (ap present (sym e) ∙ h))) ∙ h
 lies-grown d d′ g (At e) h = g .points e h
 
-pub all-lie-grown : (d d′ : Drawing) → Grown d d′ → (ws : List Place) → AllLie d ws → AllLie d′ ws
+pub all-lie-grown : (d d′ : Drawing) → Grown d d′ → (ws : List PinnedPoint) → AllLie d ws → AllLie d′ ws
 all-lie-grown d d′ g [] h = tt
 all-lie-grown d d′ g (w ∷ ws) h = (lies-grown d d′ g (w .pin) (h .0), all-lie-grown d d′ g ws (h .1))
 
@@ -58,7 +58,7 @@ used-there : (f : ℕ → Bool) (e : ℕ) (p : Curve → Bool) (cs : List Curve)
 used-there f e p [] s h = never h
 used-there f e p (c ∷ cs) s h = go (p c) h (used-there f e p cs (s .1))
   where
-    go : (b : Bool) → among e (uses (pick b (c ∷ keep p cs) (keep p cs))) ≡ true → (among e (uses (keep p cs)) ≡ true → f e ≡ true) → f e ≡ true
+    go : (b : Bool) → among e (uses (ite b (c ∷ keep p cs) (keep p cs))) ≡ true → (among e (uses (keep p cs)) ≡ true → f e ≡ true) → f e ≡ true
     go true h ih =
         among-parts e (usesOf (c .kind) (c .slots)) (uses (keep p cs)) h
         (λ q. every-in f (usesOf (c .kind) (c .slots)) e (and-left (every f (usesOf (c .kind) (c .slots))) (distinct (c .kind)) (s .0)) q) ih
@@ -77,11 +77,11 @@ unfolding curveIn sortAt
 curve-present i [] h = never h
 curve-present i (c ∷ cs) h = go (eqb i (c .id)) h (curve-present i cs)
   where
-    go : (b : Bool) → b || among i (curveIds cs) ≡ true → (among i (curveIds cs) ≡ true → present (sortAt (curveIn cs i)) ≡ true) → present (sortAt (pick b (some c) (curveIn cs i))) ≡ true
+    go : (b : Bool) → b || among i (curveIds cs) ≡ true → (among i (curveIds cs) ≡ true → present (sortAt (curveIn cs i)) ≡ true) → present (sortAt (ite b (some c) (curveIn cs i))) ≡ true
     go true h ih = kind-present (c .kind)
     go false h ih = ih h
 
-pub held-lies : (m : Limits) (d : Drawing) → Valid m d → (t : ℕ) (w : Pin) → Held d t w → Lies d w
+pub held-lies : (m : Limits) (d : Drawing) → Valid m d → (t : ℕ) (w : Pin) → PinHolds d t w → Lies d w
 held-lies m d v t (On c) h = curve-present c (d .curves) (h .1)
 held-lies m d v t (At e) h = used-there (has d) e (λ c. not (eqb t (c .id))) (d .curves) (v .curves-sound) h
 
@@ -125,7 +125,7 @@ module _ (m : Limits) where
       (both ((has d p && true) && present (sortOn d c)) true (both (has d p && true) (present (sortOn d c)) (both (has d p) true h refl) f) refl)
   keep-pin d p (At e) v h f = go (eqb e p) refl
     where
-      go : (b : Bool) → eqb e p ≡ b → Holds (λ d′ u. Kept m d d′) (pick b (accepted d tt) (addRelation m d (Coincident p e)))
+      go : (b : Bool) → eqb e p ≡ b → Holds (λ d′ u. Kept m d d′) (ite b (accepted d tt) (addRelation m d (Coincident p e)))
       go true q = record { valid = v; grown = grown-refl d }
       go false q =
           keep-relation m d (Coincident p e) v refl
@@ -133,7 +133,7 @@ module _ (m : Limits) where
           (both (has d p && (has d e && true)) true (both (has d p) (has d e && true) h (both (has d e) true f refl)) refl)
           (is-differ p e (λ z. eqb-false e p q (sym z))))
 
-  pub keep-pins : (d : Drawing) (ps : List ℕ) (ws : List Place) → Valid m d → every (has d) ps ≡ true → AllLie d ws → Holds (λ d′ u. Kept m d d′) (pinAll m d ps ws)
+  pub keep-pins : (d : Drawing) (ps : List ℕ) (ws : List PinnedPoint) → Valid m d → every (has d) ps ≡ true → AllLie d ws → Holds (λ d′ u. Kept m d d′) (pinAll m d ps ws)
   keep-pins d [] ws v h f = record { valid = v; grown = grown-refl d }
   keep-pins d (p ∷ ps) [] v h f = record { valid = v; grown = grown-refl d }
   keep-pins d (p ∷ ps) (w ∷ ws) v h f =

@@ -1,5 +1,5 @@
 -- A plan that suits its curve is refused by 22, 23 or 24 alone (`suited-refusals`), and the move of a line's end by 24, 22 or 19 (`move-refusals`): the other
--- numbers in the definitions of carrying out are never met. Assumes nothing.
+-- numbers in the definitions of applying are never met. Assumes nothing.
 use mathlib.Core.Path.{_≡_, refl, sym, ap, _∙_}
 use mathlib.Core.Bool.{Bool, true, false}
 use mathlib.Core.List.{List, [], _∷_, map}
@@ -15,21 +15,21 @@ use Rattle.sketch.specs.declared.CurveKind.{CurveKind}
 use Rattle.sketch.specs.declared.CurveKind.the-variants.{Line, Arc, Circle, Bezier, Conic}
 use Rattle.sketch.specs.declared.Relation.{Relation}
 use Rattle.sketch.specs.declared.Relation.the-variants.{Coincident, PointOnCurve}
-use Rattle.sketch.specs.Lists.{pick}
+use Rattle.sketch.specs.Lists.{ite}
 use Rattle.sketch.specs.Lookup.{among}
 use Rattle.sketch.specs.Drawing.{Drawing, Limits, curveIn}
 use Rattle.sketch.proofs.Bools.{never}
-use Rattle.carry.specs.declared.Pin.{Pin}
-use Rattle.carry.specs.declared.Pin.the-variants.{On, At}
-use Rattle.carry.specs.declared.Place.{Place}
-use Rattle.carry.specs.declared.Plan.{Plan}
-use Rattle.carry.specs.declared.Plan.the-variants.{Whole, Cut, CutTwo, Divide, DivideTwo, Move}
-use Rattle.carry.specs.Outcome.{Outcome, refused, accepted, _then_, need}
-use Rattle.carry.specs.Tables.{addPoint, addCurve, addRelation, setKind, movePoint}
-use Rattle.carry.specs.Steps.{endsOf, isLine, release, links, piecesOf, addPoints, addCurves, lay, splitAt, pin, pinAll, lineAt, tied, tie, swap}
-use Rattle.carry.specs.CarryOut.{without, cut, divide, settle, extended, carried, carryAt, carryOut}
-use Rattle.carry.specs.Suited.{suitsOpen, suitsClosed, suits}
-use Rattle.carry.proofs.Tables.{Holds, holds-map, holds-then}
+use Rattle.edit_plan.specs.declared.Pin.{Pin}
+use Rattle.edit_plan.specs.declared.Pin.the-variants.{On, At}
+use Rattle.edit_plan.specs.declared.PinnedPoint.{PinnedPoint}
+use Rattle.edit_plan.specs.declared.Plan.{Plan}
+use Rattle.edit_plan.specs.declared.Plan.the-variants.{Whole, Cut, CutTwo, Divide, DivideTwo, Move}
+use Rattle.edit_plan.specs.Outcome.{Outcome, refused, accepted, _then_, guard}
+use Rattle.edit_plan.specs.Tables.{addPoint, addCurve, addRelation, setKind, movePoint}
+use Rattle.edit_plan.specs.Steps.{endsOf, isLine, releaseExtent, links, piecesOf, addPoints, addCurves, addPieces, splitAt, pin, pinAll, lineAt, tied, tie, swap}
+use Rattle.edit_plan.specs.ApplyPlan.{removePiece, cut, divide, checkMet, moveEnd, applyPlanTo, applyPlanAt, applyPlan}
+use Rattle.edit_plan.specs.Suited.{suitsOpen, suitsClosed, suits}
+use Rattle.edit_plan.proofs.Tables.{Holds, holds-map, holds-then}
 
 -- a refusal is by one of some numbers
 abbrev pub By : List ℕ → {D A : Type 0} → Outcome D A → Type 0
@@ -49,8 +49,8 @@ module _ (ns : List ℕ) where
   by-next : {D A B : Type 0} (o : Outcome D A) (f : D → A → Outcome D B) → By ns o → ((d : D) (a : A) → By ns (f d a)) → By ns (o then f)
   by-next o f t k = by-then (λ d a. Unit {0}) o f (any o) t (λ d a u. k d a)
 
-  by-need : {D A : Type 0} (b : Bool) (n : ℕ) (o : Outcome D A) → among n ns ≡ true → By ns o → By ns (need b n o)
-  unfolding need
+  by-need : {D A : Type 0} (b : Bool) (n : ℕ) (o : Outcome D A) → among n ns ≡ true → By ns o → By ns (guard b n o)
+  unfolding guard
   by-need true n o m t = t
   by-need false n o m t = m
 
@@ -62,7 +62,7 @@ module _ (ns : List ℕ) where
   by-pin h m d p (On c) = by-relation h m d (PointOnCurve p c)
   by-pin h m d p (At e) = go (eqb e p)
     where
-      go : (b : Bool) → By ns (pick b (accepted d tt) (addRelation m d (Coincident p e)))
+      go : (b : Bool) → By ns (ite b (accepted d tt) (addRelation m d (Coincident p e)))
       go true = tt
       go false = by-relation h m d (Coincident p e)
 
@@ -79,10 +79,10 @@ ended (Circle o r) h = never h
 ended (Bezier n) h = never h
 ended (Conic a p b rho) h = never h
 
-by-extend : (met : Drawing → Bool) (m : Limits) (d : Drawing) (b : Bool) (v : Vec2) (w : Pin) (e : ℕ × ℕ) → By moving (extended met m d b v w (some e))
-unfolding extended settle
+by-extend : (met : Drawing → Bool) (m : Limits) (d : Drawing) (b : Bool) (v : Vec2) (w : Pin) (e : ℕ × ℕ) → By moving (moveEnd met m d b v w (some e))
+unfolding moveEnd checkMet
 by-extend met m d b v w e =
-    let p : ℕ = pick b (e .1) (e .0) in
+    let p : ℕ = ite b (e .1) (e .0) in
     by-need moving _ 24 _ refl (by-next moving (pin m (movePoint p v d) p w) _ (by-pin moving refl m (movePoint p v d) p w) λ d′ u. by-need moving _ 19 _ refl tt)
 
 -- ---- cuts
@@ -140,13 +140,13 @@ module _ (m : Limits) where
       holds-then (λ d′ i. Unit {0}) (λ d′ is. length is ≡ length (k ∷ ks)) (addCurve m d k u) _ (any (addCurve m d k u)) λ d′ i x.
       holds-then (λ d″ is. length is ≡ length ks) (λ d″ is. length is ≡ length (k ∷ ks)) (addCurves m d′ ks u) _ (count-curves d′ ks u) λ d″ is h. ap suc h
 
-  by-lay : (d : Drawing) (t : ℕ) (u : Bool) (ps : List ℕ) (ks : List CurveKind) → 0 < length ks → By cutting (lay m d t u ps ks)
-  unfolding lay
+  by-lay : (d : Drawing) (t : ℕ) (u : Bool) (ps : List ℕ) (ks : List CurveKind) → 0 < length ks → By cutting (addPieces m d t u ps ks)
+  unfolding addPieces
   by-lay d t u ps [] h = absurd (omega arith)
   by-lay d t u ps (k ∷ ks) h = by-next cutting (addCurves m (setKind t k d) ks u) _ (by-curves (setKind t k d) ks u) λ d′ is. tt
 
-  count-lay : (d : Drawing) (t : ℕ) (u : Bool) (ps : List ℕ) (ks : List CurveKind) → Holds (λ d′ q. suc (length (q .pieces)) ≡ length ks) (lay m d t u ps ks)
-  unfolding lay
+  count-lay : (d : Drawing) (t : ℕ) (u : Bool) (ps : List ℕ) (ks : List CurveKind) → Holds (λ d′ q. suc (length (q .pieces)) ≡ length ks) (addPieces m d t u ps ks)
+  unfolding addPieces
   count-lay d t u ps [] = tt
   count-lay d t u ps (k ∷ ks) =
       holds-then (λ d′ is. length is ≡ length ks) (λ d′ q. suc (length (q .pieces)) ≡ length (k ∷ ks)) (addCurves m (setKind t k d) ks u) _ (count-curves (setKind t k d) ks u) λ d′ is h. ap suc h
@@ -163,10 +163,10 @@ module _ (m : Limits) where
     count-split : Holds (λ d′ q. 0 < length (q .pieces)) (splitAt m d c vs)
     count-split =
         holds-then (λ d′ ps. length ps ≡ length vs) (λ d′ q. 0 < length (q .pieces)) (addPoints m d vs) _ (count-points d vs) λ d′ ps e.
-        holds-map (λ d″ q. suc (length (q .pieces)) ≡ length (piecesOf (c .kind) ps)) (λ d″ q. 0 < length (q .pieces)) (lay m d′ (c .id) (c .construction) ps (piecesOf (c .kind) ps))
+        holds-map (λ d″ q. suc (length (q .pieces)) ≡ length (piecesOf (c .kind) ps)) (λ d″ q. 0 < length (q .pieces)) (addPieces m d′ (c .id) (c .construction) ps (piecesOf (c .kind) ps))
         (λ d″ q x. omega (arith, many ps e)) (count-lay d′ (c .id) (c .construction) ps (piecesOf (c .kind) ps))
 
-  by-pins : (d : Drawing) (ps : List ℕ) (ws : List Place) → By cutting (pinAll m d ps ws)
+  by-pins : (d : Drawing) (ps : List ℕ) (ws : List PinnedPoint) → By cutting (pinAll m d ps ws)
   by-pins d [] ws = tt
   by-pins d (p ∷ ps) [] = tt
   by-pins d (p ∷ ps) (w ∷ ws) = by-next cutting (pin m d p (w .pin)) _ (by-pin cutting refl m d p (w .pin)) λ d′ u. by-pins d′ ps ws
@@ -177,30 +177,30 @@ module _ (m : Limits) where
       let r = tied (lineAt (curveIn (d .curves) a)) a b in
       by-next cutting (addRelation m d r) _ (by-relation cutting refl m d r) λ d′ u. by-tie d′ b bs
 
-  by-without : (t : ℕ) (b : Bool) (is : List ℕ) (d : Drawing) → 0 < length is → By cutting (without m t b is d)
-  unfolding without
+  by-without : (t : ℕ) (b : Bool) (is : List ℕ) (d : Drawing) → 0 < length is → By cutting (removePiece m t b is d)
+  unfolding removePiece
   by-without t b [] d h = absurd (omega arith)
   by-without t b (g ∷ is) d h =
-      let e = pick b (swap t g d) d in
+      let e = ite b (swap t g d) d in
       by-next cutting (tie m e t is) _ (by-tie e t is) λ d′ u. tt
 
-  by-cut : (d : Drawing) (c : Curve) (w : Place) (ws : List Place) (b : Bool) → cuttable (c .kind) (length (map (λ (x : Place). x .at) (w ∷ ws))) ≡ true → By cutting (cut m d c (w ∷ ws) b)
+  by-cut : (d : Drawing) (c : Curve) (w : PinnedPoint) (ws : List PinnedPoint) (b : Bool) → cuttable (c .kind) (length (map (λ (x : PinnedPoint). x .at) (w ∷ ws))) ≡ true → By cutting (cut m d c (w ∷ ws) b)
   by-cut d c w ws b h =
-      let e = release (c .id) (c .kind) d in
-      let vs : List Vec2 = map (λ (x : Place). x .at) (w ∷ ws) in
+      let e = releaseExtent (c .id) (c .kind) d in
+      let vs : List Vec2 = map (λ (x : PinnedPoint). x .at) (w ∷ ws) in
       by-then cutting (λ d′ q. 0 < length (q .pieces)) (splitAt m e c vs) _ (count-split e c vs h (omega arith)) (by-split e c vs h (omega arith)) λ d′ q x.
       by-next cutting (pinAll m d′ (q .points) (w ∷ ws)) _ (by-pins d′ (q .points) (w ∷ ws)) λ d″ u.
       by-without (c .id) b (q .pieces) d″ x
 
   by-divide : (d : Drawing) (c : Curve) (v : Vec2) (vs : List Vec2) → cuttable (c .kind) (length (v ∷ vs)) ≡ true → By cutting (divide m d c (v ∷ vs))
   by-divide d c v vs h =
-      let e = release (c .id) (c .kind) d in
+      let e = releaseExtent (c .id) (c .kind) d in
       by-next cutting (splitAt m e c (v ∷ vs)) _ (by-split e c (v ∷ vs) h (omega arith)) λ d′ q.
       by-next cutting (tie m d′ (c .id) (q .pieces)) _ (by-tie d′ (c .id) (q .pieces)) λ d″ u. tt
 
   -- ---- what suits a curve can be cut
 
-  suits-one : (k : CurveKind) (w : Place) (b : Bool) → suits k (Cut w b) ≡ true → cuttable k 1 ≡ true
+  suits-one : (k : CurveKind) (w : PinnedPoint) (b : Bool) → suits k (Cut w b) ≡ true → cuttable k 1 ≡ true
   unfolding suits suitsOpen suitsClosed
   suits-one (Line a b) w u h = refl
   suits-one (Arc o a b) w u h = refl
@@ -232,8 +232,8 @@ module _ (m : Limits) where
   not-moved (Bezier n) u v w = refl
   not-moved (Conic a p b rho) u v w = refl
 
-  by-suited : (met : Drawing → Bool) (d : Drawing) (c : Curve) (plan : Plan) → suits (c .kind) plan ≡ true → By cutting (carried met m d c plan)
-  unfolding carried
+  by-suited : (met : Drawing → Bool) (d : Drawing) (c : Curve) (plan : Plan) → suits (c .kind) plan ≡ true → By cutting (applyPlanTo met m d c plan)
+  unfolding applyPlanTo
   by-suited met d c Whole h = tt
   by-suited met d c (Cut w b) h = by-cut d c w [] b (suits-one (c .kind) w b h)
   by-suited met d c (CutTwo w v b) h = by-cut d c w (v ∷ []) b (suits-some (c .kind) (CutTwo w v b) h)
@@ -243,12 +243,12 @@ module _ (m : Limits) where
 
   -- ---- the theorems
 
-  pub suited-refusals : (met : Drawing → Bool) (d : Drawing) (t : ℕ) (c : Curve) (plan : Plan) → curveIn (d .curves) t ≡ some c → suits (c .kind) plan ≡ true → By cutting (carryOut met m d t plan)
-  unfolding carryAt
+  pub suited-refusals : (met : Drawing → Bool) (d : Drawing) (t : ℕ) (c : Curve) (plan : Plan) → curveIn (d .curves) t ≡ some c → suits (c .kind) plan ≡ true → By cutting (applyPlan met m d t plan)
+  unfolding applyPlanAt
   suited-refusals met d t c plan e h = rw e (by-suited met d c plan h)
 
-  pub move-refusals : (met : Drawing → Bool) (d : Drawing) (t : ℕ) (c : Curve) (b : Bool) (v : Vec2) (w : Pin) → curveIn (d .curves) t ≡ some c → isLine (c .kind) ≡ true → By moving (carryOut met m d t (Move b v w))
-  unfolding carryAt carried
+  pub move-refusals : (met : Drawing → Bool) (d : Drawing) (t : ℕ) (c : Curve) (b : Bool) (v : Vec2) (w : Pin) → curveIn (d .curves) t ≡ some c → isLine (c .kind) ≡ true → By moving (applyPlan met m d t (Move b v w))
+  unfolding applyPlanAt applyPlanTo
   move-refusals met d t c b v w e h =
       let (x, q) = ended (c .kind) h in
       rw (e, q) (by-extend met m d b v w x)

@@ -13,13 +13,13 @@ use Rattle.sketch.specs.declared.CurveKind.{CurveKind}
 use Rattle.sketch.specs.declared.CurveKind.the-variants.{Line, Arc, Circle, Bezier, Conic}
 use Rattle.sketch.specs.declared.Relation.{Relation}
 use Rattle.sketch.specs.declared.Relation.the-variants.{Coincident, PointOnCurve, Collinear, Equal, Length, Distance, Midpoint, ArcLength, ArcSweep}
-use Rattle.sketch.specs.Lists.{pick, every}
+use Rattle.sketch.specs.Lists.{ite, every}
 use Rattle.sketch.specs.Drawing.{Drawing, Limits, curveIn, usesOf, pointsOf}
 use Rattle.sketch.specs.Valid.{okCurve, okRelation, differ, distinct, soundCurve, fits, apart, soundRelation}
 use Rattle.sketch.specs.Facts.{Every, Valid}
 use Rattle.sketch.proofs.Bools.{and-left, and-right, both}
-use Rattle.carry.specs.Steps.{lineEnds, isSome, dropIf, measured, released, release}
-use Rattle.carry.proofs.Every.{every-spread, every-at, length-spread, member-look}
+use Rattle.edit_plan.specs.Steps.{lineEnds, isSome, dropIf, measured, releaseRelation, releaseExtent}
+use Rattle.edit_plan.proofs.Every.{every-spread, every-at, length-spread, member-look}
 use Rattle.chains.proofs.Grown.{has, sortOn, soundKind, Grown}
 
 drop-every : (f : Relation → Bool) (b : Bool) (r : Relation) → f r ≡ true → Every f (dropIf b r)
@@ -50,15 +50,15 @@ module _ (m : Limits) (d : Drawing) (v : Valid m d) where
         go (Bezier n) s q h = let z : _≡_ {A = ℕ} 0 1 = cc in absurd (omega arith)
         go (Conic a p b rho) s q h = let z : _≡_ {A = ℕ} 0 1 = cc in absurd (omega arith)
 
-    released-each : (f : Relation → Bool) (o : Option (ℕ × ℕ)) → ((e : ℕ × ℕ) (l : ℕ) (x : Float) → o ≡ some e → f (Length l x) ≡ true → f (Distance (e .0) (e .1) x) ≡ true) → (r : Relation) → f r ≡ true → Every f (released t o r)
-    unfolding released measured
+    released-each : (f : Relation → Bool) (o : Option (ℕ × ℕ)) → ((e : ℕ × ℕ) (l : ℕ) (x : Float) → o ≡ some e → f (Length l x) ≡ true → f (Distance (e .0) (e .1) x) ≡ true) → (r : Relation) → f r ≡ true → Every f (releaseRelation t o r)
+    unfolding releaseRelation measured
     released-each f o g (Coincident p q) h = (h, tt)
     released-each f o g (PointOnCurve p q) h = (h, tt)
     released-each f o g (Collinear a b) h = (h, tt)
     released-each f o g (Equal a b) h = drop-every f (isSome o && (eqb a t || eqb b t)) (Equal a b) h
     released-each f o g (Length l x) h = go (eqb l t) o g
       where
-        go : (b : Bool) (o : Option (ℕ × ℕ)) → ((e : ℕ × ℕ) (l : ℕ) (x : Float) → o ≡ some e → f (Length l x) ≡ true → f (Distance (e .0) (e .1) x) ≡ true) → Every f (pick b (measured o x) (Length l x ∷ []))
+        go : (b : Bool) (o : Option (ℕ × ℕ)) → ((e : ℕ × ℕ) (l : ℕ) (x : Float) → o ≡ some e → f (Length l x) ≡ true → f (Distance (e .0) (e .1) x) ≡ true) → Every f (ite b (measured o x) (Length l x ∷ []))
         go true none g = tt
         go true (some e) g = (g e l x refl h, tt)
         go false o g = (h, tt)
@@ -67,15 +67,15 @@ module _ (m : Limits) (d : Drawing) (v : Valid m d) where
     released-each f o g (ArcLength a x) h = drop-every f (eqb a t) (ArcLength a x) h
     released-each f o g (ArcSweep a x) h = drop-every f (eqb a t) (ArcSweep a x) h
 
-    released-one : (o : Option (ℕ × ℕ)) (r : Relation) → length (released t o r) ≤ 1
-    unfolding released measured
+    released-one : (o : Option (ℕ × ℕ)) (r : Relation) → length (releaseRelation t o r) ≤ 1
+    unfolding releaseRelation measured
     released-one o (Coincident p q) = omega arith
     released-one o (PointOnCurve p q) = omega arith
     released-one o (Collinear a b) = omega arith
     released-one o (Equal a b) = drop-one (isSome o && (eqb a t || eqb b t)) (Equal a b)
     released-one o (Length l x) = go (eqb l t) o
       where
-        go : (b : Bool) (o : Option (ℕ × ℕ)) → length (pick b (measured o x) (Length l x ∷ [])) ≤ 1
+        go : (b : Bool) (o : Option (ℕ × ℕ)) → length (ite b (measured o x) (Length l x ∷ [])) ≤ 1
         go true none = omega arith
         go true (some e) = omega arith
         go false o = omega arith
@@ -92,25 +92,25 @@ module _ (m : Limits) (d : Drawing) (v : Valid m d) where
         (both (every (has d) (e .0 ∷ e .1 ∷ [])) true (and-left (every (has d) (e .0 ∷ e .1 ∷ [])) (differ (e .0) (e .1)) u) refl)
         (and-right (every (has d) (e .0 ∷ e .1 ∷ [])) (differ (e .0) (e .1)) u)
 
-    pub grown-release : Grown d (release t (c .kind) d)
+    pub grown-release : Grown d (releaseExtent t (c .kind) d)
     grown-release = record { points = λ p h. h; sorts = λ i h. refl; next = omega arith }
 
-    pub valid-release : Valid m (release t (c .kind) d)
+    pub valid-release : Valid m (releaseExtent t (c .kind) d)
     unfolding okRelation
     valid-release =
         record {
           points-fit = v .points-fit;
           curves-fit = v .curves-fit;
-          relations-fit = omega (arith, v .relations-fit, length-spread (released t (lineEnds (c .kind))) (d .relations) (released-one (lineEnds (c .kind))));
+          relations-fit = omega (arith, v .relations-fit, length-spread (releaseRelation t (lineEnds (c .kind))) (d .relations) (released-one (lineEnds (c .kind))));
           next-low = v .next-low;
           next-high = v .next-high;
           points-rise = v .points-rise;
           curves-rise = v .curves-rise;
           points-ok = v .points-ok;
           curves-ok = v .curves-ok;
-          relations-ok = every-spread okRelation okRelation (released t (lineEnds (c .kind))) (d .relations) (released-each okRelation (lineEnds (c .kind)) (λ e l x q h. h)) (v .relations-ok);
+          relations-ok = every-spread okRelation okRelation (releaseRelation t (lineEnds (c .kind))) (d .relations) (released-each okRelation (lineEnds (c .kind)) (λ e l x q h. h)) (v .relations-ok);
           curves-sound = v .curves-sound;
           relations-sound =
-              every-spread (soundRelation (has d) (sortOn d)) (soundRelation (has d) (sortOn d)) (released t (lineEnds (c .kind))) (d .relations)
+              every-spread (soundRelation (has d) (sortOn d)) (soundRelation (has d) (sortOn d)) (releaseRelation t (lineEnds (c .kind))) (d .relations)
               (released-each (soundRelation (has d) (sortOn d)) (lineEnds (c .kind)) as-distance) (v .relations-sound);
         }

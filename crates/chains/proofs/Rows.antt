@@ -7,10 +7,10 @@ use Prim.Native.Nat.{ℕ}
 use Rattle.sketch.specs.declared.Curve.{Curve}
 use Rattle.sketch.specs.declared.CurveKind.{CurveKind}
 use Rattle.sketch.specs.Drawing.{Drawing, Limits, curveIds, curveIn}
-use Rattle.carry.specs.Tables.{addCurve, rekind, setKind}
-use Rattle.carry.specs.Steps.{endsOf, endsAt, links, addCurves, lay}
-use Rattle.carry.proofs.Tables.{Holds, holds-then, holds-need, look-some, ids-set, rekind-same, look-set, look-set-other}
-use Rattle.chains.proofs.Laid.{Piece, names, link, Laid, Low, laid-grow, laid-one, laid-add}
+use Rattle.edit_plan.specs.Tables.{addCurve, rekind, setKind}
+use Rattle.edit_plan.specs.Steps.{endsOf, endsAt, links, addCurves, addPieces}
+use Rattle.edit_plan.proofs.Tables.{Holds, holds-then, holds-need, look-some, ids-set, rekind-same, look-set, look-set-other}
+use Rattle.chains.proofs.AddedPieces.{Piece, names, link, Laid, Low, laid-grow, laid-one, laid-add}
 use Rattle.chains.proofs.Close.{Linked}
 use Rattle.chains.proofs.Same.{Same}
 
@@ -67,8 +67,8 @@ module _ (d : Drawing) (t : ℕ) (f : ℕ → ℕ → CurveKind) (fe : (x y : �
         (ap endsAt (look-set t (f a b) (d′ .curves) t c (ap (λ (l : List Curve). curveIn l t) (s .curves) ∙ at))
         ∙ ap endsOf (rekind-same t (f a b) c (look-some (d .curves) t c at .1)) ∙ fe a b)
 
-    pub lay-links : (d′ : Drawing) → Same d d′ → (ps : List ℕ) (a : ℕ) (qs : List ℕ) (b : ℕ) → Holds (λ d″ q. Parted d t d″ (q .pieces) a b) (lay m d′ t u ps (links f a qs b))
-    unfolding lay
+    pub lay-links : (d′ : Drawing) → Same d d′ → (ps : List ℕ) (a : ℕ) (qs : List ℕ) (b : ℕ) → Holds (λ d″ q. Parted d t d″ (q .pieces) a b) (addPieces m d′ t u ps (links f a qs b))
+    unfolding addPieces
     lay-links d′ s ps a [] b =
         record { mid = b; rest = []; laid = set-first d′ s a b; named = refl; linked = refl }
     lay-links d′ s ps a (q ∷ qs) b =

@@ -8,15 +8,15 @@ use lib.Dec.{eqb}
 use Rattle.geom.specs.declared.Vec2.{Vec2}
 use Rattle.sketch.specs.declared.Relation.{Relation}
 use Rattle.sketch.specs.declared.Relation.the-variants.{Coincident, PointOnCurve}
-use Rattle.sketch.specs.Lists.{pick}
+use Rattle.sketch.specs.Lists.{ite}
 use Rattle.sketch.specs.Drawing.{Drawing, Limits, curveIn}
-use Rattle.carry.specs.declared.Pin.{Pin}
-use Rattle.carry.specs.declared.Pin.the-variants.{On, At}
-use Rattle.carry.specs.declared.Place.{Place}
-use Rattle.carry.specs.Outcome.{accepted}
-use Rattle.carry.specs.Tables.{addPoint, addRelation}
-use Rattle.carry.specs.Steps.{addPoints, pin, pinAll, lineAt, tied, tie}
-use Rattle.carry.proofs.Tables.{Holds, holds-map, holds-then, holds-need}
+use Rattle.edit_plan.specs.declared.Pin.{Pin}
+use Rattle.edit_plan.specs.declared.Pin.the-variants.{On, At}
+use Rattle.edit_plan.specs.declared.PinnedPoint.{PinnedPoint}
+use Rattle.edit_plan.specs.Outcome.{accepted}
+use Rattle.edit_plan.specs.Tables.{addPoint, addRelation}
+use Rattle.edit_plan.specs.Steps.{addPoints, pin, pinAll, lineAt, tied, tie}
+use Rattle.edit_plan.proofs.Tables.{Holds, holds-map, holds-then, holds-need}
 
 pub record Same (d d′ : Drawing) : Type 0 where
   pub curves : d′ .curves ≡ d .curves
@@ -47,11 +47,11 @@ unfolding pin
 same-pin m d p (On c) = same-relation m d (PointOnCurve p c)
 same-pin m d p (At e) = go (eqb e p)
   where
-    go : (b : Bool) → Holds (λ d′ u. Same d d′) (pick b (accepted d tt) (addRelation m d (Coincident p e)))
+    go : (b : Bool) → Holds (λ d′ u. Same d d′) (ite b (accepted d tt) (addRelation m d (Coincident p e)))
     go true = same-refl d
     go false = same-relation m d (Coincident p e)
 
-pub same-pins : (m : Limits) (d : Drawing) (ps : List ℕ) (ws : List Place) → Holds (λ d′ u. Same d d′) (pinAll m d ps ws)
+pub same-pins : (m : Limits) (d : Drawing) (ps : List ℕ) (ws : List PinnedPoint) → Holds (λ d′ u. Same d d′) (pinAll m d ps ws)
 same-pins m d [] ws = same-refl d
 same-pins m d (p ∷ ps) [] = same-refl d
 same-pins m d (p ∷ ps) (w ∷ ws) =

@@ -1,4 +1,4 @@
--- A plan carried out and not refused has the shape that chains need: `carry-shape`, for every plan. Assumes that ids lie below the next.
+-- A plan applied and not refused has the shape that chains need: `apply-plan-effect`, for every plan. Assumes that ids lie below the next.
 use mathlib.Core.Path.{_≡_, refl, sym, ap, _∙_, subst}
 use mathlib.Core.Bool.{Bool, true, false}
 use mathlib.Core.List.{List, [], _∷_, map}
@@ -9,35 +9,35 @@ use Rattle.geom.specs.declared.Vec2.{Vec2}
 use Rattle.sketch.specs.declared.Curve.{Curve}
 use Rattle.sketch.specs.declared.CurveKind.{CurveKind}
 use Rattle.sketch.specs.declared.CurveKind.the-variants.{Line, Arc, Circle, Bezier, Conic}
-use Rattle.sketch.specs.Lists.{pick}
+use Rattle.sketch.specs.Lists.{ite}
 use Rattle.sketch.specs.Drawing.{Drawing, Limits, curveIds, curveIn}
-use Rattle.carry.specs.declared.Pin.{Pin}
-use Rattle.carry.specs.declared.Place.{Place}
-use Rattle.carry.specs.declared.Plan.{Plan}
-use Rattle.carry.specs.declared.Plan.the-variants.{Whole, Cut, CutTwo, Divide, DivideTwo, Move}
-use Rattle.carry.specs.declared.Removed.{Removed}
-use Rattle.carry.specs.Counts.{occ}
-use Rattle.carry.specs.Outcome.{_then_}
-use Rattle.carry.specs.Tables.{setKind, movePoint, others, remove}
-use Rattle.carry.specs.Steps.{endsOf, endsAt, release, links, piecesOf, addPoints, lay, splitAt, pin, pinAll, tie, exchanged, swap, reported, nothing, removal}
-use Rattle.carry.specs.CarryOut.{without, cut, divide, settle, extended, carried, carryAt, carryOut}
-use Rattle.carry.proofs.Tables.{occ-same, Holds, holds-map, holds-then, holds-need, look-some, occ-gone, occ-stays, look-stays}
-use Rattle.agreement.specs.Shape.{Pieces, Shape}
-use Rattle.chains.specs.Drawn.{ids, ends, drawn}
-use Rattle.chains.proofs.Laid.{Piece, names, link, Laid, Low, laid-one, laid-swap}
+use Rattle.edit_plan.specs.declared.Pin.{Pin}
+use Rattle.edit_plan.specs.declared.PinnedPoint.{PinnedPoint}
+use Rattle.edit_plan.specs.declared.Plan.{Plan}
+use Rattle.edit_plan.specs.declared.Plan.the-variants.{Whole, Cut, CutTwo, Divide, DivideTwo, Move}
+use Rattle.edit_plan.specs.declared.Removed.{Removed}
+use Rattle.edit_plan.specs.Counts.{occurrences}
+use Rattle.edit_plan.specs.Outcome.{_then_}
+use Rattle.edit_plan.specs.Tables.{setKind, movePoint, others, remove}
+use Rattle.edit_plan.specs.Steps.{endsOf, endsAt, releaseExtent, links, piecesOf, addPoints, addPieces, splitAt, pin, pinAll, tie, swapKinds, swap, reported, nothing, removal}
+use Rattle.edit_plan.specs.ApplyPlan.{removePiece, cut, divide, checkMet, moveEnd, applyPlanTo, applyPlanAt, applyPlan}
+use Rattle.edit_plan.proofs.Tables.{occ-same, Holds, holds-map, holds-then, holds-need, look-some, occ-gone, occ-stays, look-stays}
+use Rattle.agreement.specs.EditEffect.{Pieces, EditEffect}
+use Rattle.chains.specs.CurveView.{ids, ends, curveView}
+use Rattle.chains.proofs.AddedPieces.{Piece, names, link, Laid, Low, laid-one, laid-swap}
 use Rattle.chains.proofs.Close.{Linked, laid-shape, laid-pieces, lone-ring, laid-zero, t-below}
 use Rattle.chains.proofs.Same.{Same, same-trans, same-points, same-pin, same-pins, same-tie}
 use Rattle.chains.proofs.Rows.{Parted, laid-same, lay-links}
 
 pub swap-is : (t g : ℕ) (d : Drawing) (x y : Curve) → curveIn (d .curves) t ≡ some x → curveIn (d .curves) g ≡ some y → swap t g d ≡ setKind g (x .kind) (setKind t (y .kind) d)
-unfolding exchanged
+unfolding swapKinds
 swap-is t g d x y ex ey = rw (ex, ey)
 
 module _ (met : Drawing → Bool) (m : Limits) (d : Drawing) (w : Low (d .next) (d .curves)) where
   -- what chains need, and of a curve with no ends that what it became is a ring
   pub record ShapeAt (t : ℕ) (d′ : Drawing) (r : Removed) : Type 0 where
-    pub shape : Shape drawn d t d′ r
-    pub ring : ends d t ≡ none → (p : ℕ) × Pieces drawn d t d′ r p p
+    pub shape : EditEffect curveView d t d′ r
+    pub ring : ends d t ≡ none → (p : ℕ) × Pieces curveView d t d′ r p p
 
   -- a curve is cut from a to b as its ends say, if it has any
   pub record PartedOf (k : CurveKind) (t : ℕ) (d′ : Drawing) (is : List ℕ) : Type 0 where
@@ -53,23 +53,23 @@ module _ (met : Drawing → Bool) (m : Limits) (d : Drawing) (w : Low (d .next) 
       (ap (λ (z : ℕ × ℕ). z .0) v, ap (λ (z : ℕ × ℕ). z .1) v)
 
   module _ (t : ℕ) (c : Curve) (at : curveIn (d .curves) t ≡ some c) where
-    here : 0 < occ t (ids d)
+    here : 0 < occurrences t (ids d)
     here = look-some (d .curves) t c at .0
 
-    lay-cut : (k : CurveKind) (d′ : Drawing) → Same d d′ → (u : Bool) (ps : List ℕ) → Holds (λ d″ q. PartedOf k t d″ (q .pieces)) (lay m d′ t u ps (piecesOf k ps))
-    unfolding piecesOf lay endsOf
+    lay-cut : (k : CurveKind) (d′ : Drawing) → Same d d′ → (u : Bool) (ps : List ℕ) → Holds (λ d″ q. PartedOf k t d″ (q .pieces)) (addPieces m d′ t u ps (piecesOf k ps))
+    unfolding piecesOf addPieces endsOf
     lay-cut (Line a b) d′ s u ps =
-        holds-map (λ d″ q. Parted d t d″ (q .pieces) a b) (λ d″ q. PartedOf (Line a b) t d″ (q .pieces)) (lay m d′ t u ps (links Line a ps b))
+        holds-map (λ d″ q. Parted d t d″ (q .pieces) a b) (λ d″ q. PartedOf (Line a b) t d″ (q .pieces)) (addPieces m d′ t u ps (links Line a ps b))
         (λ d″ q h. record { a = a; b = b; cut-is = h; whose = pair a b; round = λ e. let z : _≡_ {A = ℕ} 0 1 = cc in absurd (omega arith) })
         (lay-links d t Line (λ x y. refl) u m w c at d′ s ps a ps b)
     lay-cut (Arc o a b) d′ s u ps =
-        holds-map (λ d″ q. Parted d t d″ (q .pieces) a b) (λ d″ q. PartedOf (Arc o a b) t d″ (q .pieces)) (lay m d′ t u ps (links (Arc o) a ps b))
+        holds-map (λ d″ q. Parted d t d″ (q .pieces) a b) (λ d″ q. PartedOf (Arc o a b) t d″ (q .pieces)) (addPieces m d′ t u ps (links (Arc o) a ps b))
         (λ d″ q h. record { a = a; b = b; cut-is = h; whose = pair a b; round = λ e. let z : _≡_ {A = ℕ} 0 1 = cc in absurd (omega arith) })
         (lay-links d t (Arc o) (λ x y. refl) u m w c at d′ s ps a ps b)
     lay-cut (Circle o r) d′ s u [] = tt
     lay-cut (Circle o r) d′ s u (p ∷ []) = tt
     lay-cut (Circle o r) d′ s u (p ∷ q ∷ ps) =
-        holds-map (λ d″ q. Parted d t d″ (q .pieces) p p) (λ d″ q. PartedOf (Circle o r) t d″ (q .pieces)) (lay m d′ t u (p ∷ q ∷ ps) (links (Arc o) p (q ∷ ps) p))
+        holds-map (λ d″ q. Parted d t d″ (q .pieces) p p) (λ d″ q. PartedOf (Circle o r) t d″ (q .pieces)) (addPieces m d′ t u (p ∷ q ∷ ps) (links (Arc o) p (q ∷ ps) p))
         (λ d″ q h. record { a = p; b = p; cut-is = h; whose = λ x y e. let z : _≡_ {A = ℕ} 0 1 = cc in absurd (omega arith); round = λ e. refl })
         (lay-links d t (Arc o) (λ x y. refl) u m w c at d′ s (p ∷ q ∷ ps) p (q ∷ ps) p)
     lay-cut (Bezier n) d′ s u ps = tt
@@ -103,11 +103,11 @@ module _ (met : Drawing → Bool) (m : Limits) (d : Drawing) (w : Low (d .next) 
         }
 
     -- the piece g removed
-    close-without : (g : ℕ) (d′ : Drawing) (ps : List Piece) → Laid (d .next) (d .curves) t (d′ .next) (d′ .curves) ps → (f h : ℕ) → endsAt (curveIn (d′ .curves) g) ≡ some (f, h) → 0 < occ g (names ps) → Way ps → ShapeAt t (remove g d′) (reported g (endsAt (curveIn (d′ .curves) g)))
+    close-without : (g : ℕ) (d′ : Drawing) (ps : List Piece) → Laid (d .next) (d .curves) t (d′ .next) (d′ .curves) ps → (f h : ℕ) → endsAt (curveIn (d′ .curves) g) ≡ some (f, h) → 0 < occurrences g (names ps) → Way ps → ShapeAt t (remove g d′) (reported g (endsAt (curveIn (d′ .curves) g)))
     unfolding reported
     close-without g d′ ps l f h e o j =
         let look : (i : ℕ) → (i ≡ g → ⊥) → curveIn (others g (d′ .curves)) i ≡ curveIn (d′ .curves) i = λ i ne. look-stays g i (d′ .curves) ne in
-        let same : (i : ℕ) → (i ≡ g → ⊥) → occ i (curveIds (others g (d′ .curves))) ≡ occ i (curveIds (d′ .curves)) = λ i ne. occ-stays g i (d′ .curves) ne in
+        let same : (i : ℕ) → (i ≡ g → ⊥) → occurrences i (curveIds (others g (d′ .curves))) ≡ occurrences i (curveIds (d′ .curves)) = λ i ne. occ-stays g i (d′ .curves) ne in
         rw e
         (record {
           shape = laid-shape d w t here (remove g d′) (d′ .curves) ps l (link g f h) look same (occ-gone g (d′ .curves)) (λ p. e) (λ p. o) (λ x y e. j .line x y (sym ends-here ∙ e));
@@ -124,8 +124,8 @@ module _ (met : Drawing → Bool) (m : Limits) (d : Drawing) (w : Low (d .next) 
     -- the second piece goes, after the swap where it was the first
     without-at :
         (d′ : Drawing) (a b mid : ℕ) (g : Piece) (gs : List Piece) (js : List ℕ) → Laid (d .next) (d .curves) t (d′ .next) (d′ .curves) (link t a mid ∷ g ∷ gs) → Linked mid (g ∷ gs) b
-        → ((x y : ℕ) → endsOf (c .kind) ≡ some (x, y) → (a ≡ x) × (b ≡ y)) → (endsOf (c .kind) ≡ none → a ≡ b) → (first-goes : Bool) → Holds (ShapeAt t) (without m t first-goes (g .curve ∷ js) d′)
-    unfolding without exchanged
+        → ((x y : ℕ) → endsOf (c .kind) ≡ some (x, y) → (a ≡ x) × (b ≡ y)) → (endsOf (c .kind) ≡ none → a ≡ b) → (first-goes : Bool) → Holds (ShapeAt t) (removePiece m t first-goes (g .curve ∷ js) d′)
+    unfolding removePiece swapKinds
     without-at d′ a b mid g gs js l j h o false =
         holds-then (λ d″ u. Same d′ d″) (ShapeAt t) (tie m d′ t js) _ (same-tie m d′ t js) λ d″ u s.
         let k = laid-same s l in
@@ -143,13 +143,13 @@ module _ (met : Drawing → Bool) (m : Limits) (d : Drawing) (w : Low (d .next) 
         close-without (g .curve) d″ (link (g .curve) a mid ∷ link t (g .from) (g .to) ∷ gs) q a mid (q .stand .0) (omega (arith, occ-same (g .curve) (t ∷ names gs)))
         (way a b (link (g .curve) a mid ∷ link t (g .from) (g .to) ∷ gs) h o (refl, j)))
 
-    without-shape : (d′ : Drawing) (is : List ℕ) (first-goes : Bool) → PartedOf (c .kind) t d′ is → Holds (ShapeAt t) (without m t first-goes is d′)
-    unfolding without
+    without-shape : (d′ : Drawing) (is : List ℕ) (first-goes : Bool) → PartedOf (c .kind) t d′ is → Holds (ShapeAt t) (removePiece m t first-goes is d′)
+    unfolding removePiece
     without-shape d′ is u q = go (q .cut-is .rest) (q .cut-is .laid) (q .cut-is .named) (q .cut-is .linked) is
       where
-        go : (rest : List Piece) → Laid (d .next) (d .curves) t (d′ .next) (d′ .curves) (link t (q .a) (q .cut-is .mid) ∷ rest) → names rest ≡ is → Linked (q .cut-is .mid) rest (q .b) → (js : List ℕ) → Holds (ShapeAt t) (without m t u is d′)
-        go [] l e j js = subst (λ (z : List ℕ). Holds (ShapeAt t) (without m t u z d′)) e tt
-        go (g ∷ gs) l e j js = subst (λ (z : List ℕ). Holds (ShapeAt t) (without m t u z d′)) e (without-at d′ (q .a) (q .b) (q .cut-is .mid) g gs (names gs) l j (q .whose) (q .round) u)
+        go : (rest : List Piece) → Laid (d .next) (d .curves) t (d′ .next) (d′ .curves) (link t (q .a) (q .cut-is .mid) ∷ rest) → names rest ≡ is → Linked (q .cut-is .mid) rest (q .b) → (js : List ℕ) → Holds (ShapeAt t) (removePiece m t u is d′)
+        go [] l e j js = subst (λ (z : List ℕ). Holds (ShapeAt t) (removePiece m t u z d′)) e tt
+        go (g ∷ gs) l e j js = subst (λ (z : List ℕ). Holds (ShapeAt t) (removePiece m t u z d′)) e (without-at d′ (q .a) (q .b) (q .cut-is .mid) g gs (names gs) l j (q .whose) (q .round) u)
 
     -- the curve as it was
     start : (a b : ℕ) → endsOf (c .kind) ≡ some (a, b) → Laid (d .next) (d .curves) t (d .next) (d .curves) (link t a b ∷ [])
@@ -178,26 +178,26 @@ module _ (met : Drawing → Bool) (m : Limits) (d : Drawing) (w : Low (d .next) 
             })
         go (some (a, b)) e = close-without t d (link t a b ∷ []) (start a b e) a b (ends-here ∙ e) (omega (arith, occ-same t [])) (way-start a b e)
 
-    move-shape : (at-end : Bool) (s : Vec2) (p : Pin) → Holds (ShapeAt t) (extended met m d at-end s p (endsOf (c .kind)))
-    unfolding extended settle
+    move-shape : (at-end : Bool) (s : Vec2) (p : Pin) → Holds (ShapeAt t) (moveEnd met m d at-end s p (endsOf (c .kind)))
+    unfolding moveEnd checkMet
     move-shape at-end s p = go (endsOf (c .kind)) refl
       where
-        go : (o : Option (ℕ × ℕ)) → endsOf (c .kind) ≡ o → Holds (ShapeAt t) (extended met m d at-end s p o)
+        go : (o : Option (ℕ × ℕ)) → endsOf (c .kind) ≡ o → Holds (ShapeAt t) (moveEnd met m d at-end s p o)
         go none q = tt
         go (some (a, b)) q =
-            let i : ℕ = pick at-end b a in
+            let i : ℕ = ite at-end b a in
             holds-need (ShapeAt t) _ 24 _ λ u.
             holds-then (λ d′ v. Same (movePoint i s d) d′) (ShapeAt t) (pin m (movePoint i s d) i p) _ (same-pin m (movePoint i s d) i p) λ d′ v h.
             holds-need (ShapeAt t) _ 19 _ λ z.
             let l : Laid (d .next) (d .curves) t (movePoint i s d .next) (movePoint i s d .curves) (link t a b ∷ []) = start a b q in
             close d′ (link t a b ∷ []) (laid-same h l) (way-start a b q)
 
-    release-same : Same d (release t (c .kind) d)
+    release-same : Same d (releaseExtent t (c .kind) d)
     release-same = record { curves = refl; grows = omega arith }
 
-    split-cut : (ss : List Vec2) (u : Bool) → Holds (λ d″ q. PartedOf (c .kind) t d″ (q .pieces)) (addPoints m (release t (c .kind) d) ss then (λ d′ ps. lay m d′ t u ps (piecesOf (c .kind) ps)))
+    split-cut : (ss : List Vec2) (u : Bool) → Holds (λ d″ q. PartedOf (c .kind) t d″ (q .pieces)) (addPoints m (releaseExtent t (c .kind) d) ss then (λ d′ ps. addPieces m d′ t u ps (piecesOf (c .kind) ps)))
     split-cut ss u =
-        holds-then (λ d′ ps. Same (release t (c .kind) d) d′) (λ d″ q. PartedOf (c .kind) t d″ (q .pieces)) (addPoints m (release t (c .kind) d) ss) _ (same-points m (release t (c .kind) d) ss) λ d′ ps s.
+        holds-then (λ d′ ps. Same (releaseExtent t (c .kind) d) d′) (λ d″ q. PartedOf (c .kind) t d″ (q .pieces)) (addPoints m (releaseExtent t (c .kind) d) ss) _ (same-points m (releaseExtent t (c .kind) d) ss) λ d′ ps s.
         lay-cut (c .kind) d′ (same-trans release-same s) u ps
 
     cut-same : {is : List ℕ} (d′ d″ : Drawing) → Same d′ d″ → PartedOf (c .kind) t d′ is → PartedOf (c .kind) t d″ is
@@ -210,21 +210,21 @@ module _ (met : Drawing → Bool) (m : Limits) (d : Drawing) (w : Low (d .next) 
           round = q .round;
         }
 
-  cut-shape : (c : Curve) → curveIn (d .curves) (c .id) ≡ some c → (ws : List Place) (first-goes : Bool) → Holds (ShapeAt (c .id)) (cut m d c ws first-goes)
+  cut-shape : (c : Curve) → curveIn (d .curves) (c .id) ≡ some c → (ws : List PinnedPoint) (first-goes : Bool) → Holds (ShapeAt (c .id)) (cut m d c ws first-goes)
   cut-shape c at ws first-goes =
-      holds-then (λ d′ q. PartedOf (c .kind) (c .id) d′ (q .pieces)) (ShapeAt (c .id)) (splitAt m (release (c .id) (c .kind) d) c (map (λ w. w .at) ws)) _ (split-cut (c .id) c at (map (λ w. w .at) ws) (c .construction)) λ d′ q h.
+      holds-then (λ d′ q. PartedOf (c .kind) (c .id) d′ (q .pieces)) (ShapeAt (c .id)) (splitAt m (releaseExtent (c .id) (c .kind) d) c (map (λ w. w .at) ws)) _ (split-cut (c .id) c at (map (λ w. w .at) ws) (c .construction)) λ d′ q h.
       holds-then (λ d″ u. Same d′ d″) (ShapeAt (c .id)) (pinAll m d′ (q .points) ws) _ (same-pins m d′ (q .points) ws) λ d″ u s.
       without-shape (c .id) c at d″ (q .pieces) first-goes (cut-same (c .id) c at d′ d″ s h)
 
   divide-shape : (c : Curve) → curveIn (d .curves) (c .id) ≡ some c → (vs : List Vec2) → Holds (ShapeAt (c .id)) (divide m d c vs)
   divide-shape c at vs =
-      holds-then (λ d′ q. PartedOf (c .kind) (c .id) d′ (q .pieces)) (ShapeAt (c .id)) (splitAt m (release (c .id) (c .kind) d) c vs) _ (split-cut (c .id) c at vs (c .construction)) λ d′ q h.
+      holds-then (λ d′ q. PartedOf (c .kind) (c .id) d′ (q .pieces)) (ShapeAt (c .id)) (splitAt m (releaseExtent (c .id) (c .kind) d) c vs) _ (split-cut (c .id) c at vs (c .construction)) λ d′ q h.
       holds-then (λ d″ u. Same d′ d″) (ShapeAt (c .id)) (tie m d′ (c .id) (q .pieces)) _ (same-tie m d′ (c .id) (q .pieces)) λ d″ u s.
       let k = cut-same (c .id) c at d′ d″ s h in
       close (c .id) c at d″ (link (c .id) (k .a) (k .cut-is .mid) ∷ k .cut-is .rest) (k .cut-is .laid) (way (c .id) c at (k .a) (k .b) (link (c .id) (k .a) (k .cut-is .mid) ∷ k .cut-is .rest) (k .whose) (k .round) (refl, k .cut-is .linked))
 
-  carried-shape : (c : Curve) → curveIn (d .curves) (c .id) ≡ some c → (plan : Plan) → Holds (ShapeAt (c .id)) (carried met m d c plan)
-  unfolding carried
+  carried-shape : (c : Curve) → curveIn (d .curves) (c .id) ≡ some c → (plan : Plan) → Holds (ShapeAt (c .id)) (applyPlanTo met m d c plan)
+  unfolding applyPlanTo
   carried-shape c at Whole = whole-shape (c .id) c at
   carried-shape c at (Cut w first-goes) = cut-shape c at (w ∷ []) first-goes
   carried-shape c at (CutTwo w v first-goes) = cut-shape c at (w ∷ v ∷ []) first-goes
@@ -233,12 +233,12 @@ module _ (met : Drawing → Bool) (m : Limits) (d : Drawing) (w : Low (d .next) 
   carried-shape c at (Move at-end v w) = move-shape (c .id) c at at-end v w
 
   -- the theorem: whatever the plan
-  pub carry-shape : (t : ℕ) (plan : Plan) → Holds (ShapeAt t) (carryOut met m d t plan)
-  unfolding carryAt
-  carry-shape t plan = go (curveIn (d .curves) t) refl
+  pub apply-plan-effect : (t : ℕ) (plan : Plan) → Holds (ShapeAt t) (applyPlan met m d t plan)
+  unfolding applyPlanAt
+  apply-plan-effect t plan = go (curveIn (d .curves) t) refl
     where
-      go : (o : Option Curve) → curveIn (d .curves) t ≡ o → Holds (ShapeAt t) (carryAt met m d plan o)
+      go : (o : Option Curve) → curveIn (d .curves) t ≡ o → Holds (ShapeAt t) (applyPlanAt met m d plan o)
       go none e = tt
       go (some c) e =
           let q : c .id ≡ t = look-some (d .curves) t c e .1 in
-          subst (λ (z : ℕ). Holds (ShapeAt z) (carried met m d c plan)) q (carried-shape c (ap (curveIn (d .curves)) q ∙ e) plan)
+          subst (λ (z : ℕ). Holds (ShapeAt z) (applyPlanTo met m d c plan)) q (carried-shape c (ap (curveIn (d .curves)) q ∙ e) plan)

@@ -11,9 +11,9 @@ use Rattle.sketch.specs.declared.CurveKind.{CurveKind}
 use Rattle.sketch.specs.declared.CurveKind.the-variants.{Line, Arc, Circle, Bezier, Conic}
 use Rattle.sketch.specs.Lists.{every}
 use Rattle.sketch.specs.Drawing.{usesOf}
-use Rattle.sketch.specs.Valid.{okNumber, inSlots, okCurve, sortOf, isLine, distinct, soundCurve}
+use Rattle.sketch.specs.Valid.{okNumber, inSlots, okCurve, sortOf, isLineSort, distinct, soundCurve}
 use Rattle.sketch.proofs.Bools.{never, and-left, and-right, both}
-use Rattle.carry.specs.Tables.{rekind}
+use Rattle.edit_plan.specs.Tables.{rekind}
 use Rattle.chains.proofs.Grown.{alike, soundKind}
 
 analytic : (k : CurveKind) → alike (sortOf k) (sortOf k) ≡ true → inSlots k ≡ 0
@@ -38,12 +38,12 @@ rekind-is t k c e = rw (eq-eqb t (c .id) (sym e))
 module _ (t : ℕ) (k : CurveKind) (c : Curve) (e : c .id ≡ t) (s : sortOf k ≡ sortOf (c .kind)) (a : alike (sortOf k) (sortOf k) ≡ true) where
   pub rekind-ok : okNumber k ≡ true → okCurve c ≡ true → okCurve (rekind t k c) ≡ true
   rekind-ok n h =
-      let u = and-left (not (c .infinite) || isLine (sortOf (c .kind))) (okNumber (c .kind)) (and-left ((not (c .infinite) || isLine (sortOf (c .kind))) && okNumber (c .kind)) (every (λ i. eqb i 0) (drop (inSlots (c .kind)) (c .slots))) h) in
-      let z = and-right ((not (c .infinite) || isLine (sortOf (c .kind))) && okNumber (c .kind)) (every (λ i. eqb i 0) (drop (inSlots (c .kind)) (c .slots))) h in
+      let u = and-left (not (c .infinite) || isLineSort (sortOf (c .kind))) (okNumber (c .kind)) (and-left ((not (c .infinite) || isLineSort (sortOf (c .kind))) && okNumber (c .kind)) (every (λ i. eqb i 0) (drop (inSlots (c .kind)) (c .slots))) h) in
+      let z = and-right ((not (c .infinite) || isLineSort (sortOf (c .kind))) && okNumber (c .kind)) (every (λ i. eqb i 0) (drop (inSlots (c .kind)) (c .slots))) h in
       let q : inSlots (c .kind) ≡ inSlots k = analytic (c .kind) (subst (λ (x : ℕ). alike x x ≡ true) s a) ∙ sym (analytic k a) in
       ap okCurve (rekind-is t k c e)
-      ∙ both ((not (c .infinite) || isLine (sortOf k)) && okNumber k) (every (λ i. eqb i 0) (drop (inSlots k) (c .slots)))
-      (both (not (c .infinite) || isLine (sortOf k)) (okNumber k) (ap (λ (x : ℕ). not (c .infinite) || isLine x) s ∙ u) n)
+      ∙ both ((not (c .infinite) || isLineSort (sortOf k)) && okNumber k) (every (λ i. eqb i 0) (drop (inSlots k) (c .slots)))
+      (both (not (c .infinite) || isLineSort (sortOf k)) (okNumber k) (ap (λ (x : ℕ). not (c .infinite) || isLineSort x) s ∙ u) n)
       (ap (λ (j : ℕ). every (λ i. eqb i 0) (drop j (c .slots))) (sym q) ∙ z)
 
   pub rekind-sound : (h : ℕ → Bool) (l : List ℕ) → soundKind h k l ≡ true → soundCurve h (rekind t k c) ≡ true
@@ -51,5 +51,5 @@ module _ (t : ℕ) (k : CurveKind) (c : Curve) (e : c .id ≡ t) (s : sortOf k �
 
 pub number-of : (c : Curve) → okCurve c ≡ true → okNumber (c .kind) ≡ true
 number-of c h =
-    and-right (not (c .infinite) || isLine (sortOf (c .kind))) (okNumber (c .kind))
-    (and-left ((not (c .infinite) || isLine (sortOf (c .kind))) && okNumber (c .kind)) (every (λ i. eqb i 0) (drop (inSlots (c .kind)) (c .slots))) h)
+    and-right (not (c .infinite) || isLineSort (sortOf (c .kind))) (okNumber (c .kind))
+    (and-left ((not (c .infinite) || isLineSort (sortOf (c .kind))) && okNumber (c .kind)) (every (λ i. eqb i 0) (drop (inSlots (c .kind)) (c .slots))) h)

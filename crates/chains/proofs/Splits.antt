@@ -17,11 +17,11 @@ use Rattle.sketch.specs.Drawing.{Drawing, Limits, pointIds, curveIn, usesOf}
 use Rattle.sketch.specs.Valid.{okNumber, inSlots, okCurve, sortOf, sortAt, differ, distinct}
 use Rattle.sketch.specs.Facts.{Valid}
 use Rattle.sketch.proofs.Bools.{never, and-left, and-right, both}
-use Rattle.carry.specs.Outcome.{_then_}
-use Rattle.carry.specs.Tables.{noSlots, newCurve, addCurve, setKind}
-use Rattle.carry.specs.Steps.{links, piecesOf, addPoints, addCurves, Parts, lay}
-use Rattle.carry.proofs.Tables.{Holds, holds-map, holds-then, holds-need, look-some}
-use Rattle.carry.proofs.Every.{or-right, or-cases, among-same, rising-look, every-in, differ-is, is-differ, every-imp, rising-among}
+use Rattle.edit_plan.specs.Outcome.{_then_}
+use Rattle.edit_plan.specs.Tables.{noSlots, newCurve, addCurve, setKind}
+use Rattle.edit_plan.specs.Steps.{links, piecesOf, addPoints, addCurves, Parts, addPieces}
+use Rattle.edit_plan.proofs.Tables.{Holds, holds-map, holds-then, holds-need, look-some}
+use Rattle.edit_plan.proofs.Every.{or-right, or-cases, among-same, rising-look, every-in, differ-is, is-differ, every-imp, rising-among}
 use Rattle.chains.proofs.Grown.{has, sortOn, alike, soundKind}
 use Rattle.chains.proofs.Steps.{grown-curve, new-curve, valid-curve, grown-set, valid-set}
 use Rattle.chains.proofs.Released.{curve-sound, curve-ok}
@@ -121,8 +121,8 @@ module _ (m : Limits) where
       unfolding sortAt
       here-sort = ap sortAt at ∙ sc
 
-      keep-lay : (u : Bool) (ps : List ℕ) (a : ℕ) (qs : List ℕ) (b : ℕ) → Walk (has d) a qs b → Holds (LaidHeld ps) (lay m d t u ps (links f a qs b))
-      unfolding lay Walk
+      keep-lay : (u : Bool) (ps : List ℕ) (a : ℕ) (qs : List ℕ) (b : ℕ) → Walk (has d) a qs b → Holds (LaidHeld ps) (addPieces m d t u ps (links f a qs b))
+      unfolding addPieces Walk
       keep-lay u ps a [] b x =
           let g = set-held a b (x .0) (x .1) (x .2) in
           record { held = g; sort-is = sort-grown d (setKind t (f a b) d) (g .grown) s (w .solid) t here-sort; sorted = tt; up = tt; same = refl }
@@ -213,21 +213,21 @@ module _ (m : Limits) where
             there = ap (every (has d₂)) (k .same) ∙ every-imp (has d₁) (has d₂) ps (λ i x y. k .held .grown .points i y) (h .there);
           }
 
-      round-split : (o a : ℕ) (qs : List ℕ) (b : ℕ) (ks : List CurveKind) → links (Arc o) a qs b ≡ ks → sortOf (c .kind) ≡ 2 → Walk (arcs o) (has d₁) a qs b → Holds (SplitHeld d t) (lay m d₁ t u ps ks)
+      round-split : (o a : ℕ) (qs : List ℕ) (b : ℕ) (ks : List CurveKind) → links (Arc o) a qs b ≡ ks → sortOf (c .kind) ≡ 2 → Walk (arcs o) (has d₁) a qs b → Holds (SplitHeld d t) (addPieces m d₁ t u ps ks)
       round-split o a qs b ks e sc x =
-          subst (λ (z : List CurveKind). Holds (SplitHeld d t) (lay m d₁ t u ps z)) e
-          (holds-map (LaidHeld (arcs o) d₁ (h .held .valid) t c at₁ sc ps) (SplitHeld d t) (lay m d₁ t u ps (links (Arc o) a qs b)) (to-split (arcs o) sc)
+          subst (λ (z : List CurveKind). Holds (SplitHeld d t) (addPieces m d₁ t u ps z)) e
+          (holds-map (LaidHeld (arcs o) d₁ (h .held .valid) t c at₁ sc ps) (SplitHeld d t) (addPieces m d₁ t u ps (links (Arc o) a qs b)) (to-split (arcs o) sc)
           (keep-lay (arcs o) d₁ (h .held .valid) t c at₁ sc u ps a qs b x))
 
-      keep-pieces : (k : CurveKind) → c .kind ≡ k → Holds (SplitHeld d t) (lay m d₁ t u ps (piecesOf k ps))
-      unfolding piecesOf lay usesOf distinct sortOf Walk lines arcs
+      keep-pieces : (k : CurveKind) → c .kind ≡ k → Holds (SplitHeld d t) (addPieces m d₁ t u ps (piecesOf k ps))
+      unfolding piecesOf addPieces usesOf distinct sortOf Walk lines arcs
       keep-pieces (Line a b) e =
           let x = sound-as (Line a b) e in
           let y = and-left (has d a && (has d b && true)) (differ a b) x in
           let ha = and-left (has d a) (has d b && true) y in
           let hb = and-left (has d b) true (and-right (has d a) (has d b && true) y) in
           let sc : sortOf (c .kind) ≡ 1 = ap sortOf e in
-          holds-map (LaidHeld lines d₁ (h .held .valid) t c at₁ sc ps) (SplitHeld d t) (lay m d₁ t u ps (links Line a ps b)) (to-split lines sc)
+          holds-map (LaidHeld lines d₁ (h .held .valid) t c at₁ sc ps) (SplitHeld d t) (addPieces m d₁ t u ps (links Line a ps b)) (to-split lines sc)
           (keep-lay lines d₁ (h .held .valid) t c at₁ sc u ps a ps b
           (walk-up lines (has d₁) (d .next) a ps b (point-low a ha) (point-low b hb) (differ-is a b (and-right (has d a && (has d b && true)) (differ a b) x)) (old a ha) (old b hb) new (h .up)))
       keep-pieces (Arc o a b) e =
@@ -248,7 +248,7 @@ module _ (m : Limits) where
           ho : has d o ≡ true
           ho = and-left (has d o) true (and-left (has d o && true) true (sound-as (Circle o r) e))
 
-          go : (qs : List ℕ) → UpFrom (d .next) qs → ((p : ℕ) → among p qs ≡ true → has d₁ p ≡ true) → Holds (SplitHeld d t) (lay m d₁ t u ps (piecesOf (Circle o r) qs))
+          go : (qs : List ℕ) → UpFrom (d .next) qs → ((p : ℕ) → among p qs ≡ true → has d₁ p ≡ true) → Holds (SplitHeld d t) (addPieces m d₁ t u ps (piecesOf (Circle o r) qs))
           go [] y k = tt
           go (p ∷ []) y k = tt
           go (p ∷ q ∷ qs) y k =
@@ -265,6 +265,6 @@ module _ (m : Limits) where
       keep-pieces (Bezier n) e = tt
       keep-pieces (Conic a p b rho) e = tt
 
-    pub keep-split : (ss : List Vec2) → Holds (SplitHeld d t) (addPoints m d ss then (λ d′ ps. lay m d′ t (c .construction) ps (piecesOf (c .kind) ps)))
+    pub keep-split : (ss : List Vec2) → Holds (SplitHeld d t) (addPoints m d ss then (λ d′ ps. addPieces m d′ t (c .construction) ps (piecesOf (c .kind) ps)))
     keep-split ss =
         holds-then (PointsHeld m d) (SplitHeld d t) (addPoints m d ss) _ (keep-points m d ss v) λ d₁ ps h. keep-pieces d₁ ps h (c .construction) (c .kind) refl

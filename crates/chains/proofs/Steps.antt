@@ -14,14 +14,14 @@ use Rattle.sketch.specs.declared.Point.{Point}
 use Rattle.sketch.specs.declared.Curve.{Curve}
 use Rattle.sketch.specs.declared.CurveKind.{CurveKind}
 use Rattle.sketch.specs.declared.Relation.{Relation}
-use Rattle.sketch.specs.Lists.{pick}
+use Rattle.sketch.specs.Lists.{ite}
 use Rattle.sketch.specs.Drawing.{Drawing, Limits, pointIds, curveIds, curveIn}
 use Rattle.sketch.specs.Valid.{okCoordinate, okPoint, okCurve, okRelation, sortOf, sortAt, soundCurve, soundRelation}
 use Rattle.sketch.specs.Facts.{Every, Valid}
-use Rattle.carry.specs.Tables.{okPlace, newPoint, withPoint, newCurve, withCurve, withRelation, rekind, setKind, moved, movePoint}
-use Rattle.carry.proofs.Tables.{look-some, look-right, ids-set, look-set, look-set-other}
-use Rattle.carry.proofs.Every.{every-append, every-as, every-map, among-same, among-left, among-right, rising-more, rising-end, rising-low, rising-high, look-member}
-use Rattle.chains.proofs.Laid.{Low}
+use Rattle.edit_plan.specs.Tables.{okPosition, newPoint, withPoint, newCurve, withCurve, withRelation, rekind, setKind, moved, movePoint}
+use Rattle.edit_plan.proofs.Tables.{look-some, look-right, ids-set, look-set, look-set-other}
+use Rattle.edit_plan.proofs.Every.{every-append, every-as, every-map, among-same, among-left, among-right, rising-more, rising-end, rising-low, rising-high, look-member}
+use Rattle.chains.proofs.AddedPieces.{Low}
 use Rattle.chains.proofs.Grown.{has, sortOn, relation-kept, curve-kept, Grown}
 
 pub low-of : (m : Limits) (d : Drawing) → Valid m d → Low (d .next) (d .curves)
@@ -56,7 +56,7 @@ module _ (m : Limits) (d : Drawing) (v : Valid m d) where
     pub new-point : has (withPoint d s) (d .next) ≡ true
     new-point = rw (ids-end (d .points) (newPoint (d .next) s)) (among-right (d .next) (pointIds (d .points)) (d .next ∷ []) (among-same (d .next) []))
 
-    pub valid-point : d .next < m .ids → length (d .points) < m .points → okPlace s ≡ true → Valid m (withPoint d s)
+    pub valid-point : d .next < m .ids → length (d .points) < m .points → okPosition s ≡ true → Valid m (withPoint d s)
     valid-point a b c =
         record {
           points-fit = simp length-append (omega arith);
@@ -88,7 +88,7 @@ module _ (m : Limits) (d : Drawing) (v : Valid m d) where
   look-more [] ys i c e = let z : _≡_ {A = ℕ} 0 1 = cc in absurd (omega arith)
   look-more (x ∷ cs) ys i c e = go (eqb i (x .id)) e (look-more cs ys i c)
     where
-      go : (b : Bool) → pick b (some x) (curveIn cs i) ≡ some c → (curveIn cs i ≡ some c → curveIn (cs ++ ys) i ≡ some c) → pick b (some x) (curveIn (cs ++ ys) i) ≡ some c
+      go : (b : Bool) → ite b (some x) (curveIn cs i) ≡ some c → (curveIn cs i ≡ some c → curveIn (cs ++ ys) i ≡ some c) → ite b (some x) (curveIn (cs ++ ys) i) ≡ some c
       go true e ih = e
       go false e ih = ih e
 
@@ -204,14 +204,14 @@ module _ (m : Limits) (d : Drawing) (v : Valid m d) where
     pub grown-move : Grown d (movePoint i s d)
     grown-move = record { points = λ p h. rw (ids-moved (d .points)) h; sorts = λ j h. refl; next = omega arith }
 
-    moved-ok : okPlace s ≡ true → (p : Point) → okPoint p ≡ true → okPoint (moved i s p) ≡ true
+    moved-ok : okPosition s ≡ true → (p : Point) → okPoint p ≡ true → okPoint (moved i s p) ≡ true
     moved-ok o p h = go (eqb i (p .id))
       where
-        go : (b : Bool) → okCoordinate (pick b (s .x) (p .x)) && okCoordinate (pick b (s .y) (p .y)) ≡ true
+        go : (b : Bool) → okCoordinate (ite b (s .x) (p .x)) && okCoordinate (ite b (s .y) (p .y)) ≡ true
         go true = o
         go false = h
 
-    pub valid-move : okPlace s ≡ true → Valid m (movePoint i s d)
+    pub valid-move : okPosition s ≡ true → Valid m (movePoint i s d)
     valid-move o =
         record {
           points-fit = simp length-map (v .points-fit);

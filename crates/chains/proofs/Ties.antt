@@ -9,13 +9,13 @@ use Rattle.sketch.specs.declared.Curve.{Curve}
 use Rattle.sketch.specs.declared.CurveKind.{CurveKind}
 use Rattle.sketch.specs.declared.CurveKind.the-variants.{Line, Arc, Circle, Bezier, Conic}
 use Rattle.sketch.specs.Drawing.{Drawing, Limits, curveIn, pointsOf}
-use Rattle.sketch.specs.Valid.{okRelation, sortOf, sortAt, isLine, differ, fits, apart, soundRelation}
+use Rattle.sketch.specs.Valid.{okRelation, sortOf, sortAt, isLineSort, differ, fits, apart, soundRelation}
 use Rattle.sketch.specs.Facts.{Valid}
 use Rattle.sketch.proofs.Bools.{never, both}
-use Rattle.carry.specs.Tables.{addRelation}
-use Rattle.carry.specs.Steps.{lineEnds, isSome, lineAt, tied, tie}
-use Rattle.carry.proofs.Tables.{Holds, holds-map, holds-then}
-use Rattle.carry.proofs.Every.{is-differ}
+use Rattle.edit_plan.specs.Tables.{addRelation}
+use Rattle.edit_plan.specs.Steps.{lineEnds, isSome, lineAt, tied, tie}
+use Rattle.edit_plan.proofs.Tables.{Holds, holds-map, holds-then}
+use Rattle.edit_plan.proofs.Every.{is-differ}
 use Rattle.chains.proofs.Grown.{has, sortOn, alike, Grown, grown-refl}
 use Rattle.chains.proofs.Kept.{UpFrom, Kept, kept-trans, keep-relation}
 
@@ -33,31 +33,31 @@ pub sorted-grown : (d d′ : Drawing) → Grown d d′ → (s : ℕ) → alike s
 sorted-grown d d′ g s a [] h = tt
 sorted-grown d d′ g s a (i ∷ is) h = (sort-grown d d′ g s a i (h .0), sorted-grown d d′ g s a is (h .1))
 
-line-sort : (o : Option Curve) → lineAt o ≡ isLine (sortAt o)
+line-sort : (o : Option Curve) → lineAt o ≡ isLineSort (sortAt o)
 unfolding sortAt sortOf
 line-sort none = refl
 line-sort (some c) = go (c .kind)
   where
-    go : (k : CurveKind) → isSome (lineEnds k) ≡ isLine (sortOf k)
+    go : (k : CurveKind) → isSome (lineEnds k) ≡ isLineSort (sortOf k)
     go (Line a b) = refl
     go (Arc o a b) = refl
     go (Circle o r) = refl
     go (Bezier n) = refl
     go (Conic a p b rho) = refl
 
-tied-sound : (d : Drawing) (s : ℕ) → alike s s ≡ true → (a b : ℕ) → sortOn d a ≡ s → sortOn d b ≡ s → (a ≡ b → ⊥) → (okRelation (tied (isLine s) a b) ≡ true) × (soundRelation (has d) (sortOn d) (tied (isLine s) a b) ≡ true)
+tied-sound : (d : Drawing) (s : ℕ) → alike s s ≡ true → (a b : ℕ) → sortOn d a ≡ s → sortOn d b ≡ s → (a ≡ b → ⊥) → (okRelation (tied (isLineSort s) a b) ≡ true) × (soundRelation (has d) (sortOn d) (tied (isLineSort s) a b) ≡ true)
 unfolding okRelation pointsOf fits apart
-tied-sound d s l a b p q ne = go (isLine s) refl
+tied-sound d s l a b p q ne = go (isLineSort s) refl
   where
-    go : (u : Bool) → isLine s ≡ u → (okRelation (tied u a b) ≡ true) × (soundRelation (has d) (sortOn d) (tied u a b) ≡ true)
-    go true e = (refl, both (isLine (sortOn d a) && isLine (sortOn d b)) (differ a b) (both (isLine (sortOn d a)) (isLine (sortOn d b)) (ap isLine p ∙ e) (ap isLine q ∙ e)) (is-differ a b ne))
+    go : (u : Bool) → isLineSort s ≡ u → (okRelation (tied u a b) ≡ true) × (soundRelation (has d) (sortOn d) (tied u a b) ≡ true)
+    go true e = (refl, both (isLineSort (sortOn d a) && isLineSort (sortOn d b)) (differ a b) (both (isLineSort (sortOn d a)) (isLineSort (sortOn d b)) (ap isLineSort p ∙ e) (ap isLineSort q ∙ e)) (is-differ a b ne))
     go false e = (refl, both (alike (sortOn d a) (sortOn d b)) (differ a b) (ap (λ (x : ℕ). alike x (sortOn d b)) p ∙ ap (alike s) q ∙ l) (is-differ a b ne))
 
 module _ (m : Limits) where
   pub keep-tie : (d : Drawing) (s : ℕ) → alike s s ≡ true → (a : ℕ) (is : List ℕ) → Valid m d → sortOn d a ≡ s → Sorted d s is → UpFrom (suc a) is → Holds (λ d′ u. Kept m d d′) (tie m d a is)
   keep-tie d s l a [] v p q u = record { valid = v; grown = grown-refl d }
   keep-tie d s l a (b ∷ is) v p q u =
-      let e : lineAt (curveIn (d .curves) a) ≡ isLine s = line-sort (curveIn (d .curves) a) ∙ ap isLine p in
+      let e : lineAt (curveIn (d .curves) a) ≡ isLineSort s = line-sort (curveIn (d .curves) a) ∙ ap isLineSort p in
       let t = tied-sound d s l a b p (q .0) (λ z. omega (arith, u .0)) in
       holds-then (λ d′ x. Kept m d d′) (λ d′ x. Kept m d d′) (addRelation m d (tied (lineAt (curveIn (d .curves) a)) a b)) _
       (keep-relation m d (tied (lineAt (curveIn (d .curves) a)) a b) v (ap (λ (z : Bool). okRelation (tied z a b)) e ∙ t .0) (ap (λ (z : Bool). soundRelation (has d) (sortOn d) (tied z a b)) e ∙ t .1)) λ d′ x g.

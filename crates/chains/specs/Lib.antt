@@ -1,2 +1,2 @@
--- What the theorems on carrying out cite.
-pub mod Drawn
+-- What the theorems on applying cite.
+pub mod CurveView

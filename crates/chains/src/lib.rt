@@ -1,1 +1,1 @@
-// Carrying out a plan keeps a drawing valid and its chains whole: definitions and proofs, no code.
+// Applying a plan keeps a drawing valid and its chains whole: definitions and proofs, no code.

@@ -10,7 +10,7 @@ use Rattle.shape.specs.declared.Shape.{Shape}
 use Rattle.shape.specs.declared.Shape.the-variants.{Round}
 use Rattle.shape.specs.Measures.{range, isFull, param, point, dist}
 use Rattle.cuts.specs.Bounded.{slack, inRange, onBounded}
-use Rattle.cuts.specs.Cuts.{tips}
+use Rattle.cuts.specs.Cuts.{endPoints}
 
 pub and-false : (a : Bool) → a && false ≡ false
 and-false true = refl
@@ -42,10 +42,10 @@ module _ (sh : Shape) where
   in-ends p b h e = rw (e, h) (sym (and-true (not (lt 1e-6 (dist sh p)))))
 
 module _ (sh : Shape) (c : Vec2) (r start sweep : Float) (e : sh ≡ Round c r start sweep) where
-  pub no-tips : isFull (Round c r start sweep) ≡ true → [] ≡ tips sh
-  unfolding tips
+  pub no-tips : isFull (Round c r start sweep) ≡ true → [] ≡ endPoints sh
+  unfolding endPoints
   no-tips h = rw (e, h)
 
-  pub two-tips : (p q : Vec2) → isFull (Round c r start sweep) ≡ false → p ≡ point (Round c r start sweep) 0f → q ≡ point (Round c r start sweep) sweep → p ∷ q ∷ [] ≡ tips sh
-  unfolding tips
+  pub two-tips : (p q : Vec2) → isFull (Round c r start sweep) ≡ false → p ≡ point (Round c r start sweep) 0f → q ≡ point (Round c r start sweep) sweep → p ∷ q ∷ [] ≡ endPoints sh
+  unfolding endPoints
   two-tips p q h ep eq = rw (ep, eq, e, h)

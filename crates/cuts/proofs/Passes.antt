@@ -10,7 +10,7 @@ use lib.Dec.{T, ltb}
 use lib.ListN.{getD}
 use lib.Ieee.{Float, nan, binary64, fits}
 use Rattle.float.specs.Order.{before}
-use Rattle.sketch.specs.Lists.{pick, keep}
+use Rattle.sketch.specs.Lists.{ite, keep}
 use Rattle.cuts.specs.declared.Cut.{Cut}
 use Rattle.cuts.specs.Lists.{lastOr}
 use Rattle.cuts.specs.Columns.{rows, cutAt}
@@ -95,11 +95,11 @@ end-insert false k s gk h = first-insert k s
 abbrev pub sorted : (Cut → Bool) → List Cut → List Cut
 sorted q l = sortCuts [] (keep q l)
 
-sorted-more : (q : Cut → Bool) (l : List Cut) (k : Cut) → sorted q (l ++ k ∷ []) ≡ pick (q k) (insertCut k (sorted q l)) (sorted q l)
+sorted-more : (q : Cut → Bool) (l : List Cut) (k : Cut) → sorted q (l ++ k ∷ []) ≡ ite (q k) (insertCut k (sorted q l)) (sorted q l)
 unfolding sortCuts
 sorted-more q l k = rw (keep-append q l (k ∷ [])) (sort-append [] (keep q l) (keep q (k ∷ [])) ∙ go (q k))
   where
-    go : (b : Bool) → sortCuts (sorted q l) (pick b (k ∷ []) []) ≡ pick b (insertCut k (sorted q l)) (sorted q l)
+    go : (b : Bool) → sortCuts (sorted q l) (ite b (k ∷ []) []) ≡ ite b (insertCut k (sorted q l)) (sorted q l)
     go true = refl
     go false = refl
 
@@ -111,7 +111,7 @@ pub fit-keep : (q : Cut → Bool) (l : List Cut) → Fit l → Fit (keep q l)
 fit-keep q [] f = tt
 fit-keep q (k ∷ l) f = go (q k) (fit-keep q l (f .1))
   where
-    go : (b : Bool) → Fit (keep q l) → Fit (pick b (k ∷ keep q l) (keep q l))
+    go : (b : Bool) → Fit (keep q l) → Fit (ite b (k ∷ keep q l) (keep q l))
     go true r = (f .0, r)
     go false r = r
 
@@ -138,12 +138,12 @@ module _ (n : ℕ) (ts px py : List Float) (who : List ℕ) where
     fit-rows (suc i) = fit-append (rows i f) (f i ∷ []) (fit-rows i) (fit i, tt)
 
     module _ (last : Bool) (p : Float → Bool) where
-      turn-law : (i best : ℕ) → i < n → at n ts px py who (nearerAt last p ts n i best) ≡ pick (p (getD ts i nan)) (better last (f i) (at n ts px py who best)) (at n ts px py who best)
+      turn-law : (i best : ℕ) → i < n → at n ts px py who (nearerAt last p ts n i best) ≡ ite (p (getD ts i nan)) (better last (f i) (at n ts px py who best)) (at n ts px py who best)
       unfolding nearerAt better at
       turn-law i best h = go (p (getD ts i nan)) (ltb best n) (Bool·beq (before (getD ts i nan) (getD ts best nan)) last) refl refl
         where
           go : (a b d : Bool) → ltb best n ≡ b → Bool·beq (before (getD ts i nan) (getD ts best nan)) last ≡ d
-              → at n ts px py who (cond a (cond b (cond d best i) i) best) ≡ pick a (better last (f i) (cond b (f best ∷ []) [])) (cond b (f best ∷ []) [])
+              → at n ts px py who (cond a (cond b (cond d best i) i) best) ≡ ite a (better last (f i) (cond b (f best ∷ []) [])) (cond b (f best ∷ []) [])
           go false b d e g = rw e
           go true false d e g = rw (lt-ltb i n h)
           go true true true e g = rw (e, g)
@@ -158,8 +158,8 @@ module _ (n : ℕ) (ts px py : List Float) (who : List ℕ) where
           let e : at n ts px py who (nearestAt last p ts n i) ≡ endOf last (sorted q (rows i f)) = pass-law i (omega arith) in
           turn-law i (nearestAt last p ts n i) (omega arith) ∙ rw (e, sorted-more q (rows i f) (f i)) (go (p (getD ts i nan)))
         where
-          go : (b : Bool) → pick b (better last (f i) (endOf last (sorted (λ k. p (k .t)) (rows i f)))) (endOf last (sorted (λ k. p (k .t)) (rows i f)))
-              ≡ endOf last (pick b (insertCut (f i) (sorted (λ k. p (k .t)) (rows i f))) (sorted (λ k. p (k .t)) (rows i f)))
+          go : (b : Bool) → ite b (better last (f i) (endOf last (sorted (λ k. p (k .t)) (rows i f)))) (endOf last (sorted (λ k. p (k .t)) (rows i f)))
+              ≡ endOf last (ite b (insertCut (f i) (sorted (λ k. p (k .t)) (rows i f))) (sorted (λ k. p (k .t)) (rows i f)))
           go true =
               let q : Cut → Bool = λ k. p (k .t) in
               sym (end-insert last (f i) (sorted q (rows i f)) (fit i) (sort-sorted [] (keep q (rows i f)) (fit-keep q (rows i f) (fit-rows i)) tt))

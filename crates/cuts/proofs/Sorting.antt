@@ -10,7 +10,7 @@ use lib.ListN.{length}
 use lib.Ieee.{binary64, fits}
 use Rattle.float.specs.Order.{before}
 use Rattle.float.proofs.TotalOrder.{key, before-key}
-use Rattle.sketch.specs.Lists.{pick, keep}
+use Rattle.sketch.specs.Lists.{ite, keep}
 use Rattle.cuts.specs.declared.Cut.{Cut}
 use Rattle.cuts.specs.Lists.{lastOr}
 use Rattle.cuts.specs.Bracket.{insertCut, sortCuts}
@@ -21,7 +21,7 @@ module _ {A : Type 0} where
   keep-append p [] m = refl
   keep-append p (a ∷ l) m = go (p a) (keep-append p l m)
     where
-      go : (b : Bool) → keep p (l ++ m) ≡ keep p l ++ keep p m → pick b (a ∷ keep p (l ++ m)) (keep p (l ++ m)) ≡ pick b (a ∷ keep p l) (keep p l) ++ keep p m
+      go : (b : Bool) → keep p (l ++ m) ≡ keep p l ++ keep p m → ite b (a ∷ keep p (l ++ m)) (keep p (l ++ m)) ≡ ite b (a ∷ keep p l) (keep p l) ++ keep p m
       go true e = ap (λ (r : List A). a ∷ r) e
       go false e = e
 
@@ -30,8 +30,8 @@ module _ {A : Type 0} where
   keep-twice p q (a ∷ l) = go (q a) (keep-twice p q l)
     where
       go : (b : Bool) → keep p (keep q l) ≡ keep (λ a. q a && p a) l
-          → keep p (pick b (a ∷ keep q l) (keep q l)) ≡ pick (b && p a) (a ∷ keep (λ a. q a && p a) l) (keep (λ a. q a && p a) l)
-      go true e = ap (λ (r : List A). pick (p a) (a ∷ r) r) e
+          → keep p (ite b (a ∷ keep q l) (keep q l)) ≡ ite (b && p a) (a ∷ keep (λ a. q a && p a) l) (keep (λ a. q a && p a) l)
+      go true e = ap (λ (r : List A). ite (p a) (a ∷ r) r) e
       go false e = e
 
   pub keep-same : (p q : A → Bool) (l : List A) → ((a : A) → p a ≡ q a) → keep p l ≡ keep q l
@@ -124,24 +124,24 @@ unfolding insertCut
 insert-ahead p k j [] gk h a = refl
 insert-ahead p k j (m ∷ l) gk h a = go (p m) (insert-ahead p k j l gk h (a .2))
   where
-    go : (b : Bool) → insertCut k (keep p l) ≡ k ∷ keep p l → insertCut k (pick b (m ∷ keep p l) (keep p l)) ≡ k ∷ pick b (m ∷ keep p l) (keep p l)
+    go : (b : Bool) → insertCut k (keep p l) ≡ k ∷ keep p l → insertCut k (ite b (m ∷ keep p l) (keep p l)) ≡ k ∷ ite b (m ∷ keep p l) (keep p l)
     go true e = let o = is-sooner k m gk (a .1) (omega (arith, a .0)) in rw o
     go false e = e
 
 insert-behind : (k j : Cut) (l : List Cut) (b d : Bool) → before (k .t) (j .t) ≡ false
-    → pick d (j ∷ pick b (insertCut k l) l) (pick b (insertCut k l) l) ≡ pick b (insertCut k (pick d (j ∷ l) l)) (pick d (j ∷ l) l)
+    → ite d (j ∷ ite b (insertCut k l) l) (ite b (insertCut k l) l) ≡ ite b (insertCut k (ite d (j ∷ l) l)) (ite d (j ∷ l) l)
 unfolding insertCut
 insert-behind k j l true true e = rw e
 insert-behind k j l false true e = refl
 insert-behind k j l b false e = refl
 
-pub keep-insert : (p : Cut → Bool) (k : Cut) (s : List Cut) → Good k → Sorted s → keep p (insertCut k s) ≡ pick (p k) (insertCut k (keep p s)) (keep p s)
+pub keep-insert : (p : Cut → Bool) (k : Cut) (s : List Cut) → Good k → Sorted s → keep p (insertCut k s) ≡ ite (p k) (insertCut k (keep p s)) (keep p s)
 unfolding insertCut
 keep-insert p k [] gk h = refl
 keep-insert p k (j ∷ l) gk h = go (before (k .t) (j .t)) refl (keep-insert p k l gk (h .2))
   where
-    go : (b : Bool) → before (k .t) (j .t) ≡ b → keep p (insertCut k l) ≡ pick (p k) (insertCut k (keep p l)) (keep p l)
-        → keep p (cond b (k ∷ j ∷ l) (j ∷ insertCut k l)) ≡ pick (p k) (insertCut k (keep p (j ∷ l))) (keep p (j ∷ l))
+    go : (b : Bool) → before (k .t) (j .t) ≡ b → keep p (insertCut k l) ≡ ite (p k) (insertCut k (keep p l)) (keep p l)
+        → keep p (cond b (k ∷ j ∷ l) (j ∷ insertCut k l)) ≡ ite (p k) (insertCut k (keep p (j ∷ l))) (keep p (j ∷ l))
     go true e r =
         let a : After j (j ∷ l) = (omega arith, h .0, h .1) in
         rw (insert-ahead p k j (j ∷ l) gk (sooner k j gk (h .0) e) a)
@@ -152,7 +152,7 @@ unfolding sortCuts
 keep-sort p s [] f h = refl
 keep-sort p s (k ∷ l) f h = keep-sort p (insertCut k s) l (f .1) (insert-sorted k s (f .0) h) ∙ rw (keep-insert p k s (f .0) h) (go (p k))
   where
-    go : (b : Bool) → sortCuts (pick b (insertCut k (keep p s)) (keep p s)) (keep p l) ≡ sortCuts (keep p s) (pick b (k ∷ keep p l) (keep p l))
+    go : (b : Bool) → sortCuts (ite b (insertCut k (keep p s)) (keep p s)) (keep p l) ≡ sortCuts (keep p s) (ite b (k ∷ keep p l) (keep p l))
     go true = refl
     go false = refl
 

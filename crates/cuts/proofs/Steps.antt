@@ -17,18 +17,18 @@ use Rattle.geom.proofs.Distances.{distance-below}
 use Rattle.shape.specs.declared.Shape.{Shape}
 use Rattle.shape.specs.Measures.{param}
 use Rattle.cuts.specs.declared.Cut.{Cut}
-use Rattle.cuts.specs.declared.Other.{Other}
+use Rattle.cuts.specs.declared.Cutter.{Cutter}
 use Rattle.cuts.specs.Lists.{any}
 use Rattle.cuts.specs.Bounded.{onBounded}
-use Rattle.cuts.specs.Cuts.{cut, taken, cutsHere, cutStep}
-use Rattle.cuts.specs.Columns.{Room, rows, placeAt, cutAt, cutsIn, placesIn, crowded}
+use Rattle.cuts.specs.Cuts.{mkCut, foundNear, cutsHere, cutStep}
+use Rattle.cuts.specs.Columns.{Room, rows, placeAt, cutAt, cutsIn, placesIn, foundAmong}
 use Rattle.cuts.proofs.Ends.{and-false}
 use Rattle.cuts.proofs.Rows.{or-true, rows-same, any-across, any-none, any-hit}
 
 -- ---- the search among the places
 module _ (px py : List Float) (q : Vec2) where
-  pub crowded-start : crowded (placesIn 0 px py) q ≡ false
-  unfolding crowded rows any placesIn
+  pub crowded-start : foundAmong (placesIn 0 px py) q ≡ false
+  unfolding foundAmong rows any placesIn
   crowded-start = refl
 
   module _ (i : ℕ) (v : Vec2) (d : Float) (ev : v ≡ placeAt px py i) (ed : d ≡ dot (v -ᵥ q) (v -ᵥ q)) where
@@ -37,15 +37,15 @@ module _ (px py : List Float) (q : Vec2) where
         distance-below at-1e-6 exact-1e-6 (placeAt px py i) q
         ∙ ap (λ (s : Float). lt s (leastOf at-1e-6)) (sym (ed ∙ ap (λ (p : Vec2). dot (p -ᵥ q) (p -ᵥ q)) ev))
 
-    pub crowded-none : lt d (leastOf at-1e-6) ≡ false → crowded (placesIn i px py) q ≡ false → crowded (placesIn (i + 1) px py) q ≡ false
-    unfolding crowded placesIn
+    pub crowded-none : lt d (leastOf at-1e-6) ≡ false → foundAmong (placesIn i px py) q ≡ false → foundAmong (placesIn (i + 1) px py) q ≡ false
+    unfolding foundAmong placesIn
     crowded-none h e = any-none _ i (placeAt px py) e (by-square ∙ h)
 
-    pub crowded-hit : (n : ℕ) → i < n → lt d (leastOf at-1e-6) ≡ true → crowded (placesIn n px py) q ≡ true
-    unfolding crowded placesIn
+    pub crowded-hit : (n : ℕ) → i < n → lt d (leastOf at-1e-6) ≡ true → foundAmong (placesIn n px py) q ≡ true
+    unfolding foundAmong placesIn
     crowded-hit n l h = any-hit _ n i (placeAt px py) l (by-square ∙ h)
 
-  pub crowded-end : (n i : ℕ) → n ≤ i → i ≤ n → crowded (placesIn i px py) q ≡ false → crowded (placesIn n px py) q ≡ false
+  pub crowded-end : (n i : ℕ) → n ≤ i → i ≤ n → foundAmong (placesIn i px py) q ≡ false → foundAmong (placesIn n px py) q ≡ false
   crowded-end n i h k e =
       let g : i ≡ n = omega arith in
       rw (← g) e
@@ -53,13 +53,13 @@ module _ (px py : List Float) (q : Vec2) where
 -- ---- one cut more
 module _ (n : ℕ) (ts px py : List Float) (who : List ℕ) where
   -- the columns of places decide
-  taken-places : (q : Vec2) → taken (cutsIn n ts px py who) q ≡ crowded (placesIn n px py) q
-  unfolding taken crowded cutsIn placesIn
+  taken-places : (q : Vec2) → foundNear (cutsIn n ts px py who) q ≡ foundAmong (placesIn n px py) q
+  unfolding foundNear foundAmong cutsIn placesIn
   taken-places q = any-across _ _ n _ _ (λ i h. refl)
 
   -- four stores at n
   pushed : (t : Float) (p : Vec2) (o : ℕ) → Room (n + 1) ts px py who
-      → cutsIn (n + 1) (set ts n t) (set px n (p .x)) (set py n (p .y)) (set who n o) ≡ cutsIn n ts px py who ++ cut t p o ∷ []
+      → cutsIn (n + 1) (set ts n t) (set px n (p .x)) (set py n (p .y)) (set who n o) ≡ cutsIn n ts px py who ++ mkCut t p o ∷ []
   unfolding rows cutsIn
   pushed t p o room =
       let same : (i : ℕ) → i < n → cutAt (set ts n t) (set px n (p .x)) (set py n (p .y)) (set who n o) i ≡ cutAt ts px py who i =
@@ -77,7 +77,7 @@ module _ (n : ℕ) (ts px py : List Float) (who : List ℕ) where
       )
 
 -- ---- one point, over the columns
-module _ (sh : Shape) (o : Other) (q : Vec2) (n : ℕ) (ts px py : List Float) (who : List ℕ) where
+module _ (sh : Shape) (o : Cutter) (q : Vec2) (n : ℕ) (ts px py : List Float) (who : List ℕ) where
   abbrev found : List Cut
   found = cutsIn n ts px py who
 
@@ -89,7 +89,7 @@ module _ (sh : Shape) (o : Other) (q : Vec2) (n : ℕ) (ts px py : List Float) (
   unfolding cutStep cutsHere
   step-past e h = rw (e, h)
 
-  pub step-again : crowded (placesIn n px py) q ≡ true → found ≡ cutStep sh o found q
+  pub step-again : foundAmong (placesIn n px py) q ≡ true → found ≡ cutStep sh o found q
   unfolding cutStep cutsHere
   step-again e = rw (taken-places n ts px py who q, e, and-false (onBounded sh q), and-false (o .endless || onBounded (o .shape) q))
 
@@ -100,7 +100,7 @@ module _ (sh : Shape) (o : Other) (q : Vec2) (n : ℕ) (ts px py : List Float) (
   pub met-between : onBounded (o .shape) q ≡ true → (o .endless || onBounded (o .shape) q) ≡ true
   met-between e = rw e (or-true (o .endless))
 
-  pub step-cuts : (t : Float) → t ≡ param sh q → onBounded sh q ≡ true → (o .endless || onBounded (o .shape) q) ≡ true → crowded (placesIn n px py) q ≡ false
+  pub step-cuts : (t : Float) → t ≡ param sh q → onBounded sh q ≡ true → (o .endless || onBounded (o .shape) q) ≡ true → foundAmong (placesIn n px py) q ≡ false
       → Room (n + 1) ts px py who → cutsIn (n + 1) (set ts n t) (set px n (q .x)) (set py n (q .y)) (set who n (o .id)) ≡ cutStep sh o found q
   unfolding cutStep cutsHere
   step-cuts t et h e k room = pushed n ts px py who t q (o .id) room ∙ rw (et, e, h, taken-places n ts px py who q, k)

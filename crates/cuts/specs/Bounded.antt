@@ -10,13 +10,13 @@ use Rattle.shape.specs.declared.Shape.the-variants.{Line, Round}
 use Rattle.shape.specs.Measures.{range, isFull, param, dist}
 
 -- a line's length, and a round's radius
-unfoldable pub extent : Shape → Float
-extent (Line a b) = distance a b
-extent (Round c r start sweep) = r
+unfoldable pub lengthOrRadius : Shape → Float
+lengthOrRadius (Line a b) = distance a b
+lengthOrRadius (Round c r start sweep) = r
 
 -- how far beyond its range a parameter may lie: 1e-6 along the curve
 unfoldable pub slack : Shape → Float
-slack sh = 1e-6 ⊘ max (extent sh) 1e-12
+slack sh = 1e-6 ⊘ max (lengthOrRadius sh) 1e-12
 
 unfoldable pub inRange : Shape → Float → Bool
 inRange sh t = isFull sh || (le (range sh .start ⊖ slack sh) t && le t (range sh .end ⊕ slack sh))

@@ -12,7 +12,7 @@ use Rattle.shape.specs.declared.Crossings.{Crossings}
 use Rattle.shape.specs.declared.Crossings.the-variants.{Zero, One, Two}
 use Rattle.cuts.specs.declared.Cut.{Cut}
 use Rattle.cuts.specs.Lists.{any}
-use Rattle.cuts.specs.Cuts.{cut}
+use Rattle.cuts.specs.Cuts.{mkCut}
 
 -- columns of n entries at least
 pub record Room (n : ℕ) (ts px py : List Float) (who : List ℕ) : Type 0 where
@@ -34,7 +34,7 @@ abbrev pub placeAt : List Float → List Float → ℕ → Vec2
 placeAt px py i = vec (getD px i nan) (getD py i nan)
 
 abbrev pub cutAt : List Float → List Float → List Float → List ℕ → ℕ → Cut
-cutAt ts px py who i = cut (getD ts i nan) (placeAt px py i) (getD who i 0)
+cutAt ts px py who i = mkCut (getD ts i nan) (placeAt px py i) (getD who i 0)
 
 unfoldable pub cutsIn : ℕ → List Float → List Float → List Float → List ℕ → List Cut
 cutsIn n ts px py who = rows n (cutAt ts px py who)
@@ -43,11 +43,11 @@ unfoldable pub placesIn : ℕ → List Float → List Float → List Vec2
 placesIn n px py = rows n (placeAt px py)
 
 -- one of the places is nearer than 1e-6 to q
-unfoldable pub crowded : List Vec2 → Vec2 → Bool
-crowded ps q = any (λ p. lt (distance p q) 1e-6) ps
+unfoldable pub foundAmong : List Vec2 → Vec2 → Bool
+foundAmong ps q = any (λ p. lt (distance p q) 1e-6) ps
 
 -- the point at k of at most two, if there is one
-unfoldable pub pointAt : Crossings → ℕ → Vec2
-pointAt Zero k = origin
-pointAt (One p) k = p
-pointAt (Two p q) k = cond (eqb k 0) p q
+unfoldable pub crossingAt : Crossings → ℕ → Vec2
+crossingAt Zero k = origin
+crossingAt (One p) k = p
+crossingAt (Two p q) k = cond (eqb k 0) p q

@@ -9,8 +9,8 @@ use geom::Vec2;
 use shape::Shape;
 
 // A line's length, and a round's radius.
-fn extent(sh: Shape) -> f64
-    ensures { λ r. ⌜ r ≡ B.extent sh ⌝ }
+fn length_or_radius(sh: Shape) -> f64
+    ensures { λ r. ⌜ r ≡ B.lengthOrRadius sh ⌝ }
 {
     match sh {
         Shape::Line(a, b) => a.dist(b),
@@ -22,7 +22,7 @@ fn extent(sh: Shape) -> f64
 pub(crate) fn slack(sh: Shape) -> f64
     ensures { λ r. ⌜ r ≡ B.slack sh ⌝ }
 {
-    1e-6 / float::max(extent(sh), 1e-12)
+    1e-6 / float::max(length_or_radius(sh), 1e-12)
 }
 
 // Further than 1e-6 from its endless line or full circle.

@@ -10,8 +10,8 @@ ghost use Rattle.cuts.specs.Nearest as N;
 ghost use Rattle.cuts.specs.Bracket as B;
 ghost use Rattle.cuts.specs.Bracket.{neighbours, inOrder};
 use crate::Cut;
+use crate::Cutter;
 use crate::Neighbours;
-use crate::Other;
 use crate::Side;
 use crate::gather::cut_points;
 use crate::nearest::nearest;
@@ -104,7 +104,7 @@ fn around<'a>(
 
 // Of the first n others, the cuts on both sides of tq: before and after it, or on a full curve behind and ahead, in order. A full curve
 // under two cuts has none.
-pub fn bracket(sh: Shape, tq: f64, others: [Other; 128], n: usize) -> Neighbours
+pub fn bracket(sh: Shape, tq: f64, others: [Cutter; 128], n: usize) -> Neighbours
     ensures { λ r. ⌜ neighbours r ≡ B.bracket sh tq (cutPoints sh (take n others)) ⌝ }
 {
     let mut ts = [0.0; 512];

@@ -8,8 +8,8 @@ ghost use Rattle.shape.specs.Intersections.{points};
 ghost use Rattle.cuts.specs.Bounded as B;
 ghost use Rattle.cuts.specs.Cuts as C;
 ghost use Rattle.cuts.specs.Cuts.{cutStep, cutsBy, cutPoints};
-ghost use Rattle.cuts.specs.Columns.{Room, Places, cutsIn, placesIn, crowded, pointAt};
-use crate::Other;
+ghost use Rattle.cuts.specs.Columns.{Room, Places, cutsIn, placesIn, foundAmong, crossingAt};
+use crate::Cutter;
 use crate::bounded::lies_on;
 use crate::bounded::on_bounded;
 use crate::bounded::slack;
@@ -20,7 +20,7 @@ use shape::Shape;
 // Whether one of the first n places is nearer than 1e-6 to q.
 fn seen<'a>(px: &'a [f64], py: &'a [f64], n: usize, q: Vec2) -> bool
     requires { ⌜ Places n (now px) (now py) ⌝ }
-    ensures { λ r. ⌜ r ≡ crowded (placesIn n (now (px .entry)) (now (py .entry))) q ⌝ }
+    ensures { λ r. ⌜ r ≡ foundAmong (placesIn n (now (px .entry)) (now (py .entry))) q ⌝ }
 {
     let mut i: usize = 0;
     while i < n {
@@ -37,7 +37,7 @@ fn seen<'a>(px: &'a [f64], py: &'a [f64], n: usize, q: Vec2) -> bool
 fn candidate<'a>(
     sh: Shape,
     slack: f64,
-    o: Other,
+    o: Cutter,
     q: Vec2,
     n: usize,
     ts: &'a mut [f64],
@@ -71,8 +71,8 @@ fn candidate<'a>(
 }
 
 // The ends of a line, or of an arc that is not full.
-fn tips(sh: Shape) -> Crossings
-    ensures { λ r. ⌜ points r ≡ C.tips sh ⌝ }
+fn end_points(sh: Shape) -> Crossings
+    ensures { λ r. ⌜ points r ≡ C.endPoints sh ⌝ }
 {
     match sh {
         Shape::Line(a, b) => Crossings::Two(a, b),
@@ -97,7 +97,7 @@ fn count(c: Crossings) -> usize
 
 // The point at k, if there is one.
 fn nth(c: Crossings, k: usize) -> Vec2
-    ensures { λ r. ⌜ r ≡ pointAt c k ⌝ }
+    ensures { λ r. ⌜ r ≡ crossingAt c k ⌝ }
 {
     match c {
         Crossings::Zero => Vec2::new(0.0, 0.0),
@@ -112,7 +112,7 @@ fn nth(c: Crossings, k: usize) -> Vec2
 }
 
 // The point at k of two lists, one behind the other.
-fn stop(c: Crossings, d: Crossings, k: usize) -> Vec2
+fn candidate_at(c: Crossings, d: Crossings, k: usize) -> Vec2
     requires { ⌜ k < length (points c) + length (points d) ⌝ }
     ensures { λ r. ⌜ r ≡ getD (points c ++ points d) k origin ⌝ }
 {
@@ -128,7 +128,7 @@ fn stop(c: Crossings, d: Crossings, k: usize) -> Vec2
 fn cuts_by<'a>(
     sh: Shape,
     slack: f64,
-    o: Other,
+    o: Cutter,
     n: usize,
     ts: &'a mut [f64],
     px: &'a mut [f64],
@@ -143,12 +143,22 @@ fn cuts_by<'a>(
 {
     let shape = o.shape;
     let crossings = shape::intersections(sh, shape);
-    let ends = tips(shape);
+    let ends = end_points(shape);
     let all = count(crossings) + count(ends);
     let mut m = n;
     let mut k: usize = 0;
     while k < all {
-        m = candidate(sh, slack, o, stop(crossings, ends, k), m, ts, px, py, who);
+        m = candidate(
+            sh,
+            slack,
+            o,
+            candidate_at(crossings, ends, k),
+            m,
+            ts,
+            px,
+            py,
+            who,
+        );
         k += 1;
     }
     m
@@ -157,7 +167,7 @@ fn cuts_by<'a>(
 // The cuts of the first n others, in their order: at most four of each.
 pub(crate) fn cut_points<'a>(
     sh: Shape,
-    others: [Other; 128],
+    others: [Cutter; 128],
     n: usize,
     ts: &'a mut [f64],
     px: &'a mut [f64],

@@ -12,7 +12,7 @@ pub use bounded::on_bounded;
 pub use brackets::bracket;
 
 // A line or round that may cut: its id, whether it is an infinite line, and its shape.
-pub struct Other {
+pub struct Cutter {
     pub id: Id,
     pub endless: bool,
     pub shape: Shape,

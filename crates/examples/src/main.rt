@@ -1,8 +1,8 @@
 // Worked examples that no theorem states, run on the engine.
 use bernstein::Roots;
-use exhibit::DeskTold;
 use image::Operation;
 use libc::STDOUT_FILENO;
+use replication::DeskReply;
 
 // Room for an image.
 const IMAGE: usize = 1024;
@@ -40,14 +40,14 @@ fn extend(words: &[u8], path: &[u8], x: f64, y: f64) {
     let mut message = [0u8; MESSAGE];
     let n = io::read_full(fd, &mut bytes);
     libc::close(fd);
-    let started = exhibit::start(&bytes[..n]);
-    let screen = started.screen;
-    let answer = exhibit::desk_edit(screen, Operation::Extend, 3, x, y, &mut message);
-    let told = answer.told;
+    let started = replication::start(&bytes[..n]);
+    let replica = started.replica;
+    let answer = replication::desk_edit(replica, Operation::Extend, 3, x, y, &mut message);
+    let reply = answer.reply;
     io::write_all(STDOUT_FILENO, words);
-    match told {
-        DeskTold::Declined(number, _) => say(b": refused by ", number as u64),
-        DeskTold::Done(_) => say(b": accepted, count ", answer.screen.count as u64),
+    match reply {
+        DeskReply::Refused(number, _) => say(b": refused by ", number as u64),
+        DeskReply::Accepted(_) => say(b": accepted, count ", answer.replica.count as u64),
     }
 }
 

@@ -13,11 +13,11 @@ use lib.Ieee.Bits.{ofBits-toBits, toBits-lt}
 use borrow.Author.Tests.{leb-true, le-leb, eqb-true}
 use Rattle.big_endian.specs.Fields.{field, bytes, part}
 use Rattle.big_endian.specs.Laws.{Bytes, length-bytes, field-in, field-lt, bytes-field, part-join}
-use Rattle.sketch.specs.Lists.{pick, every, spread}
+use Rattle.sketch.specs.Lists.{ite, every, concatMap}
 use Rattle.sketch.specs.declared.Curve.{Curve}
 use Rattle.sketch.specs.declared.CurveKind.{CurveKind}
 use Rattle.sketch.specs.declared.CurveKind.the-variants.{Line, Arc, Circle, Bezier, Conic}
-use Rattle.sketch.specs.Valid.{okCurve, okNumber, okRadius, okRho, inSlots, sortOf, isLine}
+use Rattle.sketch.specs.Valid.{okCurve, okNumber, okRadius, okRho, inSlots, sortOf, isLineSort}
 use Rattle.image.specs.Records.{idsAt, slotsOf, usedSlots, curveFields, curveForm, kindOf, noSlots, curveOf}
 use Rattle.image.specs.Encode.{bit, bits, kindByte, degreeOf, numberBits, slotIds, flagByte, encodeCurve}
 use Rattle.image.specs.Stored.{Each, Id, StoredKind, StoredCurve}
@@ -68,16 +68,16 @@ flags-back (suc (suc (suc (suc (suc (suc (suc (suc f)))))))) h = absurd (omega a
 -- ---- slots
 
 -- ids that were written are read back
-ids-in : (l : List ℕ) (s pre post : List ℕ) (at : ℕ) → s ≡ pre ++ (spread (bytes 4) l ++ post) → length pre ≡ at → Each Id l → idsAt s at (length l) ≡ l
+ids-in : (l : List ℕ) (s pre post : List ℕ) (at : ℕ) → s ≡ pre ++ (concatMap (bytes 4) l ++ post) → length pre ≡ at → Each Id l → idsAt s at (length l) ≡ l
 unfolding idsAt
 ids-in [] s pre post at e k w = refl
 ids-in (i ∷ l) s pre post at e k w =
-    let f : field s at 4 ≡ i = field-in s pre (spread (bytes 4) l ++ post) at 4 i (e ∙ simp append-assoc) k (w .0) in
+    let f : field s at 4 ≡ i = field-in s pre (concatMap (bytes 4) l ++ post) at 4 i (e ∙ simp append-assoc) k (w .0) in
     let t = ids-in l s (pre ++ bytes 4 i) post (at + 4) (e ∙ simp append-assoc) (length-append pre (bytes 4 i) ∙ rw (k, length-bytes 4 i)) (w .1) in
     rw (f, t)
 
 -- and ids that were read are written as they were
-ids-back : (n : ℕ) (s : List ℕ) (at : ℕ) → Bytes s → at + n * 4 ≤ length s → spread (bytes 4) (idsAt s at n) ≡ part s at (n * 4)
+ids-back : (n : ℕ) (s : List ℕ) (at : ℕ) → Bytes s → at + n * 4 ≤ length s → concatMap (bytes 4) (idsAt s at n) ≡ part s at (n * 4)
 unfolding idsAt
 ids-back zero s at b h = refl
 ids-back (suc n) s at b h =
@@ -137,7 +137,7 @@ kind-there (Circle c r) s w = rw (ofBits-toBits binary64 r (w .1))
 kind-there (Bezier n) s w = refl
 kind-there (Conic a p b rho) s w = rw (ofBits-toBits binary64 rho (w .3))
 
-slots-there : (k : CurveKind) (s : List ℕ) → (inSlots k ≡ 0 → s ≡ noSlots) → pick (eqb (kindByte k) 4) (slotIds k s) noSlots ≡ s
+slots-there : (k : CurveKind) (s : List ℕ) → (inSlots k ≡ 0 → s ≡ noSlots) → ite (eqb (kindByte k) 4) (slotIds k s) noSlots ≡ s
 unfolding kindByte slotIds inSlots
 slots-there (Line a b) s h = sym (h refl)
 slots-there (Arc c a b) s h = sym (h refl)
@@ -163,7 +163,7 @@ fields-there (Conic a p b rho) f s t h = rw (le-leb f 7 h)
 
 -- ---- the record there
 
-pub length-slots : (k : CurveKind) (s : List ℕ) → length s ≡ 8 → length (spread (bytes 4) (slotIds k s)) ≡ 32
+pub length-slots : (k : CurveKind) (s : List ℕ) → length s ≡ 8 → length (concatMap (bytes 4) (slotIds k s)) ≡ 32
 length-slots k s h = length-spread (bytes 4) 4 (slotIds k s) (sized-all (bytes 4) 4 (length-bytes 4) (slotIds k s)) ∙ rw (eight-ids k s h)
 
 pub length-curve : (c : Curve) → length (c .slots) ≡ 8 → length (encodeCurve c) ≡ 47
@@ -182,7 +182,7 @@ curve-there c w =
     let b2 = bytes 1 (kindByte k) in
     let b3 = bytes 1 f in
     let b4 = bytes 1 (degreeOf k) in
-    let b5 = spread (bytes 4) l in
+    let b5 = concatMap (bytes 4) l in
     let b6 = bytes 8 (numberBits k) in
     let n5 : length b5 ≡ 32 = length-slots k (c .slots) (w .eight) in
     let f1 : field s 0 4 ≡ c .id = field-in s [] (b2 ++ (b3 ++ (b4 ++ (b5 ++ b6)))) 0 4 (c .id) refl refl (w .id-fits) in
@@ -196,7 +196,7 @@ curve-there c w =
     field-in s (b1 ++ (b2 ++ (b3 ++ (b4 ++ b5)))) [] 39 8 (numberBits k) (simp (append-assoc, append-nil)) (simp (length-append, length-bytes) (rw n5)) (number-lt k (w .kind-fits)) in
     let g = flags-are (c .construction) (c .centerline) (c .infinite) in
     let o : curveOf s ≡ c = rw (f1, f2, f3, f4, f5, f6, kind-there k (c .slots) (w .kind-fits), slots-there k (c .slots) (w .beside), g .first, g .second, g .third) in
-    let h : (curveForm s && okCurve c) ≡ okCurve c = rw (f2, f3, f4, f5, f6) (fields-there k f (c .slots) (not (c .infinite) || isLine (sortOf k)) fl) in
+    let h : (curveForm s && okCurve c) ≡ okCurve c = rw (f2, f3, f4, f5, f6) (fields-there k f (c .slots) (not (c .infinite) || isLineSort (sortOf k)) fl) in
     record { tested = ap (λ (x : Curve). curveForm s && okCurve x) o ∙ h; spelled = o }
 
 -- ---- the record back
@@ -204,7 +204,7 @@ curve-there c w =
 -- a curve that passes has a number in range
 pub ok-number : (c : Curve) → okCurve c ≡ true → okNumber (c .kind) ≡ true
 ok-number c e =
-    let line = not (c .infinite) || isLine (sortOf (c .kind)) in
+    let line = not (c .infinite) || isLineSort (sortOf (c .kind)) in
     both line (okNumber (c .kind)) (both (line && okNumber (c .kind)) _ e .0) .1
 
 zeros : (l : List ℕ) → every (λ i. eqb i 0) l ≡ true → l ≡ replicate (length l) 0
@@ -217,7 +217,7 @@ zeros (i ∷ l) h =
 record Parts (kind degree number : ℕ) (s : List ℕ) (k : CurveKind) : Type 0 where
   kind-is : kindByte k ≡ kind
   degree-is : degreeOf k ≡ degree
-  slots-are : slotIds k (pick (eqb kind 4) s noSlots) ≡ s
+  slots-are : slotIds k (ite (eqb kind 4) s noSlots) ≡ s
   number-is : numberBits k ≡ number
 
 record Tests (kind flags degree number : ℕ) (s : List ℕ) : Type 0 where
@@ -287,7 +287,7 @@ curve-back r b l form ok =
     let p =
     kind-back (field r 4 1) (field r 5 1) (field r 6 1) (field r 39 8) (field r 7 4) (field r 11 4) (field r 15 4) (field r 19 4) (field r 23 4) (field r 27 4) (field r 31 4) (field r 35 4) v t n
     (bits-back okRadius radius-rejects r 39 b) (bits-back okRho rho-rejects r 39 b) in
-    let s : spread (bytes 4) (slotsOf r) ≡ part r 7 32 = ids-back 8 r 7 b (omega arith) in
+    let s : concatMap (bytes 4) (slotsOf r) ≡ part r 7 32 = ids-back 8 r 7 b (omega arith) in
     rw (
       p .kind-is,
       p .degree-is,

@@ -9,13 +9,13 @@ use lib.Dec.{leb, eqb, lit<}
 use borrow.Author.Tests.{leb-true, eqb-true, le-leb, eq-eqb}
 use Rattle.big_endian.specs.Fields.{field, bytes, part}
 use Rattle.big_endian.specs.Laws.{Bytes, length-bytes, field-in, field-lt, bytes-field, part-join}
-use Rattle.sketch.specs.Lists.{rule}
+use Rattle.sketch.specs.Lists.{guardNumber}
 use Rattle.sketch.proofs.Facts.{rule-none}
 use Rattle.image.specs.Image.{version, nextAt, pointCount, curveCount, relationCount, sizeOf, curvesFrom, relationsFrom, headFault}
 use Rattle.image.specs.Encode.{header}
 use Rattle.image.proofs.Tables.{both}
 
-pub rule-kept : (b : Bool) (n rest : ℕ) → rule b (suc n) rest ≡ 0 → (b ≡ true) × (rest ≡ 0)
+pub rule-kept : (b : Bool) (n rest : ℕ) → guardNumber b (suc n) rest ≡ 0 → (b ≡ true) × (rest ≡ 0)
 rule-kept b n rest e = rule-none b (suc n) rest (omega arith) e
 
 -- what the header of an image that is not refused for it says
@@ -55,7 +55,7 @@ head-kept s rest e =
     )
 
 pub head-passes : (s : List ℕ) (rest : ℕ) → Head s → headFault s rest ≡ rest
-unfolding headFault rule
+unfolding headFault guardNumber
 head-passes s rest h =
     rw (
       le-leb 5 (length s) (omega (arith, h .long)),

@@ -5,11 +5,11 @@ pub mod Curves
 pub mod Relations
 pub mod Plain
 pub mod Headers
-pub mod Trips
-pub mod Goods
-pub mod GoodRelations
+pub mod RoundTrips
+pub mod RecordChecks
+pub mod RelationChecks
 pub mod Walked
-pub mod Spelled
+pub mod DecodedSketch
 pub mod Verdicts
 pub mod Written
-pub mod MessageTrips
+pub mod MessageRoundTrips

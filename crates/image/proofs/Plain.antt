@@ -9,8 +9,8 @@ use lib.Dec.{eqb, leb}
 use lib.Ieee.{Float, ofBits, nanBits, binary64}
 use borrow.Author.Tests.{eqb-true, le-leb, lt-leb}
 use Rattle.big_endian.specs.Fields.{field}
-use Rattle.sketch.specs.Lists.{pick, every}
-use Rattle.sketch.specs.Valid.{okPoint, okCurve, okRelation, okCoordinate, okNumber, okRadius, okRho, okMeasure, inSlots, sortOf, isLine}
+use Rattle.sketch.specs.Lists.{ite, every}
+use Rattle.sketch.specs.Valid.{okPoint, okCurve, okRelation, okCoordinate, okNumber, okRadius, okRho, okMeasure, inSlots, sortOf, isLineSort}
 use Rattle.image.specs.Records.{pointForm, pointOf, curveForm, curveOf, relationForm, relationOf, slotsOf, kindOf, relationBy, usedSlots, curveFields, relationFields, noSlots}
 use Rattle.image.specs.Decode.{numberAt, plainPoint, plainCurve, plainRelation}
 use Rattle.image.proofs.Floats.{nan-fails, number-test, coordinate-rejects, radius-rejects, rho-rejects, measure-rejects}
@@ -100,7 +100,7 @@ module _ (r : List ℕ) where
   pub curve-lost : plainCurve r ≡ false → (curveForm r && okCurve (curveOf r)) ≡ false
   curve-lost h =
       either (curveForm r) (numberAt r 39) (curveForm r && okCurve (curveOf r)) h (and-left (curveForm r) (okCurve (curveOf r)))
-      (curve-nan (field r 4 1) (field r 5 1) (field r 6 1) (slotsOf r) (field r 39 8) (not (curveOf r .infinite) || isLine (sortOf (curveOf r .kind)))
+      (curve-nan (field r 4 1) (field r 5 1) (field r 6 1) (slotsOf r) (field r 39 8) (not (curveOf r .infinite) || isLineSort (sortOf (curveOf r .kind)))
       (every (λ i. eqb i 0) (drop (inSlots (curveOf r .kind)) (curveOf r .slots))))
 
   pub relation-lost : plainRelation r ≡ false → (relationForm r && okRelation (relationOf r)) ≡ false

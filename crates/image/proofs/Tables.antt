@@ -11,7 +11,7 @@ use lib.Seq.{take-at, drop-at, getD-drop, length-take-le, take-suc, take-suc-set
 use lib.Dec.{eqb, lit<}
 use Rattle.big_endian.specs.Fields.{field, part, over}
 use Rattle.big_endian.specs.Laws.{Bytes, part-join, over-nil, over-over, length-over}
-use Rattle.sketch.specs.Lists.{every, spread, rule}
+use Rattle.sketch.specs.Lists.{every, concatMap, guardNumber}
 use Rattle.sketch.specs.Valid.{tableFault, listFault}
 use Rattle.sketch.specs.Facts.{Every}
 use Rattle.image.specs.Stored.{Each}
@@ -33,7 +33,7 @@ row-at size (suc n) s at (suc i) h =
     rw e (row-at size n s (at + size) i (omega arith))
 
 -- rows side by side are one part
-pub rows-join : (size n : ℕ) (s : List ℕ) (at : ℕ) → spread (λ r. r) (rowsAt size n s at) ≡ part s at (n * size)
+pub rows-join : (size n : ℕ) (s : List ℕ) (at : ℕ) → concatMap (λ r. r) (rowsAt size n s at) ≡ part s at (n * size)
 unfolding rowsAt
 rows-join size zero s at = let e : 0 * size ≡ 0 = omega arith in rw e
 rows-join size (suc n) s at =
@@ -73,17 +73,17 @@ module _ {A : Type 0} (enc : A → List ℕ) (size : ℕ) where
   sized-all h [] = tt
   sized-all h (a ∷ l) = (h a, sized-all h l)
 
-  pub length-spread : (l : List A) → Sized l → length (spread enc l) ≡ length l * size
+  pub length-spread : (l : List A) → Sized l → length (concatMap enc l) ≡ length l * size
   length-spread [] w = omega arith
-  length-spread (a ∷ l) w = length-append (enc a) (spread enc l) ∙ rw (w .0, length-spread l (w .1), suc-mul) (omega arith)
+  length-spread (a ∷ l) w = length-append (enc a) (concatMap enc l) ∙ rw (w .0, length-spread l (w .1), suc-mul) (omega arith)
 
   -- the rows of what was written are the records' bytes
-  pub rows-spread : (l : List A) → Sized l → (s pre post : List ℕ) (at : ℕ) → s ≡ pre ++ (spread enc l ++ post) → length pre ≡ at
+  pub rows-spread : (l : List A) → Sized l → (s pre post : List ℕ) (at : ℕ) → s ≡ pre ++ (concatMap enc l ++ post) → length pre ≡ at
       → rowsAt size (length l) s at ≡ map enc l
   unfolding rowsAt
   rows-spread [] w s pre post at e k = refl
   rows-spread (a ∷ l) w s pre post at e k =
-      let r : part s at size ≡ enc a = rw (e, drop-at pre (spread enc (a ∷ l) ++ post) at k, append-assoc (enc a) (spread enc l) post, take-at (enc a) (spread enc l ++ post) size (w .0)) in
+      let r : part s at size ≡ enc a = rw (e, drop-at pre (concatMap enc (a ∷ l) ++ post) at k, append-assoc (enc a) (concatMap enc l) post, take-at (enc a) (concatMap enc l ++ post) size (w .0)) in
       let t = rows-spread l (w .1) s (pre ++ enc a) post (at + size) (e ∙ simp append-assoc) (length-append pre (enc a) ∙ rw (k, w .0)) in
       rw (r, t)
 
@@ -118,14 +118,14 @@ both false b e = let z : _≡_ {A = ℕ} 0 1 = cc in absurd (omega arith)
 -- rows that pass are what their values are written as
 pub spread-back : {A : Type 0} (enc : A → List ℕ) (of : List ℕ → A) (form : List ℕ → Bool) (ok : A → Bool) (size : ℕ)
     → ((r : List ℕ) → Bytes r → length r ≡ size → form r ≡ true → ok (of r) ≡ true → enc (of r) ≡ r)
-    → (rows : List (List ℕ)) → Each (Proper size) rows → every (λ r. form r && ok (of r)) rows ≡ true → spread enc (map of rows) ≡ spread (λ r. r) rows
+    → (rows : List (List ℕ)) → Each (Proper size) rows → every (λ r. form r && ok (of r)) rows ≡ true → concatMap enc (map of rows) ≡ concatMap (λ r. r) rows
 spread-back enc of form ok size back [] w h = refl
 spread-back enc of form ok size back (r ∷ rows) w h =
     let k = both (form r && ok (of r)) _ h in
     let t = both (form r) _ (k .0) in
     rw (back r (w .0 .are-bytes) (w .0 .long) (t .0) (t .1), spread-back enc of form ok size back rows (w .1) (k .1))
 
-pub spread-append : {A B : Type 0} (f : A → List B) (l m : List A) → spread f (l ++ m) ≡ spread f l ++ spread f m
+pub spread-append : {A B : Type 0} (f : A → List B) (l m : List A) → concatMap f (l ++ m) ≡ concatMap f l ++ concatMap f m
 spread-append f [] m = refl
 spread-append f (a ∷ l) m = rw (spread-append f l m, append-assoc)
 
@@ -176,8 +176,8 @@ module _ {A S : Type 0} (enc : A → List ℕ) (size : ℕ) (seen : List S → L
     (snoc : (l : List S) (x : S) → seen (l ++ (x ∷ [])) ≡ seen l ++ (value x ∷ [])) where
   -- after i records
   pub record Writing (before : List ℕ) (from : ℕ) (items : List S) (i : ℕ) (now : List ℕ) : Type 0 where
-    pub written : now ≡ over before from (spread enc (seen (take i items)))
-    pub so-long : length (spread enc (seen (take i items))) ≡ i * size
+    pub written : now ≡ over before from (concatMap enc (seen (take i items)))
+    pub so-long : length (concatMap enc (seen (take i items))) ≡ i * size
     pub same-long : length now ≡ length before
 
   pub writing-starts : seen [] ≡ [] → (l : List ℕ) (from : ℕ) (items : List S) → Writing l from items 0 l
@@ -187,10 +187,10 @@ module _ {A S : Type 0} (enc : A → List ℕ) (size : ℕ) (seen : List S → L
       → length (enc (value (getD items i none))) ≡ size → then ≡ over now (from + i * size) (enc (value (getD items i none))) → Writing l from items i now → Writing l from items (i + 1) then
   writing-turns l from items i none now then h k z e w =
       let x = enc (value (getD items i none)) in
-      let a = spread enc (seen (take i items)) in
+      let a = concatMap enc (seen (take i items)) in
       let m : (i + 1) * size ≡ i * size + size = rw (add-mul, one-mul) in
       let n : from + i * size ≡ from + length a = rw (w .so-long) in
-      let t : spread enc (seen (take (i + 1) items)) ≡ a ++ x = rw (add-one, take-suc items i none h, snoc, spread-append enc (seen (take i items)) (value (getD items i none) ∷ []), append-nil) in
+      let t : concatMap enc (seen (take (i + 1) items)) ≡ a ++ x = rw (add-one, take-suc items i none h, snoc, spread-append enc (seen (take i items)) (value (getD items i none) ∷ []), append-nil) in
       let la : length a ≡ i * size = w .so-long in
       let lx : length (a ++ x) ≡ (i + 1) * size = length-append a x ∙ omega arith in
       let r : then ≡ over l from (a ++ x) = e ∙ rw (w .written, n) (over-over l from a x (omega arith)) in

@@ -5,7 +5,7 @@ use mathlib.Core.List.{List, [], _∷_, map}
 use Prim.Native.Nat.{ℕ, zero, suc}
 use native.Mathlib.Omega.{arith}
 use lib.ListN.{length, take}
-use Rattle.sketch.specs.Lists.{rule}
+use Rattle.sketch.specs.Lists.{guardNumber}
 use Rattle.sketch.specs.Lookup.{Ascends, among, sortAmong}
 use Rattle.sketch.specs.Drawing.{pointIds, curveIds, view}
 use Rattle.sketch.specs.Columns.{sortsOf}
@@ -13,16 +13,16 @@ use Rattle.sketch.specs.Valid.{soundCurve, hasPoint, tableFault, listFault}
 use Rattle.sketch.proofs.Facts.{table-first, table-later, table-ascends, sort-among}
 use Rattle.image.specs.declared.ImageRead.{ImageRead}
 use Rattle.image.specs.Records.{pointOf, curveOf, relationOf}
-use Rattle.image.specs.Image.{nextAt, pointCount, curveCount, headFault, pointRows, curveRows, relationRows, drawingOf, rowId, recordsFault, imageFault, verdict, parse}
+use Rattle.image.specs.Image.{nextAt, pointCount, curveCount, headFault, pointRows, curveRows, relationRows, drawingOf, rowId, recordsFault, imageFault, resultOf, parse}
 use Rattle.image.specs.Decode.{outcome}
-use Rattle.image.specs.Tested.{goodPoint, goodCurve, goodRelation, rowSort, PointsTested, CurvesTested, SortsFilled, relationsTested, relationsAfter, shapesAfter}
+use Rattle.image.specs.Contracts.{goodPoint, goodCurve, goodRelation, rowSort, PointsTested, CurvesTested, SortsFilled, relationsTested, relationsAfter, shapesAfter}
 use Rattle.image.proofs.Tables.{length-rows}
 use Rattle.image.proofs.Headers.{Head, head-kept, head-passes}
 
 -- ---- the header
 
-first-kept : (b : Bool) (n x y : ℕ) → (rule b (suc n) x ≡ 0 → ⊥) → (b ≡ true → (x ≡ 0 → ⊥) → x ≡ y) → rule b (suc n) x ≡ rule b (suc n) y
-unfolding rule
+first-kept : (b : Bool) (n x y : ℕ) → (guardNumber b (suc n) x ≡ 0 → ⊥) → (b ≡ true → (x ≡ 0 → ⊥) → x ≡ y) → guardNumber b (suc n) x ≡ guardNumber b (suc n) y
+unfolding guardNumber
 first-kept true n x y h f = f refl h
 first-kept false n x y h f = refl
 
@@ -108,10 +108,10 @@ module _ (s : List ℕ) {points : List ℕ} (g : points ≡ map rowId (pointRows
 -- ---- the reader's two answers
 
 pub refused-by : (s : List ℕ) {n : ℕ} → n ≡ imageFault s → (n ≡ 0 → ⊥) → (r : ImageRead) → r .refusal ≡ n → outcome r ≡ parse s
-unfolding verdict
+unfolding resultOf
 refused-by s {n} e h r f = rw (f, ← e) (same n h)
   where
-    same : (n : ℕ) → (n ≡ 0 → ⊥) → verdict n (view (r .sketch)) ≡ verdict n (drawingOf s)
+    same : (n : ℕ) → (n ≡ 0 → ⊥) → resultOf n (view (r .sketch)) ≡ resultOf n (drawingOf s)
     same zero h = absurd (h refl)
     same (suc n) h = refl
 

@@ -10,7 +10,7 @@ use lib.Dec.{ltb}
 use Rattle.sketch.specs.Valid.{tableFault, listFault}
 use Rattle.sketch.proofs.Walks.{Walk, walk-start, walk-four, walk-five, walk-on, walk-end, verdict, placed, table-verdict, list-verdict, Column, column-start, column-on}
 use Rattle.image.specs.Image.{rowId}
-use Rattle.image.specs.Tested.{RowsTested, SortsFilled, rowSort}
+use Rattle.image.specs.Contracts.{RowsTested, SortsFilled, rowSort}
 
 whole : (rows : List (List ℕ)) → take (length rows) rows ≡ rows
 whole rows = take-all (length rows) rows (omega arith)

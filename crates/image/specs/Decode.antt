@@ -9,7 +9,7 @@ use Rattle.sketch.specs.Drawing.{view}
 use Rattle.sketch.specs.Valid.{sketchFault}
 use Rattle.image.specs.declared.ImageRead.{ImageRead}
 use Rattle.image.specs.Records.{pointForm, curveForm, relationForm}
-use Rattle.image.specs.Image.{Outcome, verdict, parse}
+use Rattle.image.specs.Image.{ParseResult, resultOf, parse}
 
 -- eight bytes that are no NaN's
 abbrev pub numberAt : List ℕ → ℕ → Bool
@@ -26,10 +26,10 @@ abbrev pub plainRelation : List ℕ → Bool
 plainRelation r = relationForm r && numberAt r 9
 
 -- what the reader's answer stands for
-abbrev pub outcome : ImageRead → Outcome
-outcome r = verdict (r .refusal) (view (r .sketch))
+abbrev pub outcome : ImageRead → ParseResult
+outcome r = resultOf (r .refusal) (view (r .sketch))
 
 -- the answer is what the bytes are read as, and the sketch in it passes the test, refused or not
-pub record Answered (s : List ℕ) (r : ImageRead) : Type 0 where
+pub record ReadAnswer (s : List ℕ) (r : ImageRead) : Type 0 where
   pub told : outcome r ≡ parse s
   pub sound : sketchFault (r .sketch) ≡ 0

@@ -7,7 +7,7 @@ use lib.ListN.{length, drop, take}
 use lib.Dec.{leb, eqb}
 use lib.Ieee.{Float, toBits, binary64}
 use Rattle.big_endian.specs.Fields.{bytes, over}
-use Rattle.sketch.specs.Lists.{pick, rule, spread}
+use Rattle.sketch.specs.Lists.{ite, guardNumber, concatMap}
 use Rattle.sketch.specs.Drawing.{Drawing, view, usesOf}
 use Rattle.sketch.specs.Valid.{sketchFault}
 use Rattle.sketch.specs.declared.Sketch.{Sketch}
@@ -69,7 +69,7 @@ flagByte c = bit (c .construction) + 2 * bit (c .centerline) + 4 * bit (c .infin
 unfoldable pub encodeCurve : Curve → List ℕ
 encodeCurve c =
     bytes 4 (c .id) ++ (bytes 1 (kindByte (c .kind)) ++ (bytes 1 (flagByte c) ++ (bytes 1 (degreeOf (c .kind))
-    ++ (spread (bytes 4) (slotIds (c .kind) (c .slots)) ++ bytes 8 (numberBits (c .kind))))))
+    ++ (concatMap (bytes 4) (slotIds (c .kind) (c .slots)) ++ bytes 8 (numberBits (c .kind))))))
 
 -- ---- a relation: the byte of its kind, its ids, the second 0 where there is none, its value or zero bits
 
@@ -131,14 +131,14 @@ header next np nc nr = bytes 4 (sizeOf np nc nr - 4) ++ (bytes 1 version ++ (byt
 unfoldable pub encode : Drawing → List ℕ
 encode d =
     header (d .next) (length (d .points)) (length (d .curves)) (length (d .relations))
-    ++ (spread encodePoint (d .points) ++ (spread encodeCurve (d .curves) ++ spread encodeRelation (d .relations)))
+    ++ (concatMap encodePoint (d .points) ++ (concatMap encodeCurve (d .curves) ++ concatMap encodeRelation (d .relations)))
 
 -- ---- a write: a sketch that no image gives is refused as its image would be, then a buffer that is too short by 25
 
 abbrev pub writeFault : Sketch → ℕ → ℕ
-writeFault s room = rule (eqb (sketchFault s) 0) (sketchFault s) (rule (leb (drawingSize (view s)) room) 25 0)
+writeFault s room = guardNumber (eqb (sketchFault s) 0) (sketchFault s) (guardNumber (leb (drawingSize (view s)) room) 25 0)
 
 -- the number, and the buffer afterwards: the image at its front and the rest as it was, or all as it was
-pub record Written (s : Sketch) (before later : List ℕ) (r : ℕ) : Type 0 where
+pub record ImageWritten (s : Sketch) (before later : List ℕ) (r : ℕ) : Type 0 where
   pub number : r ≡ writeFault s (length before)
-  pub buffer : later ≡ pick (eqb (writeFault s (length before)) 0) (over before 0 (encode (view s))) before
+  pub buffer : later ≡ ite (eqb (writeFault s (length before)) 0) (over before 0 (encode (view s))) before

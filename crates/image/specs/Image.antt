@@ -5,7 +5,7 @@ use mathlib.Core.List.{List, [], _∷_, map}
 use lib.ListN.{length}
 use lib.Dec.{leb, eqb}
 use Rattle.big_endian.specs.Fields.{field, part}
-use Rattle.sketch.specs.Lists.{pick, rule}
+use Rattle.sketch.specs.Lists.{ite, guardNumber}
 use Rattle.sketch.specs.Drawing.{Drawing, limits}
 use Rattle.sketch.specs.Valid.{okPoint, okCurve, okRelation, soundCurve, soundRelation, hasPoint, sortIn, tableFault, listFault}
 use Rattle.image.specs.Records.{pointForm, pointOf, curveForm, curveOf, relationForm, relationOf}
@@ -40,12 +40,12 @@ sizeOf np nc nr = relationsFrom np nc + nr * 17
 -- too short for a version, the version, the rest of the length, the counts, the next id; then what the records give
 unfoldable pub headFault : List ℕ → ℕ → ℕ
 headFault s rest =
-    rule (leb 5 (length s)) 1
-    (rule (eqb (field s 4 1) version) 2
-    (rule (leb 15 (length s) && eqb (field s 0 4 + 4) (length s)) 1
-    (rule (leb (pointCount s) (limits .points) && leb (curveCount s) (limits .curves) && leb (relationCount s) (limits .relations)
+    guardNumber (leb 5 (length s)) 1
+    (guardNumber (eqb (field s 4 1) version) 2
+    (guardNumber (leb 15 (length s) && eqb (field s 0 4 + 4) (length s)) 1
+    (guardNumber (leb (pointCount s) (limits .points) && leb (curveCount s) (limits .curves) && leb (relationCount s) (limits .relations)
     && eqb (sizeOf (pointCount s) (curveCount s) (relationCount s)) (length s)) 3
-    (rule (leb 1 (nextAt s)) 4 rest))))
+    (guardNumber (leb 1 (nextAt s)) 4 rest))))
 
 -- ---- the tables
 
@@ -90,14 +90,14 @@ imageFault s = headFault s (recordsFault s)
 
 -- ---- reading
 
-pub data Outcome : Type 0 where
-  refused : ℕ → Outcome
-  accepted : Drawing → Outcome
+pub data ParseResult : Type 0 where
+  refused : ℕ → ParseResult
+  accepted : Drawing → ParseResult
 
 -- a refusal by a number above 0
-unfoldable pub verdict : ℕ → Drawing → Outcome
-verdict zero d = accepted d
-verdict (suc n) d = refused (suc n)
+unfoldable pub resultOf : ℕ → Drawing → ParseResult
+resultOf zero d = accepted d
+resultOf (suc n) d = refused (suc n)
 
-abbrev pub parse : List ℕ → Outcome
-parse s = verdict (imageFault s) (drawingOf s)
+abbrev pub parse : List ℕ → ParseResult
+parse s = resultOf (imageFault s) (drawingOf s)

@@ -4,4 +4,4 @@ pub mod Stored
 pub mod Encode
 pub mod Message
 pub mod Decode
-pub mod Tested
+pub mod Contracts

@@ -6,7 +6,7 @@ use mathlib.Core.List.{List, _++_}
 use lib.ListN.{length}
 use lib.Dec.{leb, eqb}
 use Rattle.big_endian.specs.Fields.{field, bytes, over}
-use Rattle.sketch.specs.Lists.{pick, rule}
+use Rattle.sketch.specs.Lists.{ite, guardNumber}
 use Rattle.image.specs.declared.Operation.{Operation}
 use Rattle.image.specs.declared.Operation.the-variants.{Trim, Split, Extend}
 use Rattle.image.specs.declared.Message.{Message}
@@ -19,14 +19,14 @@ version = 1
 -- too short for a version, the version, the rest of the length, then an edit number from 1 and a known operation
 unfoldable pub messageFault : List ℕ → ℕ
 messageFault s =
-    rule (leb 5 (length s)) 1
-    (rule (eqb (field s 4 1) version) 2
-    (rule (eqb (length s) 30 && eqb (field s 0 4) 26) 1
-    (rule (leb 1 (field s 5 4) && leb 1 (field s 9 1) && leb (field s 9 1) 3) 6 0)))
+    guardNumber (leb 5 (length s)) 1
+    (guardNumber (eqb (field s 4 1) version) 2
+    (guardNumber (eqb (length s) 30 && eqb (field s 0 4) 26) 1
+    (guardNumber (leb 1 (field s 5 4) && leb 1 (field s 9 1) && leb (field s 9 1) 3) 6 0)))
 
 -- the operation by its byte
 unfoldable pub operationOf : ℕ → Operation
-operationOf b = pick (eqb b 1) Trim (pick (eqb b 2) Split Extend)
+operationOf b = ite (eqb b 1) Trim (ite (eqb b 2) Split Extend)
 
 unfoldable pub operationByte : Operation → ℕ
 operationByte Trim = 1
@@ -37,12 +37,12 @@ operationByte Extend = 3
 abbrev pub messageOf : List ℕ → Message
 messageOf s = record { number = field s 5 4; operation = operationOf (field s 9 1); curve = field s 10 4; x = field s 14 8; y = field s 22 8 }
 
-unfoldable pub verdict : ℕ → Message → MessageRead
-verdict zero m = Accepted m
-verdict (suc n) m = Refused (suc n)
+unfoldable pub resultOf : ℕ → Message → MessageRead
+resultOf zero m = Accepted m
+resultOf (suc n) m = Refused (suc n)
 
 abbrev pub parse : List ℕ → MessageRead
-parse s = verdict (messageFault s) (messageOf s)
+parse s = resultOf (messageFault s) (messageOf s)
 
 unfoldable pub encode : Message → List ℕ
 encode m =
@@ -51,8 +51,8 @@ encode m =
 
 -- a write: a message that no bytes give, its number being 0, is refused as its bytes would be, then a buffer that is too short by 25
 abbrev pub writeFault : Message → ℕ → ℕ
-writeFault m room = rule (leb 1 (m .number)) 6 (rule (leb 30 room) 25 0)
+writeFault m room = guardNumber (leb 1 (m .number)) 6 (guardNumber (leb 30 room) 25 0)
 
-pub record Written (m : Message) (before later : List ℕ) (r : ℕ) : Type 0 where
+pub record MessageWritten (m : Message) (before later : List ℕ) (r : ℕ) : Type 0 where
   pub number : r ≡ writeFault m (length before)
-  pub buffer : later ≡ pick (eqb (writeFault m (length before)) 0) (over before 0 (encode m)) before
+  pub buffer : later ≡ ite (eqb (writeFault m (length before)) 0) (over before 0 (encode m)) before

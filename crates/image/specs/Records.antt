@@ -6,7 +6,7 @@ use lib.ListN.{getD, drop}
 use lib.Dec.{leb, eqb}
 use lib.Ieee.{Float, ofBits, binary64}
 use Rattle.big_endian.specs.Fields.{field}
-use Rattle.sketch.specs.Lists.{pick, every}
+use Rattle.sketch.specs.Lists.{ite, every}
 use Rattle.sketch.specs.declared.Point.{Point}
 use Rattle.sketch.specs.declared.Curve.{Curve}
 use Rattle.sketch.specs.declared.CurveKind.{CurveKind}
@@ -39,7 +39,7 @@ slotsOf r = idsAt r 7 8
 
 -- how many slots a kind uses: a line 2, an arc 3, a circle 1, a Bézier curve one more than its degree, a conic 3
 unfoldable pub usedSlots : ℕ → ℕ → ℕ
-usedSlots kind degree = pick (eqb kind 1) 2 (pick (eqb kind 2) 3 (pick (eqb kind 3) 1 (pick (eqb kind 4) (suc degree) 3)))
+usedSlots kind degree = ite (eqb kind 1) 2 (ite (eqb kind 2) 3 (ite (eqb kind 3) 1 (ite (eqb kind 4) (suc degree) 3)))
 
 -- a known kind, known flags, and zero where the kind has no degree, no number, no further slot
 unfoldable pub curveFields : ℕ → ℕ → ℕ → List ℕ → ℕ → Bool
@@ -53,10 +53,10 @@ curveForm r = curveFields (field r 4 1) (field r 5 1) (field r 6 1) (slotsOf r) 
 -- the kind by its byte
 unfoldable pub kindOf : ℕ → ℕ → List ℕ → Float → CurveKind
 kindOf kind degree s v =
-    pick (eqb kind 1) (Line (getD s 0 0) (getD s 1 0))
-    (pick (eqb kind 2) (Arc (getD s 0 0) (getD s 1 0) (getD s 2 0))
-    (pick (eqb kind 3) (Circle (getD s 0 0) v)
-    (pick (eqb kind 4) (Bezier degree)
+    ite (eqb kind 1) (Line (getD s 0 0) (getD s 1 0))
+    (ite (eqb kind 2) (Arc (getD s 0 0) (getD s 1 0) (getD s 2 0))
+    (ite (eqb kind 3) (Circle (getD s 0 0) v)
+    (ite (eqb kind 4) (Bezier degree)
     (Conic (getD s 0 0) (getD s 1 0) (getD s 2 0) v))))
 
 abbrev pub noSlots : List ℕ
@@ -71,7 +71,7 @@ curveOf r =
       centerline = eqb (field r 5 1 / 2 % 2) 1;
       infinite = eqb (field r 5 1 / 4 % 2) 1;
       kind = kindOf (field r 4 1) (field r 6 1) (slotsOf r) (floatAt r 39);
-      slots = pick (eqb (field r 4 1) 4) (slotsOf r) noSlots;
+      slots = ite (eqb (field r 4 1) 4) (slotsOf r) noSlots;
     }
 
 -- ---- a relation, 17 bytes: kind, two ids of 4, value 8
@@ -94,14 +94,14 @@ relationForm r = relationFields (field r 0 1) (field r 5 4) (field r 9 8)
 -- the relation by its kind's byte
 unfoldable pub relationBy : ℕ → ℕ → ℕ → Float → Relation
 relationBy kind a b v =
-    pick (eqb kind 1) (Coincident a b)
-    (pick (eqb kind 2) (PointOnCurve a b)
-    (pick (eqb kind 3) (Collinear a b)
-    (pick (eqb kind 4) (Equal a b)
-    (pick (eqb kind 5) (Length a v)
-    (pick (eqb kind 6) (Distance a b v)
-    (pick (eqb kind 7) (Midpoint a b)
-    (pick (eqb kind 8) (ArcLength a v)
+    ite (eqb kind 1) (Coincident a b)
+    (ite (eqb kind 2) (PointOnCurve a b)
+    (ite (eqb kind 3) (Collinear a b)
+    (ite (eqb kind 4) (Equal a b)
+    (ite (eqb kind 5) (Length a v)
+    (ite (eqb kind 6) (Distance a b v)
+    (ite (eqb kind 7) (Midpoint a b)
+    (ite (eqb kind 8) (ArcLength a v)
     (ArcSweep a v))))))))
 
 abbrev pub relationOf : List ℕ → Relation

@@ -1,11 +1,11 @@
 // The test of an image: the number of the first rule that it breaks, found in its bytes. No table is made for it.
 use crate::IMAGE_VERSION;
-use crate::tests::curve_good;
-use crate::tests::curve_sort;
-use crate::tests::curve_sound;
-use crate::tests::point_good;
-use crate::tests::relation_good;
-use crate::tests::relation_sound;
+use crate::checks::curve_good;
+use crate::checks::curve_sort;
+use crate::checks::curve_sound;
+use crate::checks::point_good;
+use crate::checks::relation_good;
+use crate::checks::relation_sound;
 use big_endian::get1;
 use big_endian::get2;
 use big_endian::get4;
@@ -16,7 +16,7 @@ ghost use mathlib.Core.List.{map};
 ghost use lib.ListN.{length};
 ghost use Rattle.sketch.specs.Lookup.{Ascends};
 ghost use Rattle.image.specs.Image.{headFault, imageFault, rowsAt, pointRows, rowId};
-ghost use Rattle.image.specs.Tested.{PointsTested, CurvesTested, SortsFilled, relationsTested, shapesAfter};
+ghost use Rattle.image.specs.Contracts.{PointsTested, CurvesTested, SortsFilled, relationsTested, shapesAfter};
 
 // The number of the first rule that an image's header breaks, 0 for none.
 fn head_fault(s: &[u8]) -> u8

@@ -1,9 +1,9 @@
 // Images of sketches and edit messages: bytes read and written.
+mod checks;
 mod faults;
 mod messages;
 mod reader;
 mod records;
-mod tests;
 mod writer;
 
 ghost use mathlib.Core.Path.{_≡_};

@@ -10,7 +10,7 @@ use big_endian::put1;
 use big_endian::put4;
 use big_endian::put8;
 ghost use mathlib.Core.Path.{_≡_};
-ghost use Rattle.image.specs.Message.{operationOf, operationByte, parse, Written};
+ghost use Rattle.image.specs.Message.{operationOf, operationByte, parse, MessageWritten};
 
 // The operation that a byte means. Readers turn other bytes away before they ask.
 pub fn operation_of(byte: u8) -> Operation
@@ -74,7 +74,7 @@ pub fn read_message(s: &[u8]) -> MessageRead
 // Writes a message to the buffer's front and answers 0; or answers 6 for the number 0, or 25 for a buffer under 30
 // bytes, and leaves the buffer.
 pub fn write_message(m: Message, buf: &mut [u8]) -> u8
-    ensures { λ r. ⌜ Written m (now (buf .entry)) (now (buf .exit)) r ⌝ }
+    ensures { λ r. ⌜ MessageWritten m (now (buf .entry)) (now (buf .exit)) r ⌝ }
 {
     if m.number < 1 {
         return 6;

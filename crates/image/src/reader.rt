@@ -23,7 +23,7 @@ ghost use Rattle.sketch.specs.Lists.{every};
 ghost use Rattle.sketch.specs.Valid.{sketchFault};
 ghost use Rattle.image.specs.Records.{pointOf, curveOf, relationOf};
 ghost use Rattle.image.specs.Image.{imageFault, rowsAt, drawingOf};
-ghost use Rattle.image.specs.Decode.{plainPoint, plainCurve, plainRelation, Answered};
+ghost use Rattle.image.specs.Decode.{plainPoint, plainCurve, plainRelation, ReadAnswer};
 
 fn no_points() -> [Point; 512]
     ensures { λ r. ⌜ length r ≡ 512 ⌝ }
@@ -111,7 +111,7 @@ fn relations_at(s: &[u8], from: usize, n: usize) -> [RelationSlot; 256]
 }
 
 // The sketch that a good image spells.
-fn spell(s: &[u8]) -> Sketch
+fn decode_sketch(s: &[u8]) -> Sketch
     requires { ⌜ imageFault (now s) ≡ 0 ⌝ }
     ensures { λ r. ⌜ (view r ≡ drawingOf (now (s .entry))) × (sketchFault r ≡ 0) ⌝ }
 {
@@ -157,12 +157,12 @@ fn refuse(number: u8) -> ImageRead
 // Reads an image: its sketch, or the number of the first rule that it breaks, with an empty sketch. The bytes are tested
 // first, and tables made of good ones only: a refusal costs no table, and no table is copied to be tested.
 pub fn read(s: &[u8]) -> ImageRead
-    ensures { λ r. ⌜ Answered (now (s .entry)) r ⌝ }
+    ensures { λ r. ⌜ ReadAnswer (now (s .entry)) r ⌝ }
 {
     let fault = image_fault(s);
     if fault != 0 {
         return refuse(fault);
     }
-    let sketch = spell(s);
+    let sketch = decode_sketch(s);
     ImageRead { sketch, refusal: 0 }
 }

@@ -9,7 +9,7 @@ use sketch::Relation;
 ghost use mathlib.Core.Path.{_≡_};
 ghost use mathlib.Core.Bool.{true};
 ghost use lib.Dec.{eqb};
-ghost use Rattle.sketch.specs.Lists.{pick};
+ghost use Rattle.sketch.specs.Lists.{ite};
 ghost use Rattle.image.specs.Records.{slotsOf, kindOf, noSlots, relationBy, pointOf, curveOf, relationOf};
 ghost use Rattle.image.specs.Decode.{plainPoint, plainCurve, plainRelation};
 
@@ -55,7 +55,7 @@ fn kind_of(kind: u8, degree: u8, s: [u32; 8], v: f64) -> CurveKind
 
 // Only a Bézier curve keeps the slots beside its kind.
 fn kept_slots(kind: u8, s: [u32; 8]) -> [u32; 8]
-    ensures { λ r. ⌜ r ≡ pick (eqb kind 4) s noSlots ⌝ }
+    ensures { λ r. ⌜ r ≡ ite (eqb kind 4) s noSlots ⌝ }
 {
     if kind == 4 {
         return s;

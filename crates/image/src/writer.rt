@@ -16,10 +16,10 @@ ghost use mathlib.Core.List.{map};
 ghost use Prim.Native.Nat.{_+_, _*_, _≤_};
 ghost use lib.ListN.{length, take};
 ghost use Rattle.big_endian.specs.Fields.{bytes, over};
-ghost use Rattle.sketch.specs.Lists.{every, spread};
+ghost use Rattle.sketch.specs.Lists.{every, concatMap};
 ghost use Rattle.sketch.specs.Valid.{okPoint, okCurve, okNumber, okRelation};
 ghost use Rattle.image.specs.Encode as E;
-ghost use Rattle.image.specs.Encode.{kindByte, degreeOf, numberBits, slotIds, flagByte, relationByte, firstId, secondId, valueBits, encodePoint, encodeCurve, encodeRelation, Written};
+ghost use Rattle.image.specs.Encode.{kindByte, degreeOf, numberBits, slotIds, flagByte, relationByte, firstId, secondId, valueBits, encodePoint, encodeCurve, encodeRelation, ImageWritten};
 
 fn bit(flag: bool) -> u64
     ensures { λ r. ⌜ (r ≡ E.bit flag) × (r ≤ 1) ⌝ }
@@ -94,7 +94,7 @@ fn flag_byte(c: Curve) -> u64
 
 fn write_slots(buf: &mut [u8], at: usize, s: [u32; 8])
     requires { ⌜ at + 32 ≤ length (now buf) ⌝ }
-    ensures { λ r. ⌜ now (buf .exit) ≡ over (now (buf .entry)) at (spread (bytes 4) s) ⌝ }
+    ensures { λ r. ⌜ now (buf .exit) ≡ over (now (buf .entry)) at (concatMap (bytes 4) s) ⌝ }
 {
     let mut i: usize = 0;
     while i < 8 {
@@ -194,7 +194,7 @@ fn write_relation(buf: &mut [u8], at: usize, r: Relation)
 
 fn write_points(buf: &mut [u8], from: usize, points: [Point; 512], n: usize)
     requires { ⌜ (n ≤ 512) × (from + n * 21 ≤ length (now buf)) × (every okPoint (take n points) ≡ true) ⌝ }
-    ensures { λ r. ⌜ now (buf .exit) ≡ over (now (buf .entry)) from (spread encodePoint (take n points)) ⌝ }
+    ensures { λ r. ⌜ now (buf .exit) ≡ over (now (buf .entry)) from (concatMap encodePoint (take n points)) ⌝ }
 {
     let mut i: usize = 0;
     while i < n {
@@ -206,7 +206,7 @@ fn write_points(buf: &mut [u8], from: usize, points: [Point; 512], n: usize)
 
 fn write_curves(buf: &mut [u8], from: usize, curves: [Curve; 128], n: usize)
     requires { ⌜ (n ≤ 128) × (from + n * 47 ≤ length (now buf)) × (every okCurve (take n curves) ≡ true) ⌝ }
-    ensures { λ r. ⌜ (now (buf .exit) ≡ over (now (buf .entry)) from (spread encodeCurve (take n curves))) × (length (spread encodeCurve (take n curves)) ≡ n * 47) ⌝ }
+    ensures { λ r. ⌜ (now (buf .exit) ≡ over (now (buf .entry)) from (concatMap encodeCurve (take n curves))) × (length (concatMap encodeCurve (take n curves)) ≡ n * 47) ⌝ }
 {
     let mut i: usize = 0;
     while i < n {
@@ -218,7 +218,7 @@ fn write_curves(buf: &mut [u8], from: usize, curves: [Curve; 128], n: usize)
 
 fn write_relations(buf: &mut [u8], from: usize, relations: [RelationSlot; 256], n: usize)
     requires { ⌜ (n ≤ 256) × (from + n * 17 ≤ length (now buf)) × (every okRelation (map (λ s. s .relation) (take n relations)) ≡ true) ⌝ }
-    ensures { λ r. ⌜ now (buf .exit) ≡ over (now (buf .entry)) from (spread encodeRelation (map (λ s. s .relation) (take n relations))) ⌝ }
+    ensures { λ r. ⌜ now (buf .exit) ≡ over (now (buf .entry)) from (concatMap encodeRelation (map (λ s. s .relation) (take n relations))) ⌝ }
 {
     let mut i: usize = 0;
     while i < n {
@@ -244,7 +244,7 @@ fn write_header(buf: &mut [u8], next: u32, np: usize, nc: usize, nr: usize)
 // Writes a sketch's image to the buffer's front and answers 0; or answers 3, 4 or 5 for a sketch that no image gives,
 // or 25 for a buffer that is too short, and leaves the buffer.
 pub fn write(sk: Sketch, buf: &mut [u8]) -> u8
-    ensures { λ r. ⌜ Written sk (now (buf .entry)) (now (buf .exit)) r ⌝ }
+    ensures { λ r. ⌜ ImageWritten sk (now (buf .entry)) (now (buf .exit)) r ⌝ }
 {
     let fault = sketch::fault(sk);
     if fault != 0 {

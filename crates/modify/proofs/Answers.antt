@@ -11,29 +11,29 @@ use Rattle.shape.specs.declared.Shape.{Shape}
 use Rattle.shape.specs.Measures.{isFull, point}
 use Rattle.sketch.specs.declared.Curve.{Curve}
 use Rattle.sketch.specs.declared.Sketch.{Sketch}
-use Rattle.sketch.specs.Lists.{pick}
+use Rattle.sketch.specs.Lists.{ite}
 use Rattle.sketch.specs.Drawing.{Drawing, view, limits, curveIn}
 use Rattle.sketch.specs.Valid.{okCoordinate, sketchFault}
 use Rattle.sketch.proofs.Sketches.{sketch-valid, valid-sketch}
 use Rattle.image.specs.declared.Operation.{Operation}
 use Rattle.image.specs.declared.Operation.the-variants.{Trim, Split, Extend}
-use Rattle.placed.specs.Placed.{shapeOf}
+use Rattle.sketch_geometry.specs.Geometry.{shapeOf}
 use Rattle.relations.specs.Met.{allMet}
 use Rattle.cuts.specs.declared.Cut.{Cut}
 use Rattle.cuts.specs.Bracket.{bracket}
-use Rattle.carry.specs.declared.Plan.{Plan}
-use Rattle.carry.specs.declared.Plan.the-variants as P
-use Rattle.carry.specs.declared.Edited.{Edited}
-use Rattle.carry.specs.Outcome.{refused, accepted, need}
-use Rattle.carry.specs.Tables.{okPlace}
-use Rattle.carry.specs.Suited.{Suited, outcomeOf, targetOf, CarriedOut}
-use Rattle.carry.proofs.Tables.{look-some}
-use Rattle.modify.specs.declared.Choice.{Choice}
-use Rattle.modify.specs.declared.Choice.the-variants.{Refused, Chosen}
+use Rattle.edit_plan.specs.declared.Plan.{Plan}
+use Rattle.edit_plan.specs.declared.Plan.the-variants as P
+use Rattle.edit_plan.specs.declared.Edited.{Edited}
+use Rattle.edit_plan.specs.Outcome.{refused, accepted, guard}
+use Rattle.edit_plan.specs.Tables.{okPosition}
+use Rattle.edit_plan.specs.Suited.{Suited, outcomeOf, targetOf, PlanApplied}
+use Rattle.edit_plan.proofs.Tables.{look-some}
+use Rattle.modify.specs.declared.PlanResult.{PlanResult}
+use Rattle.modify.specs.declared.PlanResult.the-variants.{Refused, Accepted}
 use Rattle.modify.specs.declared.Target.{Target}
-use Rattle.modify.specs.Choose.{unless, cutsOf, pickedAt, trimPlan, splitFull, atEnd, splitPlan}
-use Rattle.modify.specs.Edits.{isCircle, isFullArc, noFreeform, trimCurve, splitCurve, onCurve, onFound, decided, editOf, editSketch, Answered}
-use Rattle.modify.specs.Told.{Sought, Begun, Tested, isExtend, isSplit}
+use Rattle.modify.specs.Planning.{guardPlan, cutsOf, paramOfPick, trimPlan, splitFull, atEnd, splitPlan}
+use Rattle.modify.specs.Edits.{isCircle, isFullArc, noFreeform, trimCurve, splitCurve, planOnCurve, planOnFound, applyPlanned, editOf, editSketch, EditAnswer}
+use Rattle.modify.specs.Contracts.{CurveIndex, TargetFound, TargetTested, isExtend, isSplit}
 use Rattle.modify.proofs.Suits.{trim-chosen, split-chosen}
 use Rattle.modify.proofs.Planned.{edit-valid}
 
@@ -41,34 +41,34 @@ use Rattle.modify.proofs.Planned.{edit-valid}
 
 module _ (s : Sketch) (id : ℕ) (p : Vec2) where
   pub turned-fault : {n : ℕ} → n ≡ sketchFault s → (n ≡ 0 → ⊥) → (op : Operation) → editSketch op s id p ≡ refused n
-  unfolding need
+  unfolding guard
   turned-fault {n} e h op = rw (← e, ne-eqb n 0 h)
 
   module _ (v : sketchFault s ≡ 0) where
-    turned-pick : okPlace p ≡ false → (op : Operation) → editSketch op s id p ≡ refused 9
-    unfolding need unless decided
+    turned-pick : okPosition p ≡ false → (op : Operation) → editSketch op s id p ≡ refused 9
+    unfolding guard guardPlan applyPlanned
     turned-pick h op = rw (v, h)
 
-    turned-curve : okPlace p ≡ true → curveIn (view s .curves) id ≡ none → (op : Operation) → editSketch op s id p ≡ refused 8
-    unfolding need unless decided onFound
+    turned-curve : okPosition p ≡ true → curveIn (view s .curves) id ≡ none → (op : Operation) → editSketch op s id p ≡ refused 8
+    unfolding guard guardPlan applyPlanned planOnFound
     turned-curve h e op = rw (v, h, e)
 
-  pub test-pick : {n k : ℕ} → n ≡ sketchFault s → n ≡ 0 → okPlace p ≡ false → Tested s id p (record { refusal = 9; place = k })
+  pub test-pick : {n k : ℕ} → n ≡ sketchFault s → n ≡ 0 → okPosition p ≡ false → TargetTested s id p (record { refusal = 9; place = k })
   test-pick e z h = record { passed = λ q. absurd (omega arith); turned = λ q op. turned-pick (sym e ∙ z) h op }
 
-  pub test-curve : {n k : ℕ} → n ≡ sketchFault s → n ≡ 0 → okPlace p ≡ true → Sought (s .curves) (s .ncurves) id k → s .ncurves ≤ k → Tested s id p (record { refusal = 8; place = k })
+  pub test-curve : {n k : ℕ} → n ≡ sketchFault s → n ≡ 0 → okPosition p ≡ true → CurveIndex (s .curves) (s .ncurves) id k → s .ncurves ≤ k → TargetTested s id p (record { refusal = 8; place = k })
   test-curve e z h w l = record { passed = λ q. absurd (omega arith); turned = λ q op. turned-curve (sym e ∙ z) h (w .nowhere l) op }
 
-  pub test-passed : {n k : ℕ} → n ≡ sketchFault s → n ≡ 0 → okPlace p ≡ true → Sought (s .curves) (s .ncurves) id k → k < s .ncurves → Tested s id p (record { refusal = 0; place = k })
+  pub test-passed : {n k : ℕ} → n ≡ sketchFault s → n ≡ 0 → okPosition p ≡ true → CurveIndex (s .curves) (s .ncurves) id k → k < s .ncurves → TargetTested s id p (record { refusal = 0; place = k })
   test-passed e z h w l = record { passed = λ q. record { valid = sym e ∙ z; picked = h; place = l; found = w .here l }; turned = λ q. absurd (q refl) }
 
 -- ---- refusals
 
 module _ (op : Operation) (s : Sketch) (t : ℕ) (p : Vec2) where
-  pub answered-refused : {r : Edited} {n : ℕ} → (op ≡ Extend → n ≤ 12) → r .sketch ≡ s → r .refusal ≡ n → (n ≡ 0 → ⊥) → editSketch op s t p ≡ refused n → Answered op s t p r
+  pub answered-refused : {r : Edited} {n : ℕ} → (op ≡ Extend → n ≤ 12) → r .sketch ≡ s → r .refusal ≡ n → (n ≡ 0 → ⊥) → editSketch op s t p ≡ refused n → EditAnswer op s t p r
   answered-refused {r} {n} low e f h o =
       record {
-        outcome = rw f (ap (λ b. pick b (accepted (view (r .sketch)) (r .removed)) (refused n)) (ne-eqb n 0 h)) ∙ sym o;
+        outcome = rw f (ap (λ b. ite b (accepted (view (r .sketch)) (r .removed)) (refused n)) (ne-eqb n 0 h)) ∙ sym o;
         kept = λ z. e;
         valid = λ z. absurd (h (sym f ∙ z));
         unmet-before = λ z q. absurd (omega (arith, low z, f, q));
@@ -76,8 +76,8 @@ module _ (op : Operation) (s : Sketch) (t : ℕ) (p : Vec2) where
       }
 
 -- a test that turns away, or what comes after it
-unless-number : (b : Bool) (m : ℕ) (o : Choice) (n : ℕ) → (m ≡ 0 → ⊥) → (o ≡ Refused n → n ≡ 0 → ⊥) → unless b m o ≡ Refused n → n ≡ 0 → ⊥
-unfolding unless
+unless-number : (b : Bool) (m : ℕ) (o : PlanResult) (n : ℕ) → (m ≡ 0 → ⊥) → (o ≡ Refused n → n ≡ 0 → ⊥) → guardPlan b m o ≡ Refused n → n ≡ 0 → ⊥
+unfolding guardPlan
 unless-number true m o n h k e z = k e z
 unless-number false m o n h k e z = let q : m ≡ n = cc in h (q ∙ z)
 
@@ -86,8 +86,8 @@ module _ (d : Drawing) (p : Vec2) (c : Curve) where
   unfolding trimCurve
   trim-number none n e z = let q : 10 ≡ n = cc in omega arith
   trim-number (some sh) n e z =
-      unless-number (not (c .infinite || isFullArc c sh)) 10 (unless (noFreeform d) 11 (Chosen (trimPlan d (c .id) sh p))) n (λ z. omega arith)
-      (unless-number (noFreeform d) 11 (Chosen (trimPlan d (c .id) sh p)) n (λ z. omega arith) (λ q y. let u : _≡_ {A = ℕ} 0 1 = cc in omega arith)) e z
+      unless-number (not (c .infinite || isFullArc c sh)) 10 (guardPlan (noFreeform d) 11 (Accepted (trimPlan d (c .id) sh p))) n (λ z. omega arith)
+      (unless-number (noFreeform d) 11 (Accepted (trimPlan d (c .id) sh p)) n (λ z. omega arith) (λ q y. let u : _≡_ {A = ℕ} 0 1 = cc in omega arith)) e z
 
   full-number : (sh : Shape) (cuts : List Cut) (n : ℕ) → splitFull sh cuts ≡ Refused n → n ≡ 0 → ⊥
   unfolding splitFull
@@ -97,10 +97,10 @@ module _ (d : Drawing) (p : Vec2) (c : Curve) where
 
   plan-number : (sh : Shape) (n : ℕ) → splitPlan d (c .id) sh p ≡ Refused n → n ≡ 0 → ⊥
   unfolding splitPlan
-  plan-number sh n e = go (isFull sh) (atEnd sh (pickedAt sh p)) e
+  plan-number sh n e = go (isFull sh) (atEnd sh (paramOfPick sh p)) e
     where
-      go : (u v : Bool) → cond u (splitFull sh (bracket sh (pickedAt sh p) (cutsOf d (c .id) sh))) (cond v (Refused 12) (Chosen (P.Divide (point sh (pickedAt sh p))))) ≡ Refused n → n ≡ 0 → ⊥
-      go true v e z = full-number sh (bracket sh (pickedAt sh p) (cutsOf d (c .id) sh)) n e z
+      go : (u v : Bool) → cond u (splitFull sh (bracket sh (paramOfPick sh p) (cutsOf d (c .id) sh))) (cond v (Refused 12) (Accepted (P.Divide (point sh (paramOfPick sh p))))) ≡ Refused n → n ≡ 0 → ⊥
+      go true v e z = full-number sh (bracket sh (paramOfPick sh p) (cutsOf d (c .id) sh)) n e z
       go false true e z = let q : 12 ≡ n = cc in omega arith
       go false false e z = let q : _≡_ {A = ℕ} 0 1 = cc in omega arith
 
@@ -108,19 +108,19 @@ module _ (d : Drawing) (p : Vec2) (c : Curve) where
   unfolding splitCurve
   split-number none n e z = let q : 10 ≡ n = cc in omega arith
   split-number (some sh) n e z =
-      unless-number (not (isFullArc c sh)) 10 (unless (not (isCircle (c .kind)) || noFreeform d) 11 (splitPlan d (c .id) sh p)) n (λ z. omega arith)
+      unless-number (not (isFullArc c sh)) 10 (guardPlan (not (isCircle (c .kind)) || noFreeform d) 11 (splitPlan d (c .id) sh p)) n (λ z. omega arith)
       (unless-number (not (isCircle (c .kind)) || noFreeform d) 11 (splitPlan d (c .id) sh p) n (λ z. omega arith) (plan-number sh n)) e z
 
   abbrev op : Bool → Operation
   op splits = cond splits Split Trim
 
-  curve-number : (splits : Bool) (n : ℕ) → onCurve (op splits) d p c ≡ Refused n → n ≡ 0 → ⊥
-  unfolding onCurve
+  curve-number : (splits : Bool) (n : ℕ) → planOnCurve (op splits) d p c ≡ Refused n → n ≡ 0 → ⊥
+  unfolding planOnCurve
   curve-number true n e = split-number (shapeOf (d .points) (c .kind)) n e
   curve-number false n e = trim-number (shapeOf (d .points) (c .kind)) n e
 
-  curve-suited : (splits : Bool) (plan : Plan) → onCurve (op splits) d p c ≡ Chosen plan → Suited d c plan
-  unfolding onCurve
+  curve-suited : (splits : Bool) (plan : Plan) → planOnCurve (op splits) d p c ≡ Accepted plan → Suited d c plan
+  unfolding planOnCurve
   curve-suited true plan e = split-chosen d p c plan e
   curve-suited false plan e = trim-chosen d p c plan e
 
@@ -130,38 +130,38 @@ not-extend false e = let z : _≡_ {A = ℕ} 0 1 = cc in omega arith
 
 -- ---- once its curve was found
 
-module _ (splits : Bool) (s : Sketch) (k : ℕ) (p : Vec2) (v : sketchFault s ≡ 0) (l : k < s .ncurves) (q : okPlace p ≡ true) (found : curveIn (view s .curves) (targetOf s k .id) ≡ some (targetOf s k)) where
+module _ (splits : Bool) (s : Sketch) (k : ℕ) (p : Vec2) (v : sketchFault s ≡ 0) (l : k < s .ncurves) (q : okPosition p ≡ true) (found : curveIn (view s .curves) (targetOf s k .id) ≡ some (targetOf s k)) where
   abbrev c : Curve
   c = targetOf s k
 
   abbrev it : Operation
   it = cond splits Split Trim
 
-  sketch-is : editSketch it s (c .id) p ≡ decided allMet limits (view s) (c .id) (onCurve it (view s) p c)
-  unfolding need unless onFound
+  sketch-is : editSketch it s (c .id) p ≡ applyPlanned allMet limits (view s) (c .id) (planOnCurve it (view s) p c)
+  unfolding guard guardPlan planOnFound
   sketch-is = rw (v, q, found)
 
-  pub edit-turned : {r : Edited} {n : ℕ} {o : Choice} → o ≡ onCurve it (view s) p c → o ≡ Refused n → r .sketch ≡ s → r .refusal ≡ n → Answered it s (c .id) p r
-  unfolding decided
+  pub edit-turned : {r : Edited} {n : ℕ} {o : PlanResult} → o ≡ planOnCurve it (view s) p c → o ≡ Refused n → r .sketch ≡ s → r .refusal ≡ n → EditAnswer it s (c .id) p r
+  unfolding applyPlanned
   edit-turned {r} {n} {o} e f g h =
-      let u : onCurve it (view s) p c ≡ Refused n = sym e ∙ f in
-      answered-refused it s (c .id) p (λ z. absurd (not-extend splits z)) g h (curve-number (view s) p c splits n u) (sketch-is ∙ ap (decided allMet limits (view s) (c .id)) u)
+      let u : planOnCurve it (view s) p c ≡ Refused n = sym e ∙ f in
+      answered-refused it s (c .id) p (λ z. absurd (not-extend splits z)) g h (curve-number (view s) p c splits n u) (sketch-is ∙ ap (applyPlanned allMet limits (view s) (c .id)) u)
 
-  pub edit-suited : {plan : Plan} {o : Choice} → o ≡ onCurve it (view s) p c → o ≡ Chosen plan → Suited (view s) c plan
+  pub edit-suited : {plan : Plan} {o : PlanResult} → o ≡ planOnCurve it (view s) p c → o ≡ Accepted plan → Suited (view s) c plan
   edit-suited {plan} e f = curve-suited (view s) p c splits plan (sym e ∙ f)
 
-  pub edit-carried : {plan : Plan} {o : Choice} {r : Edited} → o ≡ onCurve it (view s) p c → o ≡ Chosen plan → CarriedOut s k plan r → Answered it s (c .id) p r
-  unfolding decided need
-  edit-carried {plan} {o} {r} e f w =
-      let u : onCurve it (view s) p c ≡ Chosen plan = sym e ∙ f in
-      let out : outcomeOf r ≡ editSketch it s (c .id) p = w .outcome allMet ∙ sym (sketch-is ∙ ap (decided allMet limits (view s) (c .id)) u) in
+  pub edit-applied : {plan : Plan} {o : PlanResult} {r : Edited} → o ≡ planOnCurve it (view s) p c → o ≡ Accepted plan → PlanApplied s k plan r → EditAnswer it s (c .id) p r
+  unfolding applyPlanned guard
+  edit-applied {plan} {o} {r} e f w =
+      let u : planOnCurve it (view s) p c ≡ Accepted plan = sym e ∙ f in
+      let out : outcomeOf r ≡ editSketch it s (c .id) p = w .outcome allMet ∙ sym (sketch-is ∙ ap (applyPlanned allMet limits (view s) (c .id)) u) in
       let plain : editSketch it s (c .id) p ≡ editOf it limits (view s) (c .id) p = rw v in
       record {
         outcome = out;
         kept = w .kept;
         valid = λ z.
             let a : editOf it limits (view s) (c .id) p ≡ accepted (view (r .sketch)) (r .removed) =
-            sym plain ∙ sym out ∙ ap (λ b. pick b (accepted (view (r .sketch)) (r .removed)) (refused (r .refusal))) (eq-eqb (r .refusal) 0 z) in
+            sym plain ∙ sym out ∙ ap (λ b. ite b (accepted (view (r .sketch)) (r .removed)) (refused (r .refusal))) (eq-eqb (r .refusal) 0 z) in
             valid-sketch (r .sketch) (w .sized z) (edit-valid it limits (view s) (c .id) p (view (r .sketch)) (r .removed) (sketch-valid s v .1) a);
         unmet-before = λ z. absurd (not-extend splits z);
         unmet-after = λ z. absurd (not-extend splits z);
@@ -183,16 +183,16 @@ cut-is Extend e = cc
 
 -- ---- from the tests on
 
-module _ {s : Sketch} {id : ℕ} {p : Vec2} {r : Target} (b : Begun s id p r) where
+module _ {s : Sketch} {id : ℕ} {p : Vec2} {r : Target} (b : TargetFound s id p r) where
   named : targetOf s (r .place) .id ≡ id
   named = look-some (view s .curves) id (targetOf s (r .place)) (b .found) .1
 
   pub begun-found : curveIn (view s .curves) (targetOf s (r .place) .id) ≡ some (targetOf s (r .place))
   begun-found = ap (curveIn (view s .curves)) named ∙ b .found
 
-  pub begun-answered : (op : Operation) {e : Edited} → Answered op s (targetOf s (r .place) .id) p e → Answered op s id p e
-  begun-answered op {e} a = subst (λ (i : ℕ). Answered op s i p e) named a
+  pub begun-answered : (op : Operation) {e : Edited} → EditAnswer op s (targetOf s (r .place) .id) p e → EditAnswer op s id p e
+  begun-answered op {e} a = subst (λ (i : ℕ). EditAnswer op s i p e) named a
 
 -- a test of both coordinates
-pub ok-both : (p : Vec2) {a b : Bool} → a ≡ okCoordinate (p .x) → b ≡ okCoordinate (p .y) → {o : Bool} → (a && b) ≡ o → okPlace p ≡ o
+pub ok-both : (p : Vec2) {a b : Bool} → a ≡ okCoordinate (p .x) → b ≡ okCoordinate (p .y) → {o : Bool} → (a && b) ≡ o → okPosition p ≡ o
 ok-both p e f h = rw (← e, ← f) h

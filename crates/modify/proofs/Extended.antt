@@ -18,28 +18,28 @@ use Rattle.sketch.specs.declared.CurveKind.{CurveKind}
 use Rattle.sketch.specs.declared.CurveKind.the-variants.{Line, Arc, Circle, Bezier, Conic}
 use Rattle.sketch.specs.declared.Relation.{Relation}
 use Rattle.sketch.specs.declared.Relation.the-variants.{Coincident, PointOnCurve}
-use Rattle.sketch.specs.Lists.{pick}
+use Rattle.sketch.specs.Lists.{ite}
 use Rattle.sketch.specs.Lookup.{among}
 use Rattle.sketch.specs.Drawing.{Drawing, Limits, curveIn}
 use Rattle.sketch.proofs.Bools.{never, or-left-false}
 use Rattle.image.specs.declared.Operation.the-variants.{Extend}
-use Rattle.placed.specs.Placed.{at}
+use Rattle.sketch_geometry.specs.Geometry.{positionOf}
 use Rattle.relations.specs.Met.{allMet}
-use Rattle.carry.specs.declared.Pin.{Pin}
-use Rattle.carry.specs.declared.Pin.the-variants.{On, At}
-use Rattle.carry.specs.declared.Plan.{Plan}
-use Rattle.carry.specs.declared.Plan.the-variants as P
-use Rattle.carry.specs.declared.Removed.{Removed}
-use Rattle.carry.specs.Outcome.{Outcome, refused, accepted, _then_, need}
-use Rattle.carry.specs.Tables.{okPlace, addRelation, withRelation, moved, movePoint, uses, others}
-use Rattle.carry.specs.Steps.{endsOf, endsAt, pin, nothing}
-use Rattle.carry.specs.CarryOut.{settle, extended, carried, carryAt, carryOut}
-use Rattle.carry.specs.Suited.{Held}
-use Rattle.modify.specs.declared.Choice.{Choice}
-use Rattle.modify.specs.declared.Choice.the-variants.{Refused, Chosen}
-use Rattle.modify.specs.Choose.{unless, pinTo}
-use Rattle.modify.specs.Edits.{onCurve, onFound, choose, decided, editOf}
-use Rattle.modify.specs.Extend.{Support, Search, stopped, sought, seek, moveTo, isFixed, extendEnd, extendCurve}
+use Rattle.edit_plan.specs.declared.Pin.{Pin}
+use Rattle.edit_plan.specs.declared.Pin.the-variants.{On, At}
+use Rattle.edit_plan.specs.declared.Plan.{Plan}
+use Rattle.edit_plan.specs.declared.Plan.the-variants as P
+use Rattle.edit_plan.specs.declared.Removed.{Removed}
+use Rattle.edit_plan.specs.Outcome.{Outcome, refused, accepted, _then_, guard}
+use Rattle.edit_plan.specs.Tables.{okPosition, addRelation, withRelation, moved, movePoint, uses, others}
+use Rattle.edit_plan.specs.Steps.{endsOf, endsAt, pin, nothing}
+use Rattle.edit_plan.specs.ApplyPlan.{checkMet, moveEnd, applyPlanTo, applyPlanAt, applyPlan}
+use Rattle.edit_plan.specs.Suited.{PinHolds}
+use Rattle.modify.specs.declared.PlanResult.{PlanResult}
+use Rattle.modify.specs.declared.PlanResult.the-variants.{Refused, Accepted}
+use Rattle.modify.specs.Planning.{guardPlan, pinTo}
+use Rattle.modify.specs.Edits.{planOnCurve, planOnFound, planEdit, applyPlanned, editOf}
+use Rattle.modify.specs.Extend.{Support, Search, stopped, finished, nearestHit, planMove, isFixed, extendEnd, extendCurve}
 use Rattle.modify.proofs.Suits.{unless-chosen}
 use Rattle.modify.proofs.Moves.{extend-chosen}
 
@@ -62,24 +62,24 @@ record Goes (atB : Bool) (plan : Plan) : Type 0 where
   pub is : plan ≡ P.Move atB place pin
 
 module _ (d : Drawing) (p : Vec2) (c : Curve) (plan : Plan) where
-  move-goes : (atB : Bool) (x : Search) → moveTo d atB x ≡ Chosen plan → Goes atB plan
-  unfolding moveTo
+  move-goes : (atB : Bool) (x : Search) → planMove d atB x ≡ Accepted plan → Goes atB plan
+  unfolding planMove
   move-goes atB (stopped n) h = let z : _≡_ {A = ℕ} 0 1 = cc in absurd (omega arith)
-  move-goes atB (sought none) h = let z : _≡_ {A = ℕ} 0 1 = cc in absurd (omega arith)
-  move-goes atB (sought (some b)) h =
+  move-goes atB (finished none) h = let z : _≡_ {A = ℕ} 0 1 = cc in absurd (omega arith)
+  move-goes atB (finished (some b)) h =
       let w : Pin = pinTo (d .points) (b .place) (b .by) (endsAt (curveIn (d .curves) (b .by))) in
-      let u = unless-chosen (not (b .tied)) 17 (Chosen (P.Move atB (b .place) w)) plan h in
+      let u = unless-chosen (not (b .tied)) 17 (Accepted (P.Move atB (b .place) w)) plan h in
       let q : P.Move atB (b .place) w ≡ plan = cc in
       record { place = b .place; pin = w; is = sym q }
 
   -- nothing else uses that end
-  end-goes : (s : Support) (end : ℕ) → extendEnd d (c .id) p s end ≡ Chosen plan → (among end (uses (others (c .id) (d .curves))) ≡ false) × Goes (s .atB) plan
+  end-goes : (s : Support) (end : ℕ) → extendEnd d (c .id) p s end ≡ Accepted plan → (among end (uses (others (c .id) (d .curves))) ≡ false) × Goes (s .atB) plan
   unfolding extendEnd
   end-goes s end h =
       let line = S.Line (s .a) (s .b) in
-      let x : Search = seek (d .points) s (point line (param line p)) (others (c .id) (d .curves)) none 1000000 in
+      let x : Search = nearestHit (d .points) s (point line (param line p)) (others (c .id) (d .curves)) none 1000000 in
       let used = among end (uses (others (c .id) (d .curves))) in
-      let u = unless-chosen (not (used || isFixed (d .points) end)) 14 (moveTo d (s .atB) x) plan h in
+      let u = unless-chosen (not (used || isFixed (d .points) end)) 14 (planMove d (s .atB) x) plan h in
       (or-left-false used (isFixed (d .points) end) (not-true (used || isFixed (d .points) end) (u .0)), move-goes (s .atB) x (u .1))
 
   -- of a line
@@ -88,18 +88,18 @@ module _ (d : Drawing) (p : Vec2) (c : Curve) (plan : Plan) where
     pub i : ℕ
     pub j : ℕ
     pub line : k ≡ Line i j
-    pub alone : among (pick atB j i) (uses (others (c .id) (d .curves))) ≡ false
+    pub alone : among (ite atB j i) (uses (others (c .id) (d .curves))) ≡ false
     pub goes : Goes atB plan
 
-  as-pick : (b : Bool) (i j : ℕ) → _≡_ {A = ℕ} (cond b j i) (pick b j i)
+  as-pick : (b : Bool) (i j : ℕ) → _≡_ {A = ℕ} (cond b j i) (ite b j i)
   as-pick true i j = refl
   as-pick false i j = refl
 
-  line-goes : (k : CurveKind) → extendCurve d p c k ≡ Chosen plan → LineGoes k
+  line-goes : (k : CurveKind) → extendCurve d p c k ≡ Accepted plan → LineGoes k
   unfolding extendCurve
   line-goes (Line i j) h =
-      let a = at (d .points) i in
-      let b = at (d .points) j in
+      let a = positionOf (d .points) i in
+      let b = positionOf (d .points) j in
       let atB = le (distance p b) (distance p a) in
       let s : Support = record { a = a; b = b; atB = atB } in
       let u = unless-chosen (allMet d) 13 (extendEnd d (c .id) p s (cond atB j i)) plan h in
@@ -110,18 +110,18 @@ module _ (d : Drawing) (p : Vec2) (c : Curve) (plan : Plan) where
   line-goes (Bezier n) h = let z : _≡_ {A = ℕ} 0 1 = cc in absurd (omega arith)
   line-goes (Conic i m j rho) h = let z : _≡_ {A = ℕ} 0 1 = cc in absurd (omega arith)
 
--- ---- what is carried out
+-- ---- what is applied
 
 module _ (met : Drawing → Bool) (m : Limits) (d′ : Drawing) (r : Removed) where
-  one-more : (x : Drawing) (held : Relation) → (addRelation m x held then (λ y u. settle met y)) ≡ accepted d′ r → (d′ ≡ withRelation x held) × (r ≡ nothing)
-  unfolding need settle
+  one-more : (x : Drawing) (held : Relation) → (addRelation m x held then (λ y u. checkMet met y)) ≡ accepted d′ r → (d′ ≡ withRelation x held) × (r ≡ nothing)
+  unfolding guard checkMet
   one-more x held q = last (met (withRelation x held)) (room (ltb (length (x .relations)) (m .relations)) q)
     where
-      room : (b : Bool) → (need b 22 (accepted (withRelation x held) (tt {0})) then (λ y u. settle met y)) ≡ accepted d′ r → settle met (withRelation x held) ≡ accepted d′ r
+      room : (b : Bool) → (guard b 22 (accepted (withRelation x held) (tt {0})) then (λ y u. checkMet met y)) ≡ accepted d′ r → checkMet met (withRelation x held) ≡ accepted d′ r
       room true q = q
       room false q = let z : _≡_ {A = ℕ} 0 1 = cc in absurd (omega arith)
 
-      last : (b : Bool) → need b 19 (accepted (withRelation x held) nothing) ≡ accepted d′ r → (d′ ≡ withRelation x held) × (r ≡ nothing)
+      last : (b : Bool) → guard b 19 (accepted (withRelation x held) nothing) ≡ accepted d′ r → (d′ ≡ withRelation x held) × (r ≡ nothing)
       last true q = let u : d′ ≡ withRelation x held = cc in let v : r ≡ nothing = cc in (u, v)
       last false q = let z : _≡_ {A = ℕ} 0 1 = cc in absurd (omega arith)
 
@@ -139,44 +139,44 @@ module _ (met : Drawing → Bool) (m : Limits) (d′ : Drawing) (r : Removed) wh
           told = u .1;
         }
 
-    pinned : (w : Pin) → Held d t w → (pin m (movePoint end v d) end w then (λ y u. settle met y)) ≡ accepted d′ r → Extended d d′ r
+    pinned : (w : Pin) → PinHolds d t w → (pin m (movePoint end v d) end w then (λ y u. checkMet met y)) ≡ accepted d′ r → Extended d d′ r
     unfolding pin
     pinned (On b) h q = grown (PointOnCurve end b) (one-more (movePoint end v d) (PointOnCurve end b) q)
     pinned (At b) h q =
         let x = movePoint end v d in
         let ne : eqb b end ≡ false = ne-eqb b end (λ e. never (sym alone ∙ ap (λ (y : ℕ). among y (uses (others t (d .curves)))) (sym e) ∙ h)) in
-        grown (Coincident end b) (one-more x (Coincident end b) (sym (ap (λ z. pick z (accepted x (tt {0})) (addRelation m x (Coincident end b)) then (λ y u. settle met y)) ne) ∙ q))
+        grown (Coincident end b) (one-more x (Coincident end b) (sym (ap (λ z. ite z (accepted x (tt {0})) (addRelation m x (Coincident end b)) then (λ y u. checkMet met y)) ne) ∙ q))
 
-    placed : (w : Pin) → Held d t w → need (okPlace v) 24 (pin m (movePoint end v d) end w then (λ y u. settle met y)) ≡ accepted d′ r → Extended d d′ r
-    unfolding need
-    placed w h q = go (okPlace v) q
+    placed : (w : Pin) → PinHolds d t w → guard (okPosition v) 24 (pin m (movePoint end v d) end w then (λ y u. checkMet met y)) ≡ accepted d′ r → Extended d d′ r
+    unfolding guard
+    placed w h q = go (okPosition v) q
       where
-        go : (b : Bool) → need b 24 (pin m (movePoint end v d) end w then (λ y u. settle met y)) ≡ accepted d′ r → Extended d d′ r
+        go : (b : Bool) → guard b 24 (pin m (movePoint end v d) end w then (λ y u. checkMet met y)) ≡ accepted d′ r → Extended d d′ r
         go true q = pinned w h q
         go false q = let z : _≡_ {A = ℕ} 0 1 = cc in absurd (omega arith)
 
 -- ---- the edit
 
 module _ (m : Limits) (d : Drawing) (p : Vec2) (d′ : Drawing) (r : Removed) where
-  carried-out : (c : Curve) (plan : Plan) → extendCurve d p c (c .kind) ≡ Chosen plan → carried allMet m d c plan ≡ accepted d′ r → Extended d d′ r
-  unfolding carried extended endsOf
+  carried-out : (c : Curve) (plan : Plan) → extendCurve d p c (c .kind) ≡ Accepted plan → applyPlanTo allMet m d c plan ≡ accepted d′ r → Extended d d′ r
+  unfolding applyPlanTo moveEnd endsOf
   carried-out c plan h q =
       let l = line-goes d p c plan (c .kind) h in
       let g = l .goes in
       let w = extend-chosen d c p plan h .1 in
       let e : P.Move (w .at-end) (w .place) (w .pin) ≡ P.Move (l .atB) (g .place) (g .pin) = sym (w .is) ∙ g .is in
       let same : w .pin ≡ g .pin = cc in
-      placed allMet m d′ r d (c .id) (pick (l .atB) (l .j) (l .i)) (g .place) (l .alone) (g .pin) (subst (Held d (c .id)) same (w .held))
-      (sym (ap (carried allMet m d c) (g .is) ∙ ap (λ (k : CurveKind). extended allMet m d (l .atB) (g .place) (g .pin) (endsOf k)) (l .line)) ∙ q)
+      placed allMet m d′ r d (c .id) (ite (l .atB) (l .j) (l .i)) (g .place) (l .alone) (g .pin) (subst (PinHolds d (c .id)) same (w .held))
+      (sym (ap (applyPlanTo allMet m d c) (g .is) ∙ ap (λ (k : CurveKind). moveEnd allMet m d (l .atB) (g .place) (g .pin) (endsOf k)) (l .line)) ∙ q)
 
   pub extend-moves : (t : ℕ) → editOf Extend m d t p ≡ accepted d′ r → Extended d d′ r
-  unfolding decided onFound onCurve carryAt
-  extend-moves t q = go (choose Extend d t p) refl q
+  unfolding applyPlanned planOnFound planOnCurve applyPlanAt
+  extend-moves t q = go (planEdit Extend d t p) refl q
     where
-      found : (o : Option Curve) (plan : Plan) → onFound Extend d p o ≡ Chosen plan → carryAt allMet m d plan o ≡ accepted d′ r → Extended d d′ r
+      found : (o : Option Curve) (plan : Plan) → planOnFound Extend d p o ≡ Accepted plan → applyPlanAt allMet m d plan o ≡ accepted d′ r → Extended d d′ r
       found none plan h q = let z : _≡_ {A = ℕ} 0 1 = cc in absurd (omega arith)
       found (some c) plan h q = carried-out c plan h q
 
-      go : (x : Choice) → choose Extend d t p ≡ x → decided allMet m d t x ≡ accepted d′ r → Extended d d′ r
+      go : (x : PlanResult) → planEdit Extend d t p ≡ x → applyPlanned allMet m d t x ≡ accepted d′ r → Extended d d′ r
       go (Refused n) e q = let z : _≡_ {A = ℕ} 0 1 = cc in absurd (omega arith)
-      go (Chosen plan) e q = found (curveIn (d .curves) t) plan (unless-chosen (okPlace p) 9 (onFound Extend d p (curveIn (d .curves) t)) plan e .1) q
+      go (Accepted plan) e q = found (curveIn (d .curves) t) plan (unless-chosen (okPosition p) 9 (planOnFound Extend d p (curveIn (d .curves) t)) plan e .1) q

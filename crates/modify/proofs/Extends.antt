@@ -16,7 +16,7 @@ use Rattle.sketch.specs.declared.Curve.{Curve}
 use Rattle.sketch.proofs.CurveKind as K
 use Rattle.sketch.specs.declared.Relation.the-variants.{Coincident, PointOnCurve}
 use Rattle.sketch.specs.declared.Sketch.{Sketch}
-use Rattle.sketch.specs.Lists.{pick, every}
+use Rattle.sketch.specs.Lists.{ite, every}
 use Rattle.sketch.specs.Blanks.{noPoint}
 use Rattle.sketch.specs.Drawing.{Drawing, view, limits}
 use Rattle.sketch.specs.Facts.{Sized, Valid}
@@ -24,35 +24,35 @@ use Rattle.sketch.specs.Valid.{sketchFault}
 use Rattle.sketch.proofs.Bools.{never}
 use Rattle.sketch.proofs.Sketches.{sketch-valid, valid-sketch}
 use Rattle.image.specs.declared.Operation.the-variants.{Extend}
-use Rattle.placed.specs.Columns.{PointColumns}
+use Rattle.sketch_geometry.specs.Columns.{PointColumns}
 use Rattle.relations.specs.Met.{met, allMet, failsAt, unmetAt}
 use Rattle.relations.specs.Columns.{CurveColumns}
-use Rattle.carry.specs.declared.Pin.{Pin}
-use Rattle.carry.specs.declared.Pin.the-variants.{On, At}
-use Rattle.carry.specs.declared.Plan.the-variants as P
-use Rattle.carry.specs.declared.Edited.{Edited}
-use Rattle.carry.specs.declared.Removed.{Removed}
-use Rattle.carry.specs.Outcome.{Outcome, refused, accepted, _then_, need}
-use Rattle.carry.specs.Tables.{okPlace, movePoint, withRelation}
-use Rattle.carry.specs.Steps.{pin, nothing, isLine}
-use Rattle.carry.specs.CarryOut.{settle, extended, carried, carryAt, carryOut}
-use Rattle.carry.specs.Suited.{Pinned, outcomeOf, targetOf}
-use Rattle.carry.proofs.Tables.{look-some}
+use Rattle.edit_plan.specs.declared.Pin.{Pin}
+use Rattle.edit_plan.specs.declared.Pin.the-variants.{On, At}
+use Rattle.edit_plan.specs.declared.Plan.the-variants as P
+use Rattle.edit_plan.specs.declared.Edited.{Edited}
+use Rattle.edit_plan.specs.declared.Removed.{Removed}
+use Rattle.edit_plan.specs.Outcome.{Outcome, refused, accepted, _then_, guard}
+use Rattle.edit_plan.specs.Tables.{okPosition, movePoint, withRelation}
+use Rattle.edit_plan.specs.Steps.{pin, nothing, isLine}
+use Rattle.edit_plan.specs.ApplyPlan.{checkMet, moveEnd, applyPlanTo, applyPlanAt, applyPlan}
+use Rattle.edit_plan.specs.Suited.{Pinned, outcomeOf, targetOf}
+use Rattle.edit_plan.proofs.Tables.{look-some}
 use Rattle.chains.proofs.Edits.{plan-valid}
-use Rattle.modify.specs.declared.Choice.the-variants.{Refused, Chosen}
-use Rattle.modify.specs.declared.Ending.{Ending}
-use Rattle.modify.specs.declared.Ending.the-variants as N
+use Rattle.modify.specs.declared.PlanResult.the-variants.{Refused, Accepted}
+use Rattle.modify.specs.declared.EndPlan.{EndPlan}
+use Rattle.modify.specs.declared.EndPlan.the-variants as N
 use Rattle.modify.specs.declared.Target.{Target}
-use Rattle.modify.specs.Choose.{unless}
-use Rattle.modify.specs.Edits.{onCurve, onFound, decided, editSketch, editUntested, Answered}
+use Rattle.modify.specs.Planning.{guardPlan}
+use Rattle.modify.specs.Edits.{planOnCurve, planOnFound, applyPlanned, editSketch, editUntested, EditAnswer}
 use Rattle.modify.specs.Extend.{extendCurve}
-use Rattle.modify.specs.Told.{Begun, BegunAt}
-use Rattle.modify.specs.Seek.{choiceOf, EndStands, MovedTo, Shown, Settled}
+use Rattle.modify.specs.Contracts.{TargetFound, TargetFoundAt}
+use Rattle.modify.specs.ExtendContracts.{planOf, EndInTable, MovedTo, CurveColumnsOf, MetChecked}
 use Rattle.modify.proofs.Answers.{answered-refused}
 use Rattle.modify.proofs.Moves.{extend-chosen}
 use Rattle.modify.proofs.Refusing as F
 use Rattle.modify.proofs.Refusing.{extend-number}
-use Rattle.modify.proofs.Endings.{others-than-line, not-line, unmet-line, target-found}
+use Rattle.modify.proofs.ExtendPlans.{others-than-line, not-line, unmet-line, target-found}
 use Rattle.modify.proofs.Shifts.{columns-moved}
 
 -- ---- whether the relations are met after the move
@@ -74,11 +74,11 @@ pub not-all : (d : Drawing) (k : ℕ) → unmetAt d k ≡ true → allMet d ≡ 
 not-all d k h = not-every (met (d .points) (d .curves)) (d .relations) k h
 
 module _ {s : Sketch} {e : Edited} where
-  pub settled-out : (e .refusal ≡ 0 → ⊥) → e .sketch ≡ s → Settled s e e
+  pub settled-out : (e .refusal ≡ 0 → ⊥) → e .sketch ≡ s → MetChecked s e e
   settled-out h f = record { turned = λ q. (refl, f); met = λ q. absurd (h q); unmet = λ q. absurd (h q) }
 
   module _ (z : e .refusal ≡ 0) where
-    pub settled-unmet : {r : Edited} {k : ℕ} → unmetAt (view (e .sketch)) k ≡ true → r .sketch ≡ s → r .refusal ≡ 19 → r .place ≡ k → Settled s e r
+    pub settled-unmet : {r : Edited} {k : ℕ} → unmetAt (view (e .sketch)) k ≡ true → r .sketch ≡ s → r .refusal ≡ 19 → r .place ≡ k → MetChecked s e r
     settled-unmet {r} {k} u f g p =
         record {
           turned = λ y. absurd (y z);
@@ -86,7 +86,7 @@ module _ {s : Sketch} {e : Edited} where
           unmet = λ y a. record { number = g; sketch = f; place = ap (unmetAt (view (e .sketch))) p ∙ u };
         }
 
-    pub settled-met : allMet (view (e .sketch)) ≡ true → Settled s e e
+    pub settled-met : allMet (view (e .sketch)) ≡ true → MetChecked s e e
     settled-met u = record { turned = λ y. absurd (y z); met = λ y a. refl; unmet = λ y a. never (sym a ∙ u) }
 
 -- ---- a move is refused by 24 or 22; else it alters no curve, and no point but the one
@@ -95,68 +95,68 @@ abbrev Kept : Drawing → Outcome Drawing Removed → Type 0
 Kept dr (refused n) = n ≡ 13 → ⊥
 Kept dr (accepted d′ told) = (d′ .points ≡ dr .points) × (d′ .curves ≡ dr .curves)
 
-move-keeps : (b : Bool) (dr : Drawing) (i : ℕ) (pn : Pin) → Kept dr (need b 24 (pin limits dr i pn then (λ d′ u. accepted d′ nothing)))
-unfolding need pin
+move-keeps : (b : Bool) (dr : Drawing) (i : ℕ) (pn : Pin) → Kept dr (guard b 24 (pin limits dr i pn then (λ d′ u. accepted d′ nothing)))
+unfolding guard pin
 move-keeps false dr i pn = λ y. omega arith
 move-keeps true dr i (On b) = go (ltb (length (dr .relations)) 256)
   where
-    go : (b′ : Bool) → Kept dr (need b′ 22 (accepted (withRelation dr (PointOnCurve i b)) (tt {0})) then (λ d′ u. accepted d′ nothing))
+    go : (b′ : Bool) → Kept dr (guard b′ 22 (accepted (withRelation dr (PointOnCurve i b)) (tt {0})) then (λ d′ u. accepted d′ nothing))
     go true = (refl, refl)
     go false = λ y. omega arith
 move-keeps true dr i (At b) = go (eqb b i) (ltb (length (dr .relations)) 256)
   where
-    go : (b″ b′ : Bool) → Kept dr (pick b″ (accepted dr (tt {0})) (need b′ 22 (accepted (withRelation dr (Coincident i b)) (tt {0}))) then (λ d′ u. accepted d′ nothing))
+    go : (b″ b′ : Bool) → Kept dr (ite b″ (accepted dr (tt {0})) (guard b′ 22 (accepted (withRelation dr (Coincident i b)) (tt {0}))) then (λ d′ u. accepted d′ nothing))
     go true b′ = (refl, refl)
     go false true = (refl, refl)
     go false false = λ y. omega arith
 
 -- ---- answers
 
-pub move-place : (s : Sketch) (place : ℕ) {y : Ending} {atB : Bool} {k : ℕ} {v : Vec2} {q : Pin} → y ≡ N.Move atB k v q → EndStands s place y → k < s .npoints
-move-place s place g h = subst (EndStands s place) g h .2
+pub move-place : (s : Sketch) (place : ℕ) {y : EndPlan} {atB : Bool} {k : ℕ} {v : Vec2} {q : Pin} → y ≡ N.Move atB k v q → EndInTable s place y → k < s .npoints
+move-place s place g h = subst (EndInTable s place) g h .2
 
-pub begun-at : (s : Sketch) (k : ℕ) (p : Vec2) → sketchFault s ≡ 0 → Sized s → Valid limits (view s) → k < s .ncurves → okPlace p ≡ true → length (s .curves) ≡ 128 → BegunAt s k p
+pub begun-at : (s : Sketch) (k : ℕ) (p : Vec2) → sketchFault s ≡ 0 → Sized s → Valid limits (view s) → k < s .ncurves → okPosition p ≡ true → length (s .curves) ≡ 128 → TargetFoundAt s k p
 begun-at s k p v z w h q g = record { valid = v; picked = q; place = h; found = target-found s k z w h g }
 
 module _ (s : Sketch) (t : ℕ) (p : Vec2) where
   turned-by : {r : Edited} (n : ℕ) → r .sketch ≡ s → r .refusal ≡ n → F.Told n → editSketch Extend s t p ≡ refused n
-      → ((d′ : Drawing) (told : Removed) → n ≡ 19 → editUntested Extend limits (view s) t p ≡ accepted d′ told → ⊥) → Answered Extend s t p r
+      → ((d′ : Drawing) (told : Removed) → n ≡ 19 → editUntested Extend limits (view s) t p ≡ accepted d′ told → ⊥) → EditAnswer Extend s t p r
   turned-by {r} n e f h o u =
       record {
-        outcome = ap (λ m. pick (eqb m 0) (accepted (view (r .sketch)) (r .removed)) (refused m)) f ∙ ap (λ b. pick b (accepted (view (r .sketch)) (r .removed)) (refused n)) (ne-eqb n 0 (h .some-number)) ∙ sym o;
+        outcome = ap (λ m. ite (eqb m 0) (accepted (view (r .sketch)) (r .removed)) (refused m)) f ∙ ap (λ b. ite b (accepted (view (r .sketch)) (r .removed)) (refused n)) (ne-eqb n 0 (h .some-number)) ∙ sym o;
         kept = λ z. e;
         valid = λ z. absurd (h .some-number (sym f ∙ z));
         unmet-before = λ z q. absurd (h .not-13 (sym f ∙ q));
         unmet-after = λ z q d′ told a. absurd (u d′ told (sym f ∙ q) a);
       }
 
-  module _ {x : Target} (w : Begun s t p x) where
+  module _ {x : Target} (w : TargetFound s t p x) where
     abbrev c : Curve
     c = targetOf s (x .place)
 
     abbrev d : Drawing
     d = view s
 
-    sketch-is : editSketch Extend s t p ≡ decided allMet limits d t (extendCurve d p c (c .kind))
-    unfolding need unless onFound onCurve
+    sketch-is : editSketch Extend s t p ≡ applyPlanned allMet limits d t (extendCurve d p c (c .kind))
+    unfolding guard guardPlan planOnFound planOnCurve
     sketch-is = rw (w .valid, w .picked, w .found)
 
-    untested-is : editUntested Extend limits d t p ≡ decided (λ d′. true) limits d t (extendCurve d p c (c .kind))
-    unfolding unless onFound onCurve
+    untested-is : editUntested Extend limits d t p ≡ applyPlanned (λ d′. true) limits d t (extendCurve d p c (c .kind))
+    unfolding guardPlan planOnFound planOnCurve
     untested-is = rw (w .picked, w .found)
 
     -- ---- a relation is not met
 
-    pub kind-turned : {r : Edited} → OneOf others-than-line (tagOf K.the-type (c .kind)) → r .sketch ≡ s → r .refusal ≡ 10 → Answered Extend s t p r
-    unfolding decided
-    kind-turned h e f = answered-refused Extend s t p (λ z. omega arith) e f (λ z. omega arith) (sketch-is ∙ ap (decided allMet limits d t) (sym (not-line d p c (c .kind) h)))
+    pub kind-turned : {r : Edited} → OneOf others-than-line (tagOf K.the-type (c .kind)) → r .sketch ≡ s → r .refusal ≡ 10 → EditAnswer Extend s t p r
+    unfolding applyPlanned
+    kind-turned h e f = answered-refused Extend s t p (λ z. omega arith) e f (λ z. omega arith) (sketch-is ∙ ap (applyPlanned allMet limits d t) (sym (not-line d p c (c .kind) h)))
 
-    pub unmet-turned : {r : Edited} {k : ℕ} → isLine (c .kind) ≡ true → unmetAt d k ≡ true → r .sketch ≡ s → r .refusal ≡ 13 → r .place ≡ k → Answered Extend s t p r
-    unfolding decided
+    pub unmet-turned : {r : Edited} {k : ℕ} → isLine (c .kind) ≡ true → unmetAt d k ≡ true → r .sketch ≡ s → r .refusal ≡ 13 → r .place ≡ k → EditAnswer Extend s t p r
+    unfolding applyPlanned
     unmet-turned {r} {k} q h e f g =
-        let o : editSketch Extend s t p ≡ refused 13 = sketch-is ∙ ap (decided allMet limits d t) (sym (unmet-line d p c (c .kind) q (not-all d k h))) in
+        let o : editSketch Extend s t p ≡ refused 13 = sketch-is ∙ ap (applyPlanned allMet limits d t) (sym (unmet-line d p c (c .kind) q (not-all d k h))) in
         record {
-          outcome = ap (λ m. pick (eqb m 0) (accepted (view (r .sketch)) (r .removed)) (refused m)) f ∙ sym o;
+          outcome = ap (λ m. ite (eqb m 0) (accepted (view (r .sketch)) (r .removed)) (refused m)) f ∙ sym o;
           kept = λ z. e;
           valid = λ z. absurd (omega arith);
           unmet-before = λ z y. ap (unmetAt d) g ∙ h;
@@ -165,20 +165,20 @@ module _ (s : Sketch) (t : ℕ) (p : Vec2) where
 
     -- ---- all relations are met
 
-    module _ (m : allMet d ≡ true) (y : Ending) (o : choiceOf y ≡ extendCurve d p c (c .kind)) where
-      pub choice-turned : {r : Edited} {n : ℕ} → y ≡ N.Refused n → r .sketch ≡ s → r .refusal ≡ n → Answered Extend s t p r
-      unfolding decided
+    module _ (m : allMet d ≡ true) (y : EndPlan) (o : planOf y ≡ extendCurve d p c (c .kind)) where
+      pub choice-turned : {r : Edited} {n : ℕ} → y ≡ N.Refused n → r .sketch ≡ s → r .refusal ≡ n → EditAnswer Extend s t p r
+      unfolding applyPlanned
       choice-turned {r} {n} q e f =
-          let u : extendCurve d p c (c .kind) ≡ Refused n = sym o ∙ ap choiceOf q in
-          turned-by n e f (extend-number d p c (c .kind) n m u) (sketch-is ∙ ap (decided allMet limits d t) u)
-          (λ d′ told z a. let b : refused n ≡ accepted d′ told = sym (untested-is ∙ ap (decided (λ x. true) limits d t) u) ∙ a in let y : _≡_ {A = ℕ} 0 1 = cc in omega arith)
+          let u : extendCurve d p c (c .kind) ≡ Refused n = sym o ∙ ap planOf q in
+          turned-by n e f (extend-number d p c (c .kind) n m u) (sketch-is ∙ ap (applyPlanned allMet limits d t) u)
+          (λ d′ told z a. let b : refused n ≡ accepted d′ told = sym (untested-is ∙ ap (applyPlanned (λ x. true) limits d t) u) ∙ a in let y : _≡_ {A = ℕ} 0 1 = cc in omega arith)
 
-      module _ {atB : Bool} {k : ℕ} {v : Vec2} {q : Pin} (g : y ≡ N.Move atB k v q) (h : EndStands s (x .place) y) where
-        stands : EndStands s (x .place) (N.Move atB k v q)
-        stands = subst (EndStands s (x .place)) g h
+      module _ {atB : Bool} {k : ℕ} {v : Vec2} {q : Pin} (g : y ≡ N.Move atB k v q) (h : EndInTable s (x .place) y) where
+        stands : EndInTable s (x .place) (N.Move atB k v q)
+        stands = subst (EndInTable s (x .place)) g h
 
-        plan-is : extendCurve d p c (c .kind) ≡ Chosen (P.Move atB v q)
-        plan-is = sym o ∙ ap choiceOf g
+        plan-is : extendCurve d p c (c .kind) ≡ Accepted (P.Move atB v q)
+        plan-is = sym o ∙ ap planOf g
 
         pinned : Pinned d t (P.Move atB v q)
         pinned =
@@ -187,57 +187,57 @@ module _ (s : Sketch) (t : ℕ) (p : Vec2) where
 
         module _ {e : Edited} (a : MovedTo d (getD (s .points) k noPoint .id) v q e) where
           abbrev judged : (Drawing → Bool) → Outcome Drawing Removed
-          judged f = outcomeOf e then (λ d′ told. need (f d′) 19 (accepted d′ told))
+          judged f = outcomeOf e then (λ d′ told. guard (f d′) 19 (accepted d′ told))
 
-          settled-last : (f : Drawing → Bool) (b : Bool) (z : Outcome Drawing (Unit {0})) → need b 24 (z then (λ d′ u. settle f d′)) ≡ (need b 24 (z then (λ d′ u. accepted d′ nothing)) then (λ d′ told. need (f d′) 19 (accepted d′ told)))
-          unfolding need settle
+          settled-last : (f : Drawing → Bool) (b : Bool) (z : Outcome Drawing (Unit {0})) → guard b 24 (z then (λ d′ u. checkMet f d′)) ≡ (guard b 24 (z then (λ d′ u. accepted d′ nothing)) then (λ d′ told. guard (f d′) 19 (accepted d′ told)))
+          unfolding guard checkMet
           settled-last f true (refused n) = refl
           settled-last f true (accepted d′ u) = refl
           settled-last f false z = refl
 
-          carries : (f : Drawing → Bool) → carryOut f limits d t (P.Move atB v q) ≡ judged f
-          unfolding carryAt carried extended
+          carries : (f : Drawing → Bool) → applyPlan f limits d t (P.Move atB v q) ≡ judged f
+          unfolding applyPlanAt applyPlanTo moveEnd
           carries f =
               let ends = stands .0 in
               let i : ℕ = getD (s .points) k noPoint .id in
-              ap (carryAt f limits d (P.Move atB v q)) (w .found)
-              ∙ ap (extended f limits d atB v q) (stands .1)
-              ∙ ap (λ (j : ℕ). need (okPlace v) 24 (pin limits (movePoint j v d) j q then (λ d′ u. settle f d′))) (sym (stands .3))
-              ∙ settled-last f (okPlace v) (pin limits (movePoint i v d) i q)
-              ∙ ap (λ (z : Outcome Drawing Removed). z then (λ d′ told. need (f d′) 19 (accepted d′ told))) (sym (a .outcome))
+              ap (applyPlanAt f limits d (P.Move atB v q)) (w .found)
+              ∙ ap (moveEnd f limits d atB v q) (stands .1)
+              ∙ ap (λ (j : ℕ). guard (okPosition v) 24 (pin limits (movePoint j v d) j q then (λ d′ u. checkMet f d′))) (sym (stands .3))
+              ∙ settled-last f (okPosition v) (pin limits (movePoint i v d) i q)
+              ∙ ap (λ (z : Outcome Drawing Removed). z then (λ d′ told. guard (f d′) 19 (accepted d′ told))) (sym (a .outcome))
 
           edit-is : editSketch Extend s t p ≡ judged allMet
-          unfolding decided
-          edit-is = sketch-is ∙ ap (decided allMet limits d t) plan-is ∙ carries allMet
+          unfolding applyPlanned
+          edit-is = sketch-is ∙ ap (applyPlanned allMet limits d t) plan-is ∙ carries allMet
 
           plain-is : editUntested Extend limits d t p ≡ judged (λ d′. true)
-          unfolding decided
-          plain-is = untested-is ∙ ap (decided (λ d′. true) limits d t) plan-is ∙ carries (λ d′. true)
+          unfolding applyPlanned
+          plain-is = untested-is ∙ ap (applyPlanned (λ d′. true) limits d t) plan-is ∙ carries (λ d′. true)
 
           abbrev end : ℕ
           end = getD (s .points) k noPoint .id
 
           kept : Kept (movePoint end v d) (outcomeOf e)
-          kept = subst (Kept (movePoint end v d)) (sym (a .outcome)) (move-keeps (okPlace v) (movePoint end v d) end q)
+          kept = subst (Kept (movePoint end v d)) (sym (a .outcome)) (move-keeps (okPosition v) (movePoint end v d) end q)
 
           -- ---- accepted before the test
 
           module _ (z : e .refusal ≡ 0) where
             out : outcomeOf e ≡ accepted (view (e .sketch)) (e .removed)
-            out = ap (λ n. pick (eqb n 0) (accepted (view (e .sketch)) (e .removed)) (refused n)) z
+            out = ap (λ n. ite (eqb n 0) (accepted (view (e .sketch)) (e .removed)) (refused n)) z
 
-            judged-is : (f : Drawing → Bool) → judged f ≡ need (f (view (e .sketch))) 19 (accepted (view (e .sketch)) (e .removed))
-            judged-is f = ap (λ (x : Outcome Drawing Removed). x then (λ d′ told. need (f d′) 19 (accepted d′ told))) out
+            judged-is : (f : Drawing → Bool) → judged f ≡ guard (f (view (e .sketch))) 19 (accepted (view (e .sketch)) (e .removed))
+            judged-is f = ap (λ (x : Outcome Drawing Removed). x then (λ d′ told. guard (f d′) 19 (accepted d′ told))) out
 
             pub moved-valid : sketchFault (e .sketch) ≡ 0
-            unfolding need
+            unfolding guard
             moved-valid =
                 valid-sketch (e .sketch) (a .sized z)
                 (plan-valid (λ d′. true) limits d (sketch-valid s (w .valid) .1) t (P.Move atB v q) (view (e .sketch)) (e .removed) (carries (λ d′. true) ∙ judged-is (λ d′. true)) pinned)
 
             -- the columns with that end moved are those of what was made
             pub moved-shown : Sized s → length (s .points) ≡ 512 → {ids : List ℕ} {xs ys : List Float} {curves kinds firsts seconds : List ℕ} {numbers : List Float}
-                → Shown d ids xs ys curves kinds firsts seconds numbers → Shown (view (e .sketch)) ids (set xs k (v .x)) (set ys k (v .y)) curves kinds firsts seconds numbers
+                → CurveColumnsOf d ids xs ys curves kinds firsts seconds numbers → CurveColumnsOf (view (e .sketch)) ids (set xs k (v .x)) (set ys k (v .y)) curves kinds firsts seconds numbers
             moved-shown sized long {ids} {xs} {ys} {curves} {kinds} {firsts} {seconds} {numbers} w′ =
                 let u = subst (Kept (movePoint end v d)) out kept in
                 record {
@@ -249,24 +249,24 @@ module _ (s : Sketch) (t : ℕ) (p : Vec2) where
 
           module _ (z : e .refusal ≡ 0 → ⊥) where
             turned-out : outcomeOf e ≡ refused (e .refusal)
-            turned-out = ap (λ b. pick b (accepted (view (e .sketch)) (e .removed)) (refused (e .refusal))) (ne-eqb (e .refusal) 0 z)
+            turned-out = ap (λ b. ite b (accepted (view (e .sketch)) (e .removed)) (refused (e .refusal))) (ne-eqb (e .refusal) 0 z)
 
             judged-out : (f : Drawing → Bool) → judged f ≡ refused (e .refusal)
-            judged-out f = ap (λ (x : Outcome Drawing Removed). x then (λ d′ told. need (f d′) 19 (accepted d′ told))) turned-out
+            judged-out f = ap (λ (x : Outcome Drawing Removed). x then (λ d′ told. guard (f d′) 19 (accepted d′ told))) turned-out
 
             not-13 : e .refusal ≡ 13 → ⊥
             not-13 = subst (Kept (movePoint end v d)) turned-out kept
 
-          pub move-answered : {r : Edited} → Settled s e r → Answered Extend s t p r
-          unfolding need
+          pub move-answered : {r : Edited} → MetChecked s e r → EditAnswer Extend s t p r
+          unfolding guard
           move-answered {r} l = at-zero (eqb (e .refusal) 0) refl
             where
-              moved-on : e .refusal ≡ 0 → (b : Bool) → allMet (view (e .sketch)) ≡ b → Answered Extend s t p r
+              moved-on : e .refusal ≡ 0 → (b : Bool) → allMet (view (e .sketch)) ≡ b → EditAnswer Extend s t p r
               moved-on z true j =
                   let i : r ≡ e = l .met z j in
                   let u : r .refusal ≡ 0 = ap (λ (x : Edited). x .refusal) i ∙ z in
                   record {
-                    outcome = ap outcomeOf i ∙ out z ∙ sym (edit-is ∙ judged-is z allMet ∙ ap (λ b. need b 19 (accepted (view (e .sketch)) (e .removed))) j);
+                    outcome = ap outcomeOf i ∙ out z ∙ sym (edit-is ∙ judged-is z allMet ∙ ap (λ b. guard b 19 (accepted (view (e .sketch)) (e .removed))) j);
                     kept = λ y. absurd (y u);
                     valid = λ y. ap (λ (x : Edited). sketchFault (x .sketch)) i ∙ moved-valid z;
                     unmet-before = λ y n. absurd (omega arith);
@@ -276,7 +276,7 @@ module _ (s : Sketch) (t : ℕ) (p : Vec2) where
                   let i = l .unmet z j in
                   let n = i .number in
                   record {
-                    outcome = ap (λ m. pick (eqb m 0) (accepted (view (r .sketch)) (r .removed)) (refused m)) n ∙ sym (edit-is ∙ judged-is z allMet ∙ ap (λ b. need b 19 (accepted (view (e .sketch)) (e .removed))) j);
+                    outcome = ap (λ m. ite (eqb m 0) (accepted (view (r .sketch)) (r .removed)) (refused m)) n ∙ sym (edit-is ∙ judged-is z allMet ∙ ap (λ b. guard b 19 (accepted (view (e .sketch)) (e .removed))) j);
                     kept = λ y. i .sketch;
                     valid = λ y. absurd (omega arith);
                     unmet-before = λ y h. absurd (omega arith);
@@ -286,12 +286,12 @@ module _ (s : Sketch) (t : ℕ) (p : Vec2) where
                         ap (λ (x : Drawing). unmetAt x (r .place)) (sym h) ∙ i .place;
                   }
 
-              moved-out : (e .refusal ≡ 0 → ⊥) → Answered Extend s t p r
+              moved-out : (e .refusal ≡ 0 → ⊥) → EditAnswer Extend s t p r
               moved-out z =
                   let i = l .turned z in
                   turned-by (e .refusal) (i .1) (i .0) (record { some-number = z; not-13 = not-13 z }) (edit-is ∙ judged-out z allMet)
                   (λ d′ told y u. let b : refused (e .refusal) ≡ accepted d′ told = sym (plain-is ∙ judged-out z (λ x. true)) ∙ u in let h : _≡_ {A = ℕ} 0 1 = cc in omega arith)
 
-              at-zero : (b : Bool) → eqb (e .refusal) 0 ≡ b → Answered Extend s t p r
+              at-zero : (b : Bool) → eqb (e .refusal) 0 ≡ b → EditAnswer Extend s t p r
               at-zero true j = moved-on (eqb-true (e .refusal) 0 j) (allMet (view (e .sketch))) refl
               at-zero false j = moved-out (λ y. never (sym j ∙ eq-eqb (e .refusal) 0 y))

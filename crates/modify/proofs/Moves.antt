@@ -20,19 +20,19 @@ use Rattle.sketch.specs.declared.CurveKind.the-variants.{Line, Arc, Circle, Bez
 use Rattle.sketch.specs.Lookup.{among}
 use Rattle.sketch.specs.Drawing.{Drawing, curveIn}
 use Rattle.sketch.specs.Facts.{Every}
-use Rattle.placed.specs.Placed.{at}
+use Rattle.sketch_geometry.specs.Geometry.{positionOf}
 use Rattle.relations.specs.Met.{allMet}
 use Rattle.support.specs.Hits as H
-use Rattle.carry.specs.declared.Pin.{Pin}
-use Rattle.carry.specs.declared.Plan.{Plan}
-use Rattle.carry.specs.declared.Plan.the-variants as P
-use Rattle.carry.specs.Tables.{uses, others}
-use Rattle.carry.specs.Steps.{isLine, endsAt}
-use Rattle.carry.specs.Suited.{Held}
-use Rattle.modify.specs.declared.Choice.{Choice}
-use Rattle.modify.specs.declared.Choice.the-variants.{Refused, Chosen}
-use Rattle.modify.specs.Choose.{unless, pinTo}
-use Rattle.modify.specs.Extend.{Support, gapOf, meets, Best, better, bestOf, Search, stopped, sought, after, seek, moveTo, isFixed, extendEnd, extendCurve}
+use Rattle.edit_plan.specs.declared.Pin.{Pin}
+use Rattle.edit_plan.specs.declared.Plan.{Plan}
+use Rattle.edit_plan.specs.declared.Plan.the-variants as P
+use Rattle.edit_plan.specs.Tables.{uses, others}
+use Rattle.edit_plan.specs.Steps.{isLine, endsAt}
+use Rattle.edit_plan.specs.Suited.{PinHolds}
+use Rattle.modify.specs.declared.PlanResult.{PlanResult}
+use Rattle.modify.specs.declared.PlanResult.the-variants.{Refused, Accepted}
+use Rattle.modify.specs.Planning.{guardPlan, pinTo}
+use Rattle.modify.specs.Extend.{Support, gapOf, curveHits, Best, better, bestOf, Search, stopped, finished, continueWith, nearestHit, planMove, isFixed, extendEnd, extendCurve}
 use Rattle.modify.proofs.Others.{isOther, others-are, pin-held}
 use Rattle.modify.proofs.Suits.{unless-chosen}
 
@@ -65,17 +65,17 @@ module _ (f : ℕ → Bool) where
 
   abbrev SoughtBy : Search → Type 0
   SoughtBy (stopped n) = Unit {0}
-  SoughtBy (sought best) = ByOne best
+  SoughtBy (finished best) = ByOne best
 
-  seek-by : (ps : List Point) (s : Support) (near : Vec2) (os : List Curve) (best : Option Best) (budget : ℕ) → Every (λ (o : Curve). f (o .id)) os → ByOne best → SoughtBy (seek ps s near os best budget)
-  unfolding seek after
+  seek-by : (ps : List Point) (s : Support) (near : Vec2) (os : List Curve) (best : Option Best) (budget : ℕ) → Every (λ (o : Curve). f (o .id)) os → ByOne best → SoughtBy (nearestHit ps s near os best budget)
+  unfolding nearestHit continueWith
   seek-by ps s near [] best budget p h = h
   seek-by ps s near (o ∷ os) best budget p h =
-      go (λ qs b. seek-by ps s near os (bestOf s (o .id) best qs) b (p .1) (best-by s (o .id) best qs (p .0) h)) (meets ps s near o (o .kind) budget)
+      go (λ qs b. seek-by ps s near os (bestOf s (o .id) best qs) b (p .1) (best-by s (o .id) best qs (p .0) h)) (curveHits ps s near o (o .kind) budget)
     where
       go :
-          ((qs : List Vec2) (b : ℕ) → SoughtBy (seek ps s near os (bestOf s (o .id) best qs) b)) → (r : H.Outcome)
-          → SoughtBy (after (λ qs left. seek ps s near os (bestOf s (o .id) best qs) left) r)
+          ((qs : List Vec2) (b : ℕ) → SoughtBy (nearestHit ps s near os (bestOf s (o .id) best qs) b)) → (r : H.HitsResult)
+          → SoughtBy (continueWith (λ qs left. nearestHit ps s near os (bestOf s (o .id) best qs) left) r)
       go ih (H.found qs b) = ih qs b
       go ih (H.refused n b) = tt
 
@@ -87,33 +87,33 @@ pub record Moves (d : Drawing) (t : ℕ) (plan : Plan) : Type 0 where
   pub place : Vec2
   pub pin : Pin
   pub is : plan ≡ P.Move at-end place pin
-  pub held : Held d t pin
+  pub held : PinHolds d t pin
 
 module _ (d : Drawing) (c : Curve) where
-  move-held : (atB : Bool) (r : Search) (plan : Plan) → SoughtBy (isOther (c .id) (d .curves)) r → moveTo d atB r ≡ Chosen plan → Moves d (c .id) plan
-  unfolding moveTo
+  move-held : (atB : Bool) (r : Search) (plan : Plan) → SoughtBy (isOther (c .id) (d .curves)) r → planMove d atB r ≡ Accepted plan → Moves d (c .id) plan
+  unfolding planMove
   move-held atB (stopped n) plan p h = let z : _≡_ {A = ℕ} 0 1 = cc in absurd (omega arith)
-  move-held atB (sought none) plan p h = let z : _≡_ {A = ℕ} 0 1 = cc in absurd (omega arith)
-  move-held atB (sought (some b)) plan p h =
+  move-held atB (finished none) plan p h = let z : _≡_ {A = ℕ} 0 1 = cc in absurd (omega arith)
+  move-held atB (finished (some b)) plan p h =
       let w : Pin = pinTo (d .points) (b .place) (b .by) (endsAt (curveIn (d .curves) (b .by))) in
-      let u = unless-chosen (not (b .tied)) 17 (Chosen (P.Move atB (b .place) w)) plan h in
+      let u = unless-chosen (not (b .tied)) 17 (Accepted (P.Move atB (b .place) w)) plan h in
       let q : P.Move atB (b .place) w ≡ plan = cc in
       record { at-end = atB; place = b .place; pin = w; is = sym q; held = pin-held d (c .id) (b .by) (b .place) p }
 
-  end-held : (p : Vec2) (s : Support) (end : ℕ) (plan : Plan) → extendEnd d (c .id) p s end ≡ Chosen plan → Moves d (c .id) plan
+  end-held : (p : Vec2) (s : Support) (end : ℕ) (plan : Plan) → extendEnd d (c .id) p s end ≡ Accepted plan → Moves d (c .id) plan
   unfolding extendEnd
   end-held p s end plan h =
       let line = S.Line (s .a) (s .b) in
-      let r : Search = seek (d .points) s (point line (param line p)) (others (c .id) (d .curves)) none 1000000 in
-      let u = unless-chosen (not (among end (uses (others (c .id) (d .curves))) || isFixed (d .points) end)) 14 (moveTo d (s .atB) r) plan h in
+      let r : Search = nearestHit (d .points) s (point line (param line p)) (others (c .id) (d .curves)) none 1000000 in
+      let u = unless-chosen (not (among end (uses (others (c .id) (d .curves))) || isFixed (d .points) end)) 14 (planMove d (s .atB) r) plan h in
       move-held (s .atB) r plan
       (seek-by (isOther (c .id) (d .curves)) (d .points) s (point line (param line p)) (others (c .id) (d .curves)) none 1000000 (others-are (c .id) (d .curves) (d .curves) (λ i q. q)) tt) (u .1)
 
-  extend-kind : (p : Vec2) (k : CurveKind) (plan : Plan) → extendCurve d p c k ≡ Chosen plan → (isLine k ≡ true) × Moves d (c .id) plan
+  extend-kind : (p : Vec2) (k : CurveKind) (plan : Plan) → extendCurve d p c k ≡ Accepted plan → (isLine k ≡ true) × Moves d (c .id) plan
   unfolding extendCurve
   extend-kind p (Line i j) plan h =
-      let a = at (d .points) i in
-      let b = at (d .points) j in
+      let a = positionOf (d .points) i in
+      let b = positionOf (d .points) j in
       let atB = le (distance p b) (distance p a) in
       let s : Support = record { a = a; b = b; atB = atB } in
       let u = unless-chosen (allMet d) 13 (extendEnd d (c .id) p s (cond atB j i)) plan h in
@@ -123,5 +123,5 @@ module _ (d : Drawing) (c : Curve) where
   extend-kind p (Bezier n) plan h = let z : _≡_ {A = ℕ} 0 1 = cc in absurd (omega arith)
   extend-kind p (Conic i m j rho) plan h = let z : _≡_ {A = ℕ} 0 1 = cc in absurd (omega arith)
 
-  pub extend-chosen : (p : Vec2) (plan : Plan) → extendCurve d p c (c .kind) ≡ Chosen plan → (isLine (c .kind) ≡ true) × Moves d (c .id) plan
+  pub extend-chosen : (p : Vec2) (plan : Plan) → extendCurve d p c (c .kind) ≡ Accepted plan → (isLine (c .kind) ≡ true) × Moves d (c .id) plan
   extend-chosen p plan h = extend-kind p (c .kind) plan h

@@ -16,25 +16,25 @@ use Rattle.sketch.specs.declared.Point.{Point}
 use Rattle.sketch.specs.declared.Curve.{Curve}
 use Rattle.sketch.specs.declared.CurveKind.{CurveKind}
 use Rattle.sketch.specs.declared.CurveKind.the-variants.{Line, Arc, Circle, Bezier, Conic}
-use Rattle.sketch.specs.Lists.{pick, keep, spread}
+use Rattle.sketch.specs.Lists.{ite, keep, concatMap}
 use Rattle.sketch.specs.Lookup.{among}
 use Rattle.sketch.specs.Drawing.{Drawing, curveIds, curveIn, usesOf}
 use Rattle.sketch.specs.Facts.{Every}
 use Rattle.sketch.proofs.Bools.{never, and-left, and-right, both}
-use Rattle.placed.specs.Placed.{shapeOf}
-use Rattle.cuts.specs.declared.Other.{Other}
+use Rattle.sketch_geometry.specs.Geometry.{shapeOf}
+use Rattle.cuts.specs.declared.Cutter.{Cutter}
 use Rattle.cuts.specs.declared.Cut.{Cut}
 use Rattle.cuts.specs.Lists.{firstOr, lastOr}
-use Rattle.cuts.specs.Cuts.{cut, cutsHere, cutStep, cutsOn, cutsBy, cutsAmong}
+use Rattle.cuts.specs.Cuts.{mkCut, cutsHere, cutStep, cutsOn, cutsBy, cutsAmong}
 use Rattle.cuts.specs.Bracket.{insertCut, sortCuts, inOrder, interior, lastOne, firstOne, beside, around, bracket}
-use Rattle.carry.specs.declared.Pin.{Pin}
-use Rattle.carry.specs.declared.Pin.the-variants.{On, At}
-use Rattle.carry.specs.Tables.{uses, others}
-use Rattle.carry.specs.Steps.{endsOf, endsAt}
-use Rattle.carry.specs.Suited.{Held}
-use Rattle.carry.proofs.Every.{every-append, every-as, every-keep, or-left, or-right, among-left, among-right, among-same}
-use Rattle.carry.proofs.Tables.{look-stays}
-use Rattle.modify.specs.Choose.{otherOf, shapes, cutsOf, nearEnd, pinTo}
+use Rattle.edit_plan.specs.declared.Pin.{Pin}
+use Rattle.edit_plan.specs.declared.Pin.the-variants.{On, At}
+use Rattle.edit_plan.specs.Tables.{uses, others}
+use Rattle.edit_plan.specs.Steps.{endsOf, endsAt}
+use Rattle.edit_plan.specs.Suited.{PinHolds}
+use Rattle.edit_plan.proofs.Every.{every-append, every-as, every-keep, or-left, or-right, among-left, among-right, among-same}
+use Rattle.edit_plan.proofs.Tables.{look-stays}
+use Rattle.modify.specs.Planning.{cutterOf, cuttersOf, cutsOf, nearEnd, pinTo}
 
 -- ---- cuts come from the curves that were asked
 
@@ -42,20 +42,20 @@ module _ (P : ℕ → Bool) where
   abbrev pub By : Cut → Bool
   By k = P (k .by)
 
-  step-by : (sh : Shape) (o : Other) (found : List Cut) (q : Vec2) → P (o .id) ≡ true → Every By found → Every By (cutStep sh o found q)
+  step-by : (sh : Shape) (o : Cutter) (found : List Cut) (q : Vec2) → P (o .id) ≡ true → Every By found → Every By (cutStep sh o found q)
   unfolding cutStep
   step-by sh o found q p h = go (cutsHere sh o found q)
     where
-      go : (b : Bool) → Every By (cond b (found ++ cut (param sh q) q (o .id) ∷ []) found)
-      go true = every-append By found (cut (param sh q) q (o .id) ∷ []) h (p, tt)
+      go : (b : Bool) → Every By (cond b (found ++ mkCut (param sh q) q (o .id) ∷ []) found)
+      go true = every-append By found (mkCut (param sh q) q (o .id) ∷ []) h (p, tt)
       go false = h
 
-  on-by : (sh : Shape) (o : Other) (found : List Cut) (qs : List Vec2) → P (o .id) ≡ true → Every By found → Every By (cutsOn sh o found qs)
+  on-by : (sh : Shape) (o : Cutter) (found : List Cut) (qs : List Vec2) → P (o .id) ≡ true → Every By found → Every By (cutsOn sh o found qs)
   unfolding cutsOn
   on-by sh o found [] p h = h
   on-by sh o found (q ∷ qs) p h = on-by sh o (cutStep sh o found q) qs p (step-by sh o found q p h)
 
-  pub among-by : (sh : Shape) (os : List Other) (found : List Cut) → Every (λ (o : Other). P (o .id)) os → Every By found → Every By (cutsAmong sh os found)
+  pub among-by : (sh : Shape) (os : List Cutter) (found : List Cut) → Every (λ (o : Cutter). P (o .id)) os → Every By found → Every By (cutsAmong sh os found)
   unfolding cutsAmong cutsBy
   among-by sh [] found p h = h
   among-by sh (o ∷ os) found p h = among-by sh os (cutsBy sh o found) (p .1) (on-by sh o found _ (p .0) h)
@@ -67,7 +67,7 @@ pub kept-are : (p : Cut → Bool) (l : List Cut) → Every p (keep p l)
 kept-are p [] = tt
 kept-are p (k ∷ l) = go (p k) refl (kept-are p l)
   where
-    go : (b : Bool) → p k ≡ b → Every p (keep p l) → Every p (pick b (k ∷ keep p l) (keep p l))
+    go : (b : Bool) → p k ≡ b → Every p (keep p l) → Every p (ite b (k ∷ keep p l) (keep p l))
     go true e ih = (e, ih)
     go false e ih = ih
 
@@ -150,23 +150,23 @@ pub others-are : (t : ℕ) (all cs : List Curve) → ((i : ℕ) → among i (cur
 others-are t all [] w = tt
 others-are t all (c ∷ cs) w = go (eqb t (c .id)) refl (others-are t all cs (λ i h. w i (or-right (eqb i (c .id)) _ h)))
   where
-    go : (b : Bool) → eqb t (c .id) ≡ b → Every (λ (x : Curve). isOther t all (x .id)) (others t cs) → Every (λ (x : Curve). isOther t all (x .id)) (pick (not b) (c ∷ others t cs) (others t cs))
+    go : (b : Bool) → eqb t (c .id) ≡ b → Every (λ (x : Curve). isOther t all (x .id)) (others t cs) → Every (λ (x : Curve). isOther t all (x .id)) (ite (not b) (c ∷ others t cs) (others t cs))
     go true q ih = ih
     go false q ih = (both (not (eqb t (c .id))) (among (c .id) (curveIds all)) (rw q) (w (c .id) (among-same (c .id) (curveIds cs))), ih)
 
-shape-ids : (f : ℕ → Bool) (ps : List Point) (cs : List Curve) → Every (λ (c : Curve). f (c .id)) cs → Every (λ (o : Other). f (o .id)) (shapes ps cs)
-unfolding otherOf
+shape-ids : (f : ℕ → Bool) (ps : List Point) (cs : List Curve) → Every (λ (c : Curve). f (c .id)) cs → Every (λ (o : Cutter). f (o .id)) (cuttersOf ps cs)
+unfolding cutterOf
 shape-ids f ps [] h = tt
 shape-ids f ps (c ∷ cs) h = go (shapeOf ps (c .kind)) (shape-ids f ps cs (h .1))
   where
-    go : (o : Option Shape) → Every (λ (x : Other). f (x .id)) (shapes ps cs) → Every (λ (x : Other). f (x .id)) (otherOf c o ++ shapes ps cs)
+    go : (o : Option Shape) → Every (λ (x : Cutter). f (x .id)) (cuttersOf ps cs) → Every (λ (x : Cutter). f (x .id)) (cutterOf c o ++ cuttersOf ps cs)
     go none ih = ih
     go (some sh) ih = (h .0, ih)
 
 module _ (d : Drawing) (t : ℕ) (sh : Shape) where
   pub cuts-by-others : Every (By (isOther t (d .curves))) (cutsOf d t sh)
   cuts-by-others =
-      among-by (isOther t (d .curves)) sh (shapes (d .points) (others t (d .curves))) []
+      among-by (isOther t (d .curves)) sh (cuttersOf (d .points) (others t (d .curves))) []
       (shape-ids (isOther t (d .curves)) (d .points) (others t (d .curves)) (others-are t (d .curves) (d .curves) (λ i h. h))) tt
 
   pub bracket-by-others : (tq : Float) → Every (By (isOther t (d .curves))) (bracket sh tq (cutsOf d t sh))
@@ -179,7 +179,7 @@ unfolding curveIn
 uses-found [] i c p e h = let z : _≡_ {A = ℕ} 0 1 = cc in absurd (omega arith)
 uses-found (x ∷ cs) i c p e h = go (eqb i (x .id)) e (λ z. uses-found cs i c p z h)
   where
-    go : (b : Bool) → pick b (some x) (curveIn cs i) ≡ some c → (curveIn cs i ≡ some c → among p (uses cs) ≡ true) → among p (usesOf (x .kind) (x .slots) ++ uses cs) ≡ true
+    go : (b : Bool) → ite b (some x) (curveIn cs i) ≡ some c → (curveIn cs i ≡ some c → among p (uses cs) ≡ true) → among p (usesOf (x .kind) (x .slots) ++ uses cs) ≡ true
     go true e ih =
         let q : x ≡ c = cc in
         among-left p (usesOf (x .kind) (x .slots)) (uses cs) (ap (λ (y : Curve). among p (usesOf (y .kind) (y .slots))) q ∙ h)
@@ -201,25 +201,25 @@ module _ (d : Drawing) (t by : ℕ) (q : Vec2) (p : isOther t (d .curves) by ≡
   apart : by ≡ t → ⊥
   apart e = eqb-false t by (not-true (eqb t by) (and-left (not (eqb t by)) (among by (curveIds (d .curves))) p)) (sym e)
 
-  on-it : Held d t (On by)
+  on-it : PinHolds d t (On by)
   on-it = (apart, and-right (not (eqb t by)) (among by (curveIds (d .curves))) p)
 
-  used : (x : Curve) (e : ℕ) → curveIn (d .curves) by ≡ some x → among e (usesOf (x .kind) (x .slots)) ≡ true → Held d t (At e)
+  used : (x : Curve) (e : ℕ) → curveIn (d .curves) by ≡ some x → among e (usesOf (x .kind) (x .slots)) ≡ true → PinHolds d t (At e)
   used x e h u = uses-found (others t (d .curves)) by x e (look-stays t by (d .curves) apart ∙ h) u
 
-  pub pin-held : Held d t (pinTo (d .points) q by (endsAt (curveIn (d .curves) by)))
+  pub pin-held : PinHolds d t (pinTo (d .points) q by (endsAt (curveIn (d .curves) by)))
   unfolding pinTo endsAt
   pin-held = go (curveIn (d .curves) by) refl
     where
-      choose : (x : Curve) (e : ℕ × ℕ) → curveIn (d .curves) by ≡ some x → endsOf (x .kind) ≡ some e → (u v : Bool) → Held d t (pick u (At (e .0)) (pick v (At (e .1)) (On by)))
+      choose : (x : Curve) (e : ℕ × ℕ) → curveIn (d .curves) by ≡ some x → endsOf (x .kind) ≡ some e → (u v : Bool) → PinHolds d t (ite u (At (e .0)) (ite v (At (e .1)) (On by)))
       choose x e h k true v = used x (e .0) h (ends-used (x .kind) (x .slots) e k .0)
       choose x e h k false true = used x (e .1) h (ends-used (x .kind) (x .slots) e k .1)
       choose x e h k false false = on-it
 
-      ends : (x : Curve) → curveIn (d .curves) by ≡ some x → (o : Option (ℕ × ℕ)) → endsOf (x .kind) ≡ o → Held d t (pinTo (d .points) q by o)
+      ends : (x : Curve) → curveIn (d .curves) by ≡ some x → (o : Option (ℕ × ℕ)) → endsOf (x .kind) ≡ o → PinHolds d t (pinTo (d .points) q by o)
       ends x h none k = on-it
       ends x h (some e) k = choose x e h k (nearEnd (d .points) q (e .0)) (nearEnd (d .points) q (e .1))
 
-      go : (o : Option Curve) → curveIn (d .curves) by ≡ o → Held d t (pinTo (d .points) q by (endsAt o))
+      go : (o : Option Curve) → curveIn (d .curves) by ≡ o → PinHolds d t (pinTo (d .points) q by (endsAt o))
       go none h = on-it
       go (some x) h = ends x h (endsOf (x .kind)) refl

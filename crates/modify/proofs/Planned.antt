@@ -1,4 +1,4 @@
--- An accepted edit carried out a plan whose pins are held; so it leaves a valid drawing, and has the shape that chains need.
+-- An accepted edit applied a plan whose pins are held; so it leaves a valid drawing, and has the shape that chains need.
 use mathlib.Core.Path.{_≡_, refl, sym, ap, _∙_, subst}
 use mathlib.Core.Bool.{Bool, true}
 use mathlib.Core.Option.{Option, some, none}
@@ -11,44 +11,44 @@ use Rattle.sketch.specs.Facts.{Valid}
 use Rattle.image.specs.declared.Operation.{Operation}
 use Rattle.image.specs.declared.Operation.the-variants.{Trim, Split, Extend}
 use Rattle.relations.specs.Met.{allMet}
-use Rattle.carry.specs.declared.Plan.{Plan}
-use Rattle.carry.specs.declared.Removed.{Removed}
-use Rattle.carry.specs.Outcome.{refused, accepted}
-use Rattle.carry.specs.Tables.{okPlace}
-use Rattle.carry.specs.CarryOut.{carryOut}
-use Rattle.carry.specs.Suited.{Pinned}
-use Rattle.carry.proofs.Tables.{look-some}
+use Rattle.edit_plan.specs.declared.Plan.{Plan}
+use Rattle.edit_plan.specs.declared.Removed.{Removed}
+use Rattle.edit_plan.specs.Outcome.{refused, accepted}
+use Rattle.edit_plan.specs.Tables.{okPosition}
+use Rattle.edit_plan.specs.ApplyPlan.{applyPlan}
+use Rattle.edit_plan.specs.Suited.{Pinned}
+use Rattle.edit_plan.proofs.Tables.{look-some}
 use Rattle.chains.proofs.Edits.{plan-valid}
-use Rattle.modify.specs.declared.Choice.{Choice}
-use Rattle.modify.specs.declared.Choice.the-variants.{Refused, Chosen}
-use Rattle.modify.specs.Edits.{onCurve, onFound, choose, decided, editOf}
-use Rattle.modify.specs.Choose.{unless}
+use Rattle.modify.specs.declared.PlanResult.{PlanResult}
+use Rattle.modify.specs.declared.PlanResult.the-variants.{Refused, Accepted}
+use Rattle.modify.specs.Edits.{planOnCurve, planOnFound, planEdit, applyPlanned, editOf}
+use Rattle.modify.specs.Planning.{guardPlan}
 use Rattle.modify.proofs.Suits.{unless-chosen, trim-chosen, split-chosen}
 use Rattle.modify.proofs.Moves.{extend-chosen}
 
-curve-pinned : (op : Operation) (d : Drawing) (p : Vec2) (c : Curve) (plan : Plan) → onCurve op d p c ≡ Chosen plan → Pinned d (c .id) plan
-unfolding onCurve
+curve-pinned : (op : Operation) (d : Drawing) (p : Vec2) (c : Curve) (plan : Plan) → planOnCurve op d p c ≡ Accepted plan → Pinned d (c .id) plan
+unfolding planOnCurve
 curve-pinned Trim d p c plan h = trim-chosen d p c plan h .pins
 curve-pinned Split d p c plan h = split-chosen d p c plan h .pins
 curve-pinned Extend d p c plan h = let w = extend-chosen d c p plan h .1 in subst (Pinned d (c .id)) (sym (w .is)) (w .held)
 
-found-pinned : (op : Operation) (d : Drawing) (t : ℕ) (p : Vec2) (plan : Plan) → onFound op d p (curveIn (d .curves) t) ≡ Chosen plan → Pinned d t plan
-unfolding onFound
+found-pinned : (op : Operation) (d : Drawing) (t : ℕ) (p : Vec2) (plan : Plan) → planOnFound op d p (curveIn (d .curves) t) ≡ Accepted plan → Pinned d t plan
+unfolding planOnFound
 found-pinned op d t p plan h = go (curveIn (d .curves) t) refl h
   where
-    go : (o : Option Curve) → curveIn (d .curves) t ≡ o → onFound op d p o ≡ Chosen plan → Pinned d t plan
+    go : (o : Option Curve) → curveIn (d .curves) t ≡ o → planOnFound op d p o ≡ Accepted plan → Pinned d t plan
     go none e h = let z : _≡_ {A = ℕ} 0 1 = cc in absurd (omega arith)
     go (some c) e h = subst (λ (i : ℕ). Pinned d i plan) (look-some (d .curves) t c e .1) (curve-pinned op d p c plan h)
 
 pub edit-planned :
     (op : Operation) (m : Limits) (d : Drawing) (t : ℕ) (p : Vec2) (d′ : Drawing) (r : Removed) → editOf op m d t p ≡ accepted d′ r
-    → (plan : Plan) × Pinned d t plan × (carryOut allMet m d t plan ≡ accepted d′ r)
-unfolding decided
-edit-planned op m d t p d′ r q = go (choose op d t p) refl q
+    → (plan : Plan) × Pinned d t plan × (applyPlan allMet m d t plan ≡ accepted d′ r)
+unfolding applyPlanned
+edit-planned op m d t p d′ r q = go (planEdit op d t p) refl q
   where
-    go : (c : Choice) → choose op d t p ≡ c → decided allMet m d t c ≡ accepted d′ r → (plan : Plan) × Pinned d t plan × (carryOut allMet m d t plan ≡ accepted d′ r)
+    go : (c : PlanResult) → planEdit op d t p ≡ c → applyPlanned allMet m d t c ≡ accepted d′ r → (plan : Plan) × Pinned d t plan × (applyPlan allMet m d t plan ≡ accepted d′ r)
     go (Refused n) e q = let z : _≡_ {A = ℕ} 0 1 = cc in absurd (omega arith)
-    go (Chosen plan) e q = (plan, found-pinned op d t p plan (unless-chosen (okPlace p) 9 (onFound op d p (curveIn (d .curves) t)) plan e .1), q)
+    go (Accepted plan) e q = (plan, found-pinned op d t p plan (unless-chosen (okPosition p) 9 (planOnFound op d p (curveIn (d .curves) t)) plan e .1), q)
 
 pub edit-valid :
     (op : Operation) (m : Limits) (d : Drawing) (t : ℕ) (p : Vec2) (d′ : Drawing) (r : Removed) → Valid m d → editOf op m d t p ≡ accepted d′ r → Valid m d′

@@ -21,11 +21,11 @@ use Rattle.sketch.specs.declared.Curve.{Curve}
 use Rattle.sketch.specs.declared.CurveKind.{CurveKind}
 use Rattle.sketch.specs.declared.CurveKind.the-variants.{Line, Arc, Circle, Bezier, Conic}
 use Rattle.sketch.specs.declared.Sketch.{Sketch}
-use Rattle.sketch.specs.Lists.{every, rule}
+use Rattle.sketch.specs.Lists.{every, guardNumber}
 use Rattle.sketch.specs.Lookup.{among}
 use Rattle.sketch.specs.Drawing.{Drawing, view, limits, curveIn}
 use Rattle.sketch.specs.Valid.{tableFault, listFault, faultOf, sketchFault, relationsFault, curvesFault, pointsFault}
-use Rattle.placed.specs.Placed.{at}
+use Rattle.sketch_geometry.specs.Geometry.{positionOf}
 use Rattle.relations.specs.Met.{allMet}
 use Rattle.bernstein.specs.Roots as R
 use Rattle.bernstein.specs.Roots.{rootsOf}
@@ -33,20 +33,20 @@ use Rattle.bernstein.proofs.RefusedBy.{By20Or21, roots-refused}
 use Rattle.support.specs.Freeform.{Freeform, pointAt}
 use Rattle.support.specs.Hits as H
 use Rattle.support.specs.Hits.{shapeHits, resolved, resolvedAt, freeformBy, freeformAlong, near, polynomial}
-use Rattle.carry.specs.Tables.{uses, others}
-use Rattle.modify.specs.declared.Choice.{Choice}
-use Rattle.modify.specs.declared.Choice.the-variants.{Refused, Chosen}
-use Rattle.modify.specs.Choose.{unless}
-use Rattle.modify.specs.Extend.{Support, meets, Best, bestOf, Search, stopped, sought, after, seek, moveTo, isFixed, extendEnd, extendCurve}
+use Rattle.edit_plan.specs.Tables.{uses, others}
+use Rattle.modify.specs.declared.PlanResult.{PlanResult}
+use Rattle.modify.specs.declared.PlanResult.the-variants.{Refused, Accepted}
+use Rattle.modify.specs.Planning.{guardPlan}
+use Rattle.modify.specs.Extend.{Support, curveHits, Best, bestOf, Search, stopped, finished, continueWith, nearestHit, planMove, isFixed, extendEnd, extendCurve}
 
 -- ---- 15 and 16 in the search for hits, 20 and 21 in that for roots
 
-abbrev Later : H.Outcome → Type 0
+abbrev Later : H.HitsResult → Type 0
 Later (H.found l b) = Unit {0}
 Later (H.refused n b) = 14 ≤ n
 
-later-need : (t : Bool) (n b : ℕ) (o : H.Outcome) → 14 ≤ n → Later o → Later (H.need t n b o)
-unfolding H.need
+later-need : (t : Bool) (n b : ℕ) (o : H.HitsResult) → 14 ≤ n → Later o → Later (H.guardHits t n b o)
+unfolding H.guardHits
 later-need true n b o h k = k
 later-need false n b o h k = h
 
@@ -56,7 +56,7 @@ later-resolved line f hits [] b = tt
 later-resolved line f hits (t ∷ ts) b =
     later-need (le (dist line (pointAt f t)) 1e-7) 16 b _ (omega arith) (later-resolved line f (cond (near (pointAt f t) hits) hits (hits ++ pointAt f t ∷ [])) ts b)
 
-later-at : (line : Shape) (f : Freeform) (o : R.Outcome) → By20Or21 o → Later (resolvedAt line f o)
+later-at : (line : Shape) (f : Freeform) (o : R.RootsResult) → By20Or21 o → Later (resolvedAt line f o)
 unfolding resolvedAt
 later-at line f (R.found ts b) h = later-resolved line f [] ts b
 later-at line f (R.refused n b) h = omega (arith, h .0)
@@ -71,8 +71,8 @@ later-shape : (a b : Vec2) (piece : Shape) (budget : ℕ) → Later (shapeHits a
 unfolding shapeHits
 later-shape a b piece budget = later-need _ 15 budget _ (omega arith) tt
 
-later-meets : (ps : List Point) (s : Support) (foot : Vec2) (o : Curve) (k : CurveKind) (budget : ℕ) → Later (meets ps s foot o k budget)
-unfolding meets
+later-meets : (ps : List Point) (s : Support) (foot : Vec2) (o : Curve) (k : CurveKind) (budget : ℕ) → Later (curveHits ps s foot o k budget)
+unfolding curveHits
 later-meets ps s foot o (Line a b) budget = later-shape (s .a) (s .b) _ budget
 later-meets ps s foot o (Arc c a b) budget = later-shape (s .a) (s .b) _ budget
 later-meets ps s foot o (Circle c r) budget = later-shape (s .a) (s .b) _ budget
@@ -83,40 +83,40 @@ later-meets ps s foot o (Conic a m b rho) budget = later-along (s .a) (s .b) (no
 
 abbrev Stops : Search → Type 0
 Stops (stopped n) = 14 ≤ n
-Stops (sought best) = Unit {0}
+Stops (finished best) = Unit {0}
 
-stops : (ps : List Point) (s : Support) (foot : Vec2) (os : List Curve) (best : Option Best) (budget : ℕ) → Stops (seek ps s foot os best budget)
-unfolding seek after
+stops : (ps : List Point) (s : Support) (foot : Vec2) (os : List Curve) (best : Option Best) (budget : ℕ) → Stops (nearestHit ps s foot os best budget)
+unfolding nearestHit continueWith
 stops ps s foot [] best budget = tt
 stops ps s foot (o ∷ os) best budget =
-    go (λ qs b. stops ps s foot os (bestOf s (o .id) best qs) b) (meets ps s foot o (o .kind) budget) (later-meets ps s foot o (o .kind) budget)
+    go (λ qs b. stops ps s foot os (bestOf s (o .id) best qs) b) (curveHits ps s foot o (o .kind) budget) (later-meets ps s foot o (o .kind) budget)
   where
     go :
-        ((qs : List Vec2) (b : ℕ) → Stops (seek ps s foot os (bestOf s (o .id) best qs) b)) → (r : H.Outcome) → Later r
-        → Stops (after (λ qs left. seek ps s foot os (bestOf s (o .id) best qs) left) r)
+        ((qs : List Vec2) (b : ℕ) → Stops (nearestHit ps s foot os (bestOf s (o .id) best qs) b)) → (r : H.HitsResult) → Later r
+        → Stops (continueWith (λ qs left. nearestHit ps s foot os (bestOf s (o .id) best qs) left) r)
     go ih (H.found qs b) h = ih qs b
     go ih (H.refused n b) h = h
 
-abbrev From14 : Choice → Type 0
+abbrev From14 : PlanResult → Type 0
 From14 (Refused n) = 14 ≤ n
-From14 (Chosen plan) = Unit {0}
+From14 (Accepted plan) = Unit {0}
 
-from-unless : (b : Bool) (n : ℕ) (o : Choice) → 14 ≤ n → From14 o → From14 (unless b n o)
-unfolding unless
+from-unless : (b : Bool) (n : ℕ) (o : PlanResult) → 14 ≤ n → From14 o → From14 (guardPlan b n o)
+unfolding guardPlan
 from-unless true n o h k = k
 from-unless false n o h k = h
 
-from-move : (d : Drawing) (atB : Bool) (r : Search) → Stops r → From14 (moveTo d atB r)
-unfolding moveTo
+from-move : (d : Drawing) (atB : Bool) (r : Search) → Stops r → From14 (planMove d atB r)
+unfolding planMove
 from-move d atB (stopped n) h = h
-from-move d atB (sought none) h = omega arith
-from-move d atB (sought (some b)) h = from-unless (not (b .tied)) 17 _ (omega arith) tt
+from-move d atB (finished none) h = omega arith
+from-move d atB (finished (some b)) h = from-unless (not (b .tied)) 17 _ (omega arith) tt
 
 from-end : (d : Drawing) (c : ℕ) (p : Vec2) (s : Support) (end : ℕ) → From14 (extendEnd d c p s end)
 unfolding extendEnd
 from-end d c p s end =
     from-unless (not (among end (uses (others c (d .curves))) || isFixed (d .points) end)) 14 _ (omega arith)
-    (from-move d (s .atB) (seek (d .points) s (point (S.Line (s .a) (s .b)) (param (S.Line (s .a) (s .b)) p)) (others c (d .curves)) none 1000000)
+    (from-move d (s .atB) (nearestHit (d .points) s (point (S.Line (s .a) (s .b)) (param (S.Line (s .a) (s .b)) p)) (others c (d .curves)) none 1000000)
     (stops (d .points) s (point (S.Line (s .a) (s .b)) (param (S.Line (s .a) (s .b)) p)) (others c (d .curves)) none 1000000))
 
 pub record Told (n : ℕ) : Type 0 where
@@ -125,13 +125,13 @@ pub record Told (n : ℕ) : Type 0 where
 
 -- where all relations are met it is not refused by 13
 pub extend-number : (d : Drawing) (p : Vec2) (c : Curve) (k : CurveKind) (n : ℕ) → allMet d ≡ true → extendCurve d p c k ≡ Refused n → Told n
-unfolding extendCurve unless
+unfolding extendCurve guardPlan
 extend-number d p c (Line i j) n m e =
-    let a = at (d .points) i in
-    let b = at (d .points) j in
+    let a = positionOf (d .points) i in
+    let b = positionOf (d .points) j in
     let atB = le (distance p b) (distance p a) in
-    let x : Choice = extendEnd d (c .id) p (record { a = a; b = b; atB = atB }) (cond atB j i) in
-    let q : x ≡ Refused n = sym (ap (λ t. unless t 13 x) m) ∙ e in
+    let x : PlanResult = extendEnd d (c .id) p (record { a = a; b = b; atB = atB }) (cond atB j i) in
+    let q : x ≡ Refused n = sym (ap (λ t. guardPlan t 13 x) m) ∙ e in
     let h : 14 ≤ n = subst From14 q (from-end d (c .id) p (record { a = a; b = b; atB = atB }) (cond atB j i)) in
     record { some-number = λ z. omega arith; not-13 = λ z. omega arith }
 extend-number d p c (Arc m i j) n h e = let z : 10 ≡ n = cc in record { some-number = λ q. omega arith; not-13 = λ q. omega arith }
@@ -141,8 +141,8 @@ extend-number d p c (Conic i m j rho) n h e = let z : 10 ≡ n = cc in record { 
 
 -- ---- a sketch that no image gives is refused by 5 at most
 
-rule-low : (b : Bool) (n rest : ℕ) → n ≤ 5 → rest ≤ 5 → rule b n rest ≤ 5
-unfolding rule
+rule-low : (b : Bool) (n rest : ℕ) → n ≤ 5 → rest ≤ 5 → guardNumber b n rest ≤ 5
+unfolding guardNumber
 rule-low true n rest h k = k
 rule-low false n rest h k = h
 

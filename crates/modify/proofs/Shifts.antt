@@ -17,22 +17,22 @@ use Rattle.sketch.specs.declared.Relation.{Relation}
 use Rattle.sketch.specs.declared.Relation.the-variants.{Coincident, PointOnCurve}
 use Rattle.sketch.specs.declared.RelationSlot.{RelationSlot}
 use Rattle.sketch.specs.declared.Sketch.{Sketch}
-use Rattle.sketch.specs.Lists.{pick}
+use Rattle.sketch.specs.Lists.{ite}
 use Rattle.sketch.specs.Blanks.{noPoint}
 use Rattle.sketch.specs.Drawing.{Drawing, view, limits, pointIds}
 use Rattle.sketch.specs.Facts.{Rising, Sized, Valid}
 use Rattle.sketch.proofs.Bools.{never}
-use Rattle.placed.specs.Columns.{spot, PointColumns}
-use Rattle.carry.specs.declared.Pin.{Pin}
-use Rattle.carry.specs.declared.Pin.the-variants.{On, At}
-use Rattle.carry.specs.declared.Edited.{Edited}
-use Rattle.carry.specs.Outcome.{refused, accepted, _then_, need}
-use Rattle.carry.specs.Tables.{okPlace, withRelation, moved, movePoint}
-use Rattle.carry.specs.Once.{pinned}
-use Rattle.carry.specs.Steps.{pin, nothing}
-use Rattle.carry.specs.Suited.{outcomeOf}
-use Rattle.carry.proofs.Loops.{map-append}
-use Rattle.modify.specs.Seek.{itself, ShiftedTo, AddedTo, MovedTo}
+use Rattle.sketch_geometry.specs.Columns.{position, PointColumns}
+use Rattle.edit_plan.specs.declared.Pin.{Pin}
+use Rattle.edit_plan.specs.declared.Pin.the-variants.{On, At}
+use Rattle.edit_plan.specs.declared.Edited.{Edited}
+use Rattle.edit_plan.specs.Outcome.{refused, accepted, _then_, guard}
+use Rattle.edit_plan.specs.Tables.{okPosition, withRelation, moved, movePoint}
+use Rattle.edit_plan.specs.Changes.{pinned}
+use Rattle.edit_plan.specs.Steps.{pin, nothing}
+use Rattle.edit_plan.specs.Suited.{outcomeOf}
+use Rattle.edit_plan.proofs.Loops.{map-append}
+use Rattle.modify.specs.ExtendContracts.{itself, ShiftedTo, AddedTo, MovedTo}
 
 -- ---- ids rise, so that a store at a point's place moves that point alone
 
@@ -83,7 +83,7 @@ module _ {ps : List Point} {ids : List ℕ} {xs ys : List Float} (w : PointColum
       }
     where
       at : (j : ℕ) → j < length ps → (b : Bool) → eqb j k ≡ b
-          → spot (set xs k (p .x)) (set ys k (p .y)) j ≡ vec (getD (set ps k p) j noPoint .x) (getD (set ps k p) j noPoint .y)
+          → position (set xs k (p .x)) (set ys k (p .y)) j ≡ vec (getD (set ps k p) j noPoint .x) (getD (set ps k p) j noPoint .y)
       at j q true u =
           let z : j ≡ k = eqb-true j k u in
           let a : k < length xs = omega (arith, w .xs-long, as-many w) in
@@ -94,7 +94,7 @@ module _ {ps : List Point} {ids : List ℕ} {xs ys : List Float} (w : PointColum
           rw (getD-set-other xs k j (p .x) nan z, getD-set-other ys k j (p .y) nan z, getD-set-other ps k j p noPoint z) (w .each j q)
 
 outcome-is : (r : Edited) → r .refusal ≡ 0 → outcomeOf r ≡ accepted (view (r .sketch)) (r .removed)
-outcome-is r e = ap (λ n. pick (eqb n 0) (accepted (view (r .sketch)) (r .removed)) (refused n)) e
+outcome-is r e = ap (λ n. ite (eqb n 0) (accepted (view (r .sketch)) (r .removed)) (refused n)) e
 
 module _ (s : Sketch) (k : ℕ) (v : Vec2) (z : Sized s) (d : Valid limits (view s)) (h : k < s .npoints) (g : length (s .points) ≡ 512) where
   abbrev p : Point
@@ -149,12 +149,12 @@ module _ (s : Sketch) (k : ℕ) (v : Vec2) (z : Sized s) (d : Valid limits (view
     count = simp (length-map, length-take) (omega (arith, z .relations))
 
     pub full-is : {r : Edited} → r .refusal ≡ 22 → 256 ≤ s .nrelations → AddedTo (movePoint (p .id) v (view s)) relation r
-    unfolding need
+    unfolding guard
     full-is {r} e o =
         record {
           outcome =
-              ap (λ n. pick (eqb n 0) (accepted (view (r .sketch)) (r .removed)) (refused n)) e
-              ∙ sym (ap (λ b. need b 22 (accepted (withRelation (movePoint (p .id) v (view s)) relation) tt) then (λ d′ u. accepted d′ nothing)) (le-ltb (length (view s .relations)) 256 (omega (arith, count))));
+              ap (λ n. ite (eqb n 0) (accepted (view (r .sketch)) (r .removed)) (refused n)) e
+              ∙ sym (ap (λ b. guard b 22 (accepted (withRelation (movePoint (p .id) v (view s)) relation) tt) then (λ d′ u. accepted d′ nothing)) (le-ltb (length (view s .relations)) 256 (omega (arith, count))));
           sized = λ q. absurd (omega arith);
         }
 
@@ -187,44 +187,44 @@ module _ (s : Sketch) (k : ℕ) (v : Vec2) (z : Sized s) (d : Valid limits (view
           ∙ ap (λ (l : List Relation). record { next = s .next; points = map (moved (p .id) v) (view s .points); curves = view s .curves; relations = l }) relations-added
 
       pub added-is : {r : Edited} → r .sketch ≡ addedTo → r .refusal ≡ 0 → r .removed ≡ nothing → AddedTo (movePoint (p .id) v (view s)) relation r
-      unfolding need
+      unfolding guard
       added-is {r} e f t =
           record {
             outcome =
                 outcome-is r f ∙ ap (λ x. accepted x (r .removed)) (ap view e ∙ view-added) ∙ ap (accepted (withRelation (movePoint (p .id) v (view s)) relation)) t
-                ∙ sym (ap (λ b. need b 22 (accepted (withRelation (movePoint (p .id) v (view s)) relation) tt) then (λ d′ u. accepted d′ nothing)) (lt-ltb (length (view s .relations)) 256 (omega (arith, count))));
+                ∙ sym (ap (λ b. guard b 22 (accepted (withRelation (movePoint (p .id) v (view s)) relation) tt) then (λ d′ u. accepted d′ nothing)) (lt-ltb (length (view s .relations)) 256 (omega (arith, count))));
             sized = λ q. subst Sized (sym e) (record { points = z .points; curves = z .curves; relations = omega arith });
           }
 
 -- ---- where it is held
 
 module _ (d : Drawing) (end : ℕ) (v : Vec2) (w : Pin) where
-  pub moved-out : {r : Edited} → okPlace v ≡ false → r .refusal ≡ 24 → MovedTo d end v w r
-  unfolding need
+  pub moved-out : {r : Edited} → okPosition v ≡ false → r .refusal ≡ 24 → MovedTo d end v w r
+  unfolding guard
   moved-out {r} h e =
       record {
-        outcome = ap (λ n. pick (eqb n 0) (accepted (view (r .sketch)) (r .removed)) (refused n)) e ∙ sym (rw h);
+        outcome = ap (λ n. ite (eqb n 0) (accepted (view (r .sketch)) (r .removed)) (refused n)) e ∙ sym (rw h);
         sized = λ q. absurd (omega arith);
       }
 
-  module _ (h : okPlace v ≡ true) where
+  module _ (h : okPosition v ≡ true) where
     moved-on : {c : ℕ} {r : Edited} → w ≡ On c → AddedTo (movePoint end v d) (PointOnCurve end c) r → MovedTo d end v w r
-    unfolding need pin
+    unfolding guard pin
     moved-on e a = record { outcome = a .outcome ∙ sym (rw (h, e)); sized = a .sized }
 
     moved-at : {e : ℕ} {r : Edited} → w ≡ At e → (e ≡ end → ⊥) → AddedTo (movePoint end v d) (Coincident end e) r → MovedTo d end v w r
-    unfolding need pin
+    unfolding guard pin
     moved-at {e} f ne a = record { outcome = a .outcome ∙ sym (rw (h, f, ne-eqb e end ne)); sized = a .sized }
 
     moved-there : {e : ℕ} {r : Edited} → w ≡ At e → e ≡ end → ShiftedTo (movePoint end v d) r → MovedTo d end v w r
-    unfolding need pin
+    unfolding guard pin
     moved-there {e} {r} f q a =
         record {
           outcome = outcome-is r (a .accepts) ∙ ap (λ x. accepted x (r .removed)) (a .is) ∙ ap (accepted (movePoint end v d)) (a .nothing-gone) ∙ sym (rw (h, f, eq-eqb e end q));
           sized = λ z. a .sized;
         }
 
-module _ (d : Drawing) (end : ℕ) (v : Vec2) (h : okPlace v ≡ true) where
+module _ (d : Drawing) (end : ℕ) (v : Vec2) (h : okPosition v ≡ true) where
   pub moved-held : (w : Pin) {r : Edited} → itself w end ≡ false → AddedTo (movePoint end v d) (pinned w end) r → MovedTo d end v w r
   unfolding itself pinned
   moved-held (On c) e a = moved-on d end v (On c) h refl a

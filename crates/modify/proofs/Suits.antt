@@ -19,26 +19,26 @@ use Rattle.sketch.specs.declared.Point.{Point}
 use Rattle.sketch.specs.declared.Curve.{Curve}
 use Rattle.sketch.specs.declared.CurveKind.{CurveKind}
 use Rattle.sketch.specs.declared.CurveKind.the-variants.{Line, Arc, Circle, Bezier, Conic}
-use Rattle.sketch.specs.Lists.{pick, keep}
+use Rattle.sketch.specs.Lists.{ite, keep}
 use Rattle.sketch.specs.Drawing.{Drawing}
 use Rattle.sketch.specs.Facts.{Every}
 use Rattle.sketch.proofs.Bools.{or-right-false}
-use Rattle.placed.specs.Placed.{at, shapeOf}
+use Rattle.sketch_geometry.specs.Geometry.{positionOf, shapeOf}
 use Rattle.cuts.specs.declared.Cut.{Cut}
 use Rattle.cuts.specs.Lists.{lastOr, firstOr}
 use Rattle.cuts.specs.Bracket.{insertCut, sortCuts, inOrder, lastOne, firstOne, beside, around, bracket}
-use Rattle.carry.specs.declared.Plan.{Plan}
-use Rattle.carry.specs.declared.Plan.the-variants as P
-use Rattle.carry.specs.Suited.{suits, suitsOpen, suitsClosed, Pinned, Suited}
-use Rattle.modify.specs.declared.Choice.{Choice}
-use Rattle.modify.specs.declared.Choice.the-variants.{Refused, Chosen}
-use Rattle.modify.specs.Choose.{unless, cutsOf, pickedAt, placeOf, between, firstGoes, trimAt, trimPlan, splitFull, atEnd, splitPlan}
+use Rattle.edit_plan.specs.declared.Plan.{Plan}
+use Rattle.edit_plan.specs.declared.Plan.the-variants as P
+use Rattle.edit_plan.specs.Suited.{suits, suitsOpen, suitsClosed, Pinned, Suited}
+use Rattle.modify.specs.declared.PlanResult.{PlanResult}
+use Rattle.modify.specs.declared.PlanResult.the-variants.{Refused, Accepted}
+use Rattle.modify.specs.Planning.{guardPlan, cutsOf, paramOfPick, pinnedPointOf, between, firstGoes, trimAt, trimPlan, splitFull, atEnd, splitPlan}
 use Rattle.modify.specs.Edits.{isCircle, isFullArc, noFreeform, trimCurve, splitCurve}
 use Rattle.modify.proofs.Others.{By, isOther, last-every, kept-are, bracket-by-others, pin-held}
 
 -- what is chosen behind a test passed it
-pub unless-chosen : (b : Bool) (n : ℕ) (o : Choice) (plan : Plan) → unless b n o ≡ Chosen plan → (b ≡ true) × (o ≡ Chosen plan)
-unfolding unless
+pub unless-chosen : (b : Bool) (n : ℕ) (o : PlanResult) (plan : Plan) → guardPlan b n o ≡ Accepted plan → (b ≡ true) × (o ≡ Accepted plan)
+unfolding guardPlan
 unless-chosen true n o plan h = (refl, h)
 unless-chosen false n o plan h = let z : _≡_ {A = ℕ} 0 1 = cc in absurd (omega arith)
 
@@ -100,11 +100,11 @@ module _ (d : Drawing) (sh : Shape) (tq : Float) where
 module _ (d : Drawing) (p : Vec2) where
   trim-open : (t : ℕ) (sh : Shape) → isFull sh ≡ false → suitsOpen (trimPlan d t sh p) ≡ true
   unfolding trimPlan bracket
-  trim-open t sh f = rw f (open-suits d sh (pickedAt sh p) (inOrder sh (cutsOf d t sh)) f (beside (pickedAt sh p) (inOrder sh (cutsOf d t sh))) refl)
+  trim-open t sh f = rw f (open-suits d sh (paramOfPick sh p) (inOrder sh (cutsOf d t sh)) f (beside (paramOfPick sh p) (inOrder sh (cutsOf d t sh))) refl)
 
   trim-closed : (t : ℕ) (sh : Shape) → isFull sh ≡ true → suitsClosed (trimPlan d t sh p) ≡ true
   unfolding trimPlan bracket
-  trim-closed t sh f = rw f (closed-suits d sh (pickedAt sh p) (around (pickedAt sh p) (inOrder sh (cutsOf d t sh))) (around-two (pickedAt sh p) (inOrder sh (cutsOf d t sh))))
+  trim-closed t sh f = rw f (closed-suits d sh (paramOfPick sh p) (around (paramOfPick sh p) (inOrder sh (cutsOf d t sh))) (around-two (paramOfPick sh p) (inOrder sh (cutsOf d t sh))))
 
 -- a circle goes all the way round
 pub circle-full : (c : Vec2) (r : Float) → isFull (circle c r) ≡ true
@@ -115,13 +115,13 @@ circle-full c r = refl
 module _ (d : Drawing) (p : Vec2) (c : Curve) where
   trim-kind : (k : CurveKind) (sh : Shape) → shapeOf (d .points) k ≡ some sh → isFull sh && not (isCircle k) ≡ false → suits k (trimPlan d (c .id) sh p) ≡ true
   unfolding shapeOf isCircle suits isFull
-  trim-kind (Line a b) sh e h = let q : S.Line (at (d .points) a) (at (d .points) b) ≡ sh = cc in trim-open d p (c .id) sh (ap isFull (sym q))
+  trim-kind (Line a b) sh e h = let q : S.Line (positionOf (d .points) a) (positionOf (d .points) b) ≡ sh = cc in trim-open d p (c .id) sh (ap isFull (sym q))
   trim-kind (Arc o a b) sh e h = trim-open d p (c .id) sh (no (isFull sh) h)
     where
       no : (x : Bool) → x && true ≡ false → x ≡ false
       no true z = z
       no false z = refl
-  trim-kind (Circle o r) sh e h = let q : circle (at (d .points) o) r ≡ sh = cc in trim-closed d p (c .id) sh (ap isFull (sym q) ∙ circle-full (at (d .points) o) r)
+  trim-kind (Circle o r) sh e h = let q : circle (positionOf (d .points) o) r ≡ sh = cc in trim-closed d p (c .id) sh (ap isFull (sym q) ∙ circle-full (positionOf (d .points) o) r)
   trim-kind (Bezier n) sh e h = let z : _≡_ {A = ℕ} 0 1 = cc in absurd (omega arith)
   trim-kind (Conic a m b rho) sh e h = let z : _≡_ {A = ℕ} 0 1 = cc in absurd (omega arith)
 
@@ -136,66 +136,66 @@ module _ (d : Drawing) (p : Vec2) (c : Curve) where
   trim-suited sh e h =
       record {
         kind = trim-kind (c .kind) sh e h;
-        pins = pins-at sh (firstGoes sh (pickedAt sh p) (bracket sh (pickedAt sh p) (cutsOf d (c .id) sh))) (bracket sh (pickedAt sh p) (cutsOf d (c .id) sh)) (bracket-by-others d (c .id) sh (pickedAt sh p));
+        pins = pins-at sh (firstGoes sh (paramOfPick sh p) (bracket sh (paramOfPick sh p) (cutsOf d (c .id) sh))) (bracket sh (paramOfPick sh p) (cutsOf d (c .id) sh)) (bracket-by-others d (c .id) sh (paramOfPick sh p));
       }
 
   -- ---- split
 
-  split-open : (sh : Shape) (plan : Plan) → isFull sh ≡ false → splitPlan d (c .id) sh p ≡ Chosen plan → (suitsOpen plan ≡ true) × Pinned d (c .id) plan
+  split-open : (sh : Shape) (plan : Plan) → isFull sh ≡ false → splitPlan d (c .id) sh p ≡ Accepted plan → (suitsOpen plan ≡ true) × Pinned d (c .id) plan
   unfolding splitPlan suitsOpen
-  split-open sh plan f h = go (atEnd sh (pickedAt sh p)) (sym (rw f) ∙ h)
+  split-open sh plan f h = go (atEnd sh (paramOfPick sh p)) (sym (rw f) ∙ h)
     where
-      go : (b : Bool) → cond b (Refused 12) (Chosen (P.Divide (point sh (pickedAt sh p)))) ≡ Chosen plan → (suitsOpen plan ≡ true) × Pinned d (c .id) plan
+      go : (b : Bool) → cond b (Refused 12) (Accepted (P.Divide (point sh (paramOfPick sh p)))) ≡ Accepted plan → (suitsOpen plan ≡ true) × Pinned d (c .id) plan
       go true e = let z : _≡_ {A = ℕ} 0 1 = cc in absurd (omega arith)
-      go false e = let q : P.Divide (point sh (pickedAt sh p)) ≡ plan = cc in (ap suitsOpen (sym q), subst (Pinned d (c .id)) q tt)
+      go false e = let q : P.Divide (point sh (paramOfPick sh p)) ≡ plan = cc in (ap suitsOpen (sym q), subst (Pinned d (c .id)) q tt)
 
-  split-closed : (sh : Shape) (plan : Plan) → isFull sh ≡ true → splitPlan d (c .id) sh p ≡ Chosen plan → (suitsClosed plan ≡ true) × Pinned d (c .id) plan
+  split-closed : (sh : Shape) (plan : Plan) → isFull sh ≡ true → splitPlan d (c .id) sh p ≡ Accepted plan → (suitsClosed plan ≡ true) × Pinned d (c .id) plan
   unfolding splitPlan suitsClosed splitFull
-  split-closed sh plan f h = go (bracket sh (pickedAt sh p) (cutsOf d (c .id) sh)) (sym (rw f) ∙ h)
+  split-closed sh plan f h = go (bracket sh (paramOfPick sh p) (cutsOf d (c .id) sh)) (sym (rw f) ∙ h)
     where
-      go : (cuts : List Cut) → splitFull sh cuts ≡ Chosen plan → (suitsClosed plan ≡ true) × Pinned d (c .id) plan
+      go : (cuts : List Cut) → splitFull sh cuts ≡ Accepted plan → (suitsClosed plan ≡ true) × Pinned d (c .id) plan
       go [] e = let z : _≡_ {A = ℕ} 0 1 = cc in absurd (omega arith)
       go (k ∷ []) e = let z : _≡_ {A = ℕ} 0 1 = cc in absurd (omega arith)
       go (k ∷ j ∷ l) e = let q : P.DivideTwo (point sh (k .t)) (point sh (j .t)) ≡ plan = cc in (ap suitsClosed (sym q), subst (Pinned d (c .id)) q tt)
 
-  split-kind : (k : CurveKind) (sh : Shape) (plan : Plan) → shapeOf (d .points) k ≡ some sh → isFull sh && not (isCircle k) ≡ false → splitPlan d (c .id) sh p ≡ Chosen plan → (suits k plan ≡ true) × Pinned d (c .id) plan
+  split-kind : (k : CurveKind) (sh : Shape) (plan : Plan) → shapeOf (d .points) k ≡ some sh → isFull sh && not (isCircle k) ≡ false → splitPlan d (c .id) sh p ≡ Accepted plan → (suits k plan ≡ true) × Pinned d (c .id) plan
   unfolding shapeOf isCircle suits isFull
-  split-kind (Line a b) sh plan e h o = let q : S.Line (at (d .points) a) (at (d .points) b) ≡ sh = cc in split-open sh plan (ap isFull (sym q)) o
+  split-kind (Line a b) sh plan e h o = let q : S.Line (positionOf (d .points) a) (positionOf (d .points) b) ≡ sh = cc in split-open sh plan (ap isFull (sym q)) o
   split-kind (Arc m a b) sh plan e h o = split-open sh plan (no (isFull sh) h) o
     where
       no : (x : Bool) → x && true ≡ false → x ≡ false
       no true z = z
       no false z = refl
-  split-kind (Circle m r) sh plan e h o = let q : circle (at (d .points) m) r ≡ sh = cc in split-closed sh plan (ap isFull (sym q) ∙ circle-full (at (d .points) m) r) o
+  split-kind (Circle m r) sh plan e h o = let q : circle (positionOf (d .points) m) r ≡ sh = cc in split-closed sh plan (ap isFull (sym q) ∙ circle-full (positionOf (d .points) m) r) o
   split-kind (Bezier n) sh plan e h o = let z : _≡_ {A = ℕ} 0 1 = cc in absurd (omega arith)
   split-kind (Conic a m b rho) sh plan e h o = let z : _≡_ {A = ℕ} 0 1 = cc in absurd (omega arith)
 
-  pub split-suited : (sh : Shape) (plan : Plan) → shapeOf (d .points) (c .kind) ≡ some sh → isFullArc c sh ≡ false → splitPlan d (c .id) sh p ≡ Chosen plan → Suited d c plan
+  pub split-suited : (sh : Shape) (plan : Plan) → shapeOf (d .points) (c .kind) ≡ some sh → isFullArc c sh ≡ false → splitPlan d (c .id) sh p ≡ Accepted plan → Suited d c plan
   unfolding isFullArc
   split-suited sh plan e h o = let u = split-kind (c .kind) sh plan e h o in record { kind = u .0; pins = u .1 }
 
   -- ---- for the curve itself, whichever tests come before
 
-  pub trim-chosen : (plan : Plan) → trimCurve d p c (shapeOf (d .points) (c .kind)) ≡ Chosen plan → Suited d c plan
+  pub trim-chosen : (plan : Plan) → trimCurve d p c (shapeOf (d .points) (c .kind)) ≡ Accepted plan → Suited d c plan
   unfolding trimCurve
   trim-chosen plan h = go (shapeOf (d .points) (c .kind)) refl h
     where
-      go : (o : Option Shape) → shapeOf (d .points) (c .kind) ≡ o → trimCurve d p c o ≡ Chosen plan → Suited d c plan
+      go : (o : Option Shape) → shapeOf (d .points) (c .kind) ≡ o → trimCurve d p c o ≡ Accepted plan → Suited d c plan
       go none e k = let z : _≡_ {A = ℕ} 0 1 = cc in absurd (omega arith)
       go (some sh) e k =
-          let u = unless-chosen (not (c .infinite || isFullArc c sh)) 10 (unless (noFreeform d) 11 (Chosen (trimPlan d (c .id) sh p))) plan k in
-          let v = unless-chosen (noFreeform d) 11 (Chosen (trimPlan d (c .id) sh p)) plan (u .1) in
+          let u = unless-chosen (not (c .infinite || isFullArc c sh)) 10 (guardPlan (noFreeform d) 11 (Accepted (trimPlan d (c .id) sh p))) plan k in
+          let v = unless-chosen (noFreeform d) 11 (Accepted (trimPlan d (c .id) sh p)) plan (u .1) in
           let q : trimPlan d (c .id) sh p ≡ plan = cc in
           subst (Suited d c) q (trim-suited sh e (or-right-false (c .infinite) (isFullArc c sh) (not-true (c .infinite || isFullArc c sh) (u .0))))
 
-  pub split-chosen : (plan : Plan) → splitCurve d p c (shapeOf (d .points) (c .kind)) ≡ Chosen plan → Suited d c plan
+  pub split-chosen : (plan : Plan) → splitCurve d p c (shapeOf (d .points) (c .kind)) ≡ Accepted plan → Suited d c plan
   unfolding splitCurve
   split-chosen plan h = go (shapeOf (d .points) (c .kind)) refl h
     where
-      go : (o : Option Shape) → shapeOf (d .points) (c .kind) ≡ o → splitCurve d p c o ≡ Chosen plan → Suited d c plan
+      go : (o : Option Shape) → shapeOf (d .points) (c .kind) ≡ o → splitCurve d p c o ≡ Accepted plan → Suited d c plan
       go none e k = let z : _≡_ {A = ℕ} 0 1 = cc in absurd (omega arith)
       go (some sh) e k =
-          let inner : Choice = unless (not (isCircle (c .kind)) || noFreeform d) 11 (splitPlan d (c .id) sh p) in
+          let inner : PlanResult = guardPlan (not (isCircle (c .kind)) || noFreeform d) 11 (splitPlan d (c .id) sh p) in
           let u = unless-chosen (not (isFullArc c sh)) 10 inner plan k in
           let v = unless-chosen (not (isCircle (c .kind)) || noFreeform d) 11 (splitPlan d (c .id) sh p) plan (u .1) in
           split-suited sh plan e (not-true (isFullArc c sh) (u .0)) (v .1)

@@ -12,8 +12,8 @@ use Rattle.sketch.specs.declared.Curve.{Curve}
 use Rattle.sketch.specs.Lookup.{among}
 use Rattle.sketch.specs.Drawing.{usesOf}
 use Rattle.sketch.specs.Blanks.{noCurve}
-use Rattle.carry.specs.Tables.{uses, others}
-use Rattle.carry.proofs.Leaves.{among-append}
+use Rattle.edit_plan.specs.Tables.{uses, others}
+use Rattle.edit_plan.proofs.Leaves.{among-append}
 
 module _ (cs : List Curve) (n i : ℕ) where
   abbrev left : List Curve

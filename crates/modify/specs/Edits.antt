@@ -1,4 +1,4 @@
--- Trim, split and extend: who is turned away, in order, then what is chosen and carried out. Definitions only.
+-- Trim, split and extend: who is turned away, in order, then what is chosen and applied. Definitions only.
 use Prim.Native.Nat.{ℕ}
 use mathlib.Core.Path.{_≡_}
 use mathlib.Core.Bool.{Bool, true, false, not, _&&_, _||_, cond}
@@ -12,23 +12,23 @@ use Rattle.sketch.specs.declared.Curve.{Curve}
 use Rattle.sketch.specs.declared.CurveKind.{CurveKind}
 use Rattle.sketch.specs.declared.CurveKind.the-variants.{Line, Arc, Circle, Bezier, Conic}
 use Rattle.sketch.specs.declared.Sketch.{Sketch}
-use Rattle.sketch.specs.Lists.{pick, every}
+use Rattle.sketch.specs.Lists.{ite, every}
 use Rattle.sketch.specs.Drawing.{Drawing, view, Limits, limits, curveIn}
 use Rattle.sketch.specs.Valid.{sortOf, sketchFault}
 use Rattle.image.specs.declared.Operation.{Operation}
 use Rattle.image.specs.declared.Operation.the-variants.{Trim, Split, Extend}
-use Rattle.placed.specs.Placed.{shapeOf}
+use Rattle.sketch_geometry.specs.Geometry.{shapeOf}
 use Rattle.relations.specs.Met.{allMet, unmetAt}
-use Rattle.carry.specs.declared.Plan.{Plan}
-use Rattle.carry.specs.declared.Removed.{Removed}
-use Rattle.carry.specs.declared.Edited.{Edited}
-use Rattle.carry.specs.Outcome.{Outcome, refused, accepted, need}
-use Rattle.carry.specs.Tables.{okPlace}
-use Rattle.carry.specs.CarryOut.{carryOut}
-use Rattle.carry.specs.Suited.{outcomeOf}
-use Rattle.modify.specs.declared.Choice.{Choice}
-use Rattle.modify.specs.declared.Choice.the-variants.{Refused, Chosen}
-use Rattle.modify.specs.Choose.{unless, trimPlan, splitPlan}
+use Rattle.edit_plan.specs.declared.Plan.{Plan}
+use Rattle.edit_plan.specs.declared.Removed.{Removed}
+use Rattle.edit_plan.specs.declared.Edited.{Edited}
+use Rattle.edit_plan.specs.Outcome.{Outcome, refused, accepted, guard}
+use Rattle.edit_plan.specs.Tables.{okPosition}
+use Rattle.edit_plan.specs.ApplyPlan.{applyPlan}
+use Rattle.edit_plan.specs.Suited.{outcomeOf}
+use Rattle.modify.specs.declared.PlanResult.{PlanResult}
+use Rattle.modify.specs.declared.PlanResult.the-variants.{Refused, Accepted}
+use Rattle.modify.specs.Planning.{guardPlan, trimPlan, splitPlan}
 use Rattle.modify.specs.Extend.{extendCurve}
 
 -- ---- who is turned away
@@ -49,55 +49,55 @@ unfoldable pub noFreeform : Drawing → Bool
 noFreeform d = every (λ c. not (eqb (sortOf (c .kind)) 3)) (d .curves)
 
 -- a freeform curve, an infinite line and a full arc are not trimmed (10); nor is any curve beside a freeform one (11)
-unfoldable pub trimCurve : Drawing → Vec2 → Curve → Option Shape → Choice
+unfoldable pub trimCurve : Drawing → Vec2 → Curve → Option Shape → PlanResult
 trimCurve d p c none = Refused 10
 trimCurve d p c (some sh) =
-    unless (not (c .infinite || isFullArc c sh)) 10
-    (unless (noFreeform d) 11 (Chosen (trimPlan d (c .id) sh p)))
+    guardPlan (not (c .infinite || isFullArc c sh)) 10
+    (guardPlan (noFreeform d) 11 (Accepted (trimPlan d (c .id) sh p)))
 
 -- a freeform curve and a full arc are not split (10); nor is a circle beside a freeform curve (11)
-unfoldable pub splitCurve : Drawing → Vec2 → Curve → Option Shape → Choice
+unfoldable pub splitCurve : Drawing → Vec2 → Curve → Option Shape → PlanResult
 splitCurve d p c none = Refused 10
 splitCurve d p c (some sh) =
-    unless (not (isFullArc c sh)) 10
-    (unless (not (isCircle (c .kind)) || noFreeform d) 11 (splitPlan d (c .id) sh p))
+    guardPlan (not (isFullArc c sh)) 10
+    (guardPlan (not (isCircle (c .kind)) || noFreeform d) 11 (splitPlan d (c .id) sh p))
 
-unfoldable pub onCurve : Operation → Drawing → Vec2 → Curve → Choice
-onCurve Trim d p c = trimCurve d p c (shapeOf (d .points) (c .kind))
-onCurve Split d p c = splitCurve d p c (shapeOf (d .points) (c .kind))
-onCurve Extend d p c = extendCurve d p c (c .kind)
+unfoldable pub planOnCurve : Operation → Drawing → Vec2 → Curve → PlanResult
+planOnCurve Trim d p c = trimCurve d p c (shapeOf (d .points) (c .kind))
+planOnCurve Split d p c = splitCurve d p c (shapeOf (d .points) (c .kind))
+planOnCurve Extend d p c = extendCurve d p c (c .kind)
 
 -- 8 where there is no such curve
-unfoldable pub onFound : Operation → Drawing → Vec2 → Option Curve → Choice
-onFound op d p none = Refused 8
-onFound op d p (some c) = onCurve op d p c
+unfoldable pub planOnFound : Operation → Drawing → Vec2 → Option Curve → PlanResult
+planOnFound op d p none = Refused 8
+planOnFound op d p (some c) = planOnCurve op d p c
 
 -- a pick is finite and of magnitude at most 1,000,000 (9)
-abbrev pub choose : Operation → Drawing → ℕ → Vec2 → Choice
-choose op d t p = unless (okPlace p) 9 (onFound op d p (curveIn (d .curves) t))
+abbrev pub planEdit : Operation → Drawing → ℕ → Vec2 → PlanResult
+planEdit op d t p = guardPlan (okPosition p) 9 (planOnFound op d p (curveIn (d .curves) t))
 
--- ---- an edit: choose, then carry out
+-- ---- an edit: choose, then apply
 
-unfoldable pub decided : (Drawing → Bool) → Limits → Drawing → ℕ → Choice → Outcome Drawing Removed
-decided met m d t (Refused n) = refused n
-decided met m d t (Chosen plan) = carryOut met m d t plan
+unfoldable pub applyPlanned : (Drawing → Bool) → Limits → Drawing → ℕ → PlanResult → Outcome Drawing Removed
+applyPlanned met m d t (Refused n) = refused n
+applyPlanned met m d t (Accepted plan) = applyPlan met m d t plan
 
 -- an edit of the curve t, picked at p
 abbrev pub editOf : Operation → Limits → Drawing → ℕ → Vec2 → Outcome Drawing Removed
-editOf op m d t p = decided allMet m d t (choose op d t p)
+editOf op m d t p = applyPlanned allMet m d t (planEdit op d t p)
 
 -- the same without the test of relations at its end
 abbrev pub editUntested : Operation → Limits → Drawing → ℕ → Vec2 → Outcome Drawing Removed
-editUntested op m d t p = decided (λ d′. true) m d t (choose op d t p)
+editUntested op m d t p = applyPlanned (λ d′. true) m d t (planEdit op d t p)
 
 -- ---- what is answered for a sketch
 
 -- a sketch that no image gives is refused first
 abbrev pub editSketch : Operation → Sketch → ℕ → Vec2 → Outcome Drawing Removed
-editSketch op s t p = need (eqb (sketchFault s) 0) (sketchFault s) (editOf op limits (view s) t p)
+editSketch op s t p = guard (eqb (sketchFault s) 0) (sketchFault s) (editOf op limits (view s) t p)
 
 -- the outcome; on refusal the sketch is left as it was, and after an accepted edit it is one that an image gives
-pub record Answered (op : Operation) (s : Sketch) (t : ℕ) (p : Vec2) (r : Edited) : Type 0 where
+pub record EditAnswer (op : Operation) (s : Sketch) (t : ℕ) (p : Vec2) (r : Edited) : Type 0 where
   pub outcome : outcomeOf r ≡ editSketch op s t p
   pub kept : (r .refusal ≡ 0 → ⊥) → r .sketch ≡ s
   pub valid : r .refusal ≡ 0 → sketchFault (r .sketch) ≡ 0

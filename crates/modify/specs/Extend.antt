@@ -17,20 +17,20 @@ use Rattle.sketch.specs.declared.Point.{Point}
 use Rattle.sketch.specs.declared.Curve.{Curve}
 use Rattle.sketch.specs.declared.CurveKind.{CurveKind}
 use Rattle.sketch.specs.declared.CurveKind.the-variants.{Line, Arc, Circle, Bezier, Conic}
-use Rattle.sketch.specs.Lists.{pick}
+use Rattle.sketch.specs.Lists.{ite}
 use Rattle.sketch.specs.Lookup.{among}
 use Rattle.sketch.specs.Drawing.{Drawing, curveIn, usesOf}
-use Rattle.placed.specs.Placed.{at, shapeOf}
+use Rattle.sketch_geometry.specs.Geometry.{positionOf, shapeOf}
 use Rattle.relations.specs.Met.{allMet}
 use Rattle.support.specs.Freeform.{bezier, conic}
 use Rattle.support.specs.Hits as H
 use Rattle.support.specs.Hits.{shapeHits, freeformHits, endlessLine}
-use Rattle.carry.specs.declared.Plan.the-variants as P
-use Rattle.carry.specs.Tables.{uses, others}
-use Rattle.carry.specs.Steps.{endsAt}
-use Rattle.modify.specs.declared.Choice.{Choice}
-use Rattle.modify.specs.declared.Choice.the-variants.{Refused, Chosen}
-use Rattle.modify.specs.Choose.{unless, pinTo}
+use Rattle.edit_plan.specs.declared.Plan.the-variants as P
+use Rattle.edit_plan.specs.Tables.{uses, others}
+use Rattle.edit_plan.specs.Steps.{endsAt}
+use Rattle.modify.specs.declared.PlanResult.{PlanResult}
+use Rattle.modify.specs.declared.PlanResult.the-variants.{Refused, Accepted}
+use Rattle.modify.specs.Planning.{guardPlan, pinTo}
 
 -- ---- the support
 
@@ -55,12 +55,12 @@ boundary infinite (S.Line a b) near = cond infinite (endlessLine a b near) (S.Li
 boundary infinite (S.Round c r start sweep) near = S.Round c r start sweep
 
 -- the hits with a curve; a conic's weight is rho over 1 − rho
-unfoldable pub meets : List Point → Support → Vec2 → Curve → CurveKind → ℕ → H.Outcome
-meets ps s near o (Line a b) budget = shapeHits (s .a) (s .b) (boundary (o .infinite) (S.Line (at ps a) (at ps b)) near) budget
-meets ps s near o (Arc c a b) budget = shapeHits (s .a) (s .b) (arc (at ps c) (at ps a) (at ps b)) budget
-meets ps s near o (Circle c r) budget = shapeHits (s .a) (s .b) (circle (at ps c) r) budget
-meets ps s near o (Bezier n) budget = freeformHits (s .a) (s .b) (bezier (map (at ps) (usesOf (Bezier n) (o .slots)))) budget
-meets ps s near o (Conic a m b rho) budget = freeformHits (s .a) (s .b) (conic (at ps a) (at ps m) (at ps b) (rho ⊘ (1f ⊖ rho))) budget
+unfoldable pub curveHits : List Point → Support → Vec2 → Curve → CurveKind → ℕ → H.HitsResult
+curveHits ps s near o (Line a b) budget = shapeHits (s .a) (s .b) (boundary (o .infinite) (S.Line (positionOf ps a) (positionOf ps b)) near) budget
+curveHits ps s near o (Arc c a b) budget = shapeHits (s .a) (s .b) (arc (positionOf ps c) (positionOf ps a) (positionOf ps b)) budget
+curveHits ps s near o (Circle c r) budget = shapeHits (s .a) (s .b) (circle (positionOf ps c) r) budget
+curveHits ps s near o (Bezier n) budget = freeformHits (s .a) (s .b) (bezier (map (positionOf ps) (usesOf (Bezier n) (o .slots)))) budget
+curveHits ps s near o (Conic a m b rho) budget = freeformHits (s .a) (s .b) (conic (positionOf ps a) (positionOf ps m) (positionOf ps b) (rho ⊘ (1f ⊖ rho))) budget
 
 -- ---- the nearest
 
@@ -91,46 +91,46 @@ bestOf s by best (q ∷ qs) =
 -- the search over the other curves, in order, within one budget
 pub data Search : Type 0 where
   stopped : ℕ → Search
-  sought : Option Best → Search
+  finished : Option Best → Search
 
 -- a refusal of the hits ends it
-unfoldable pub after : (List Vec2 → ℕ → Search) → H.Outcome → Search
-after rest (H.found qs b) = rest qs b
-after rest (H.refused n b) = stopped n
+unfoldable pub continueWith : (List Vec2 → ℕ → Search) → H.HitsResult → Search
+continueWith rest (H.found qs b) = rest qs b
+continueWith rest (H.refused n b) = stopped n
 
-unfoldable pub seek : List Point → Support → Vec2 → List Curve → Option Best → ℕ → Search
-seek ps s near [] best budget = sought best
-seek ps s near (o ∷ os) best budget = after (λ qs left. seek ps s near os (bestOf s (o .id) best qs) left) (meets ps s near o (o .kind) budget)
+unfoldable pub nearestHit : List Point → Support → Vec2 → List Curve → Option Best → ℕ → Search
+nearestHit ps s near [] best budget = finished best
+nearestHit ps s near (o ∷ os) best budget = continueWith (λ qs left. nearestHit ps s near os (bestOf s (o .id) best qs) left) (curveHits ps s near o (o .kind) budget)
 
 -- ---- the choice
 
 -- 17 where two lie as near, 18 where there is none
-unfoldable pub moveTo : Drawing → Bool → Search → Choice
-moveTo d atB (stopped n) = Refused n
-moveTo d atB (sought none) = Refused 18
-moveTo d atB (sought (some b)) =
-    unless (not (b .tied)) 17
-    (Chosen (P.Move atB (b .place) (pinTo (d .points) (b .place) (b .by) (endsAt (curveIn (d .curves) (b .by))))))
+unfoldable pub planMove : Drawing → Bool → Search → PlanResult
+planMove d atB (stopped n) = Refused n
+planMove d atB (finished none) = Refused 18
+planMove d atB (finished (some b)) =
+    guardPlan (not (b .tied)) 17
+    (Accepted (P.Move atB (b .place) (pinTo (d .points) (b .place) (b .by) (endsAt (curveIn (d .curves) (b .by))))))
 
 unfoldable pub isFixed : List Point → ℕ → Bool
 isFixed [] i = false
-isFixed (p ∷ ps) i = pick (eqb i (p .id)) (p .fixed) (isFixed ps i)
+isFixed (p ∷ ps) i = ite (eqb i (p .id)) (p .fixed) (isFixed ps i)
 
 -- 14 where the end is used by another curve, or is fixed
-unfoldable pub extendEnd : Drawing → ℕ → Vec2 → Support → ℕ → Choice
+unfoldable pub extendEnd : Drawing → ℕ → Vec2 → Support → ℕ → PlanResult
 extendEnd d c p s end =
     let rest = others c (d .curves) in
     let line = S.Line (s .a) (s .b) in
-    unless (not (among end (uses rest) || isFixed (d .points) end)) 14
-    (moveTo d (s .atB) (seek (d .points) s (point line (param line p)) rest none 1000000))
+    guardPlan (not (among end (uses rest) || isFixed (d .points) end)) 14
+    (planMove d (s .atB) (nearestHit (d .points) s (point line (param line p)) rest none 1000000))
 
 -- anything but a line is refused by 10, and then relations that are not met by 13; the end nearer to the pick moves, b where they are as near
-unfoldable pub extendCurve : Drawing → Vec2 → Curve → CurveKind → Choice
+unfoldable pub extendCurve : Drawing → Vec2 → Curve → CurveKind → PlanResult
 extendCurve d p c (Line i j) =
-    let a = at (d .points) i in
-    let b = at (d .points) j in
+    let a = positionOf (d .points) i in
+    let b = positionOf (d .points) j in
     let atB = le (distance p b) (distance p a) in
-    unless (allMet d) 13 (extendEnd d (c .id) p (record { a = a; b = b; atB = atB }) (cond atB j i))
+    guardPlan (allMet d) 13 (extendEnd d (c .id) p (record { a = a; b = b; atB = atB }) (cond atB j i))
 extendCurve d p c (Arc m i j) = Refused 10
 extendCurve d p c (Circle m r) = Refused 10
 extendCurve d p c (Bezier n) = Refused 10

@@ -1,6 +1,6 @@
 -- What the contracts of `modify` cite.
-pub mod Choose
+pub mod Planning
 pub mod Extend
 pub mod Edits
-pub mod Told
-pub mod Seek
+pub mod Contracts
+pub mod ExtendContracts

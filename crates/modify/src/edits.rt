@@ -1,19 +1,19 @@
 // Trim, split and extend of a sketch.
-use crate::Choice;
-use crate::choosing::choose;
-use crate::extending::extended;
+use crate::PlanResult;
+use crate::extending::extend_curve;
+use crate::find_target::find_target;
 use crate::moving::answer;
-use crate::picking::picked;
-use carry::Edited;
-use carry::carry_out;
+use crate::planning::plan_edit;
+use edit_plan::Edited;
+use edit_plan::apply_plan;
 use geom::Vec2;
 use image::Operation;
-use placed::lay_points;
 use sketch::Sketch;
+use sketch_geometry::fill_point_columns;
 ghost use mathlib.Core.Path.{_≡_};
 ghost use Rattle.image.specs.declared.Operation.the-variants as Operation;
-ghost use Rattle.modify.specs.Edits.{Answered};
-ghost use Rattle.modify.specs.Told.{isExtend, isSplit};
+ghost use Rattle.modify.specs.Edits.{EditAnswer};
+ghost use Rattle.modify.specs.Contracts.{isExtend, isSplit};
 
 // The operation by two tests, so that each course is called from one place and compiled into `edit`: a call that hands a sketch on copies it.
 fn is_extend(operation: Operation) -> bool
@@ -38,13 +38,13 @@ fn is_split(operation: Operation) -> bool
 
 // One edit: the tests that all begin with, and then its own. The sketch is tested here and no deeper.
 pub fn edit(operation: Operation, sk: Sketch, curve: u32, at: Vec2) -> Edited
-    ensures { λ r. ⌜ Answered operation sk curve at r ⌝ }
+    ensures { λ r. ⌜ EditAnswer operation sk curve at r ⌝ }
 {
     let fault = sketch::fault(sk);
     if fault != 0 {
         return answer(sk, fault, 0);
     }
-    let t = picked(sk, curve, at);
+    let t = find_target(sk, curve, at);
     if t.refusal != 0 {
         return answer(sk, t.refusal, 0);
     }
@@ -54,12 +54,12 @@ pub fn edit(operation: Operation, sk: Sketch, curve: u32, at: Vec2) -> Edited
     let mut near = [0u16; 1024];
     let mut xs = [0.0; 512];
     let mut ys = [0.0; 512];
-    lay_points(points, n, &mut ids, &mut near, &mut xs, &mut ys);
+    fill_point_columns(points, n, &mut ids, &mut near, &mut xs, &mut ys);
     let place = t.place;
     if is_extend(operation) {
-        return extended(sk, place, at, &ids[..n], &near, &mut xs[..n], &mut ys[..n]);
+        return extend_curve(sk, place, at, &ids[..n], &near, &mut xs[..n], &mut ys[..n]);
     }
-    match choose(
+    match plan_edit(
         sk,
         is_split(operation),
         place,
@@ -69,25 +69,25 @@ pub fn edit(operation: Operation, sk: Sketch, curve: u32, at: Vec2) -> Edited
         &xs[..n],
         &ys[..n],
     ) {
-        Choice::Refused(number) => answer(sk, number, 0),
-        Choice::Chosen(plan) => carry_out(sk, place, plan),
+        PlanResult::Refused(number) => answer(sk, number, 0),
+        PlanResult::Accepted(plan) => apply_plan(sk, place, plan),
     }
 }
 
 pub fn trim(sk: Sketch, curve: u32, at: Vec2) -> Edited
-    ensures { λ r. ⌜ Answered Operation.Trim sk curve at r ⌝ }
+    ensures { λ r. ⌜ EditAnswer Operation.Trim sk curve at r ⌝ }
 {
     edit(Operation::Trim, sk, curve, at)
 }
 
 pub fn split(sk: Sketch, curve: u32, at: Vec2) -> Edited
-    ensures { λ r. ⌜ Answered Operation.Split sk curve at r ⌝ }
+    ensures { λ r. ⌜ EditAnswer Operation.Split sk curve at r ⌝ }
 {
     edit(Operation::Split, sk, curve, at)
 }
 
 pub fn extend(sk: Sketch, curve: u32, at: Vec2) -> Edited
-    ensures { λ r. ⌜ Answered Operation.Extend sk curve at r ⌝ }
+    ensures { λ r. ⌜ EditAnswer Operation.Extend sk curve at r ⌝ }
 {
     edit(Operation::Extend, sk, curve, at)
 }

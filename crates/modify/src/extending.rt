@@ -1,23 +1,23 @@
 // Extend of a line: an end moves on to the nearest curve that it meets.
-use crate::Ending;
+use crate::EndPlan;
 use crate::Nearest;
-use crate::Reached;
+use crate::SearchResult;
 use crate::moving::answer;
 use crate::moving::move_end;
+use crate::nearest_hit::nearest_hit;
 use crate::pins::pin_at;
-use crate::seeking::seek;
-use crate::users::used_beside;
-use carry::Edited;
+use crate::point_uses::used_by_other;
+use edit_plan::Edited;
 use geom::Vec2;
-use placed::point_at;
+use relations::fill_curve_columns;
 use relations::first_unmet;
-use relations::lay_curves;
 use shape::Shape;
 use sketch::Curve;
 use sketch::CurveKind;
 use sketch::Point;
 use sketch::Sketch;
 use sketch::place_near;
+use sketch_geometry::point_at;
 ghost use mathlib.Core.Path.{_≡_};
 ghost use mathlib.Core.Bool.{true, cond};
 ghost use Prim.Native.Nat.{_≤_, _<_};
@@ -25,18 +25,18 @@ ghost use Rattle.sketch.specs.Drawing.{view, limits};
 ghost use Rattle.sketch.specs.Facts.{Sized, Valid};
 ghost use Rattle.sketch.specs.Valid.{sketchFault};
 ghost use Rattle.image.specs.declared.Operation.the-variants as Operation;
-ghost use Rattle.placed.specs.Columns.{PointColumns};
+ghost use Rattle.sketch_geometry.specs.Columns.{PointColumns};
 ghost use Rattle.relations.specs.Met.{allMet};
-ghost use Rattle.carry.specs.Tables.{okPlace};
-ghost use Rattle.carry.specs.Steps.{isLine};
-ghost use Rattle.carry.specs.Suited.{targetOf};
-ghost use Rattle.modify.specs.Edits.{Answered};
-ghost use Rattle.modify.specs.Told.{BegunAt};
+ghost use Rattle.edit_plan.specs.Tables.{okPosition};
+ghost use Rattle.edit_plan.specs.Steps.{isLine};
+ghost use Rattle.edit_plan.specs.Suited.{targetOf};
+ghost use Rattle.modify.specs.Edits.{EditAnswer};
+ghost use Rattle.modify.specs.Contracts.{TargetFoundAt};
 ghost use Rattle.modify.specs.Extend.{extendCurve};
-ghost use Rattle.modify.specs.Seek.{support, choiceOf, EndHeld, EndChosen, EndStands, Shown, Settled};
+ghost use Rattle.modify.specs.ExtendContracts.{support, planOf, PlansMove, PlansEnd, EndInTable, CurveColumnsOf, MetChecked};
 
 // The end at place k goes to the nearest hit: 18 where there is none, 17 where another lies as near.
-fn held<'a>(
+fn plan_move<'a>(
     best: Nearest,
     atb: bool,
     k: usize,
@@ -46,22 +46,22 @@ fn held<'a>(
     near: &'a [u16],
     xs: &'a [f64],
     ys: &'a [f64],
-) -> Ending
+) -> EndPlan
     requires { ⌜ n ≤ 128 ⌝ }
-    ensures { λ r. ⌜ EndHeld (now (ids .entry)) (now (xs .entry)) (now (ys .entry)) curves n best atb k r ⌝ }
+    ensures { λ r. ⌜ PlansMove (now (ids .entry)) (now (xs .entry)) (now (ys .entry)) curves n best atb k r ⌝ }
 {
     if !best.found {
-        return Ending::Refused(18);
+        return EndPlan::Refused(18);
     }
     if best.tied {
-        return Ending::Refused(17);
+        return EndPlan::Refused(17);
     }
     let q = best.at;
-    Ending::Move(atb, k, q, pin_at(q, best.by, curves, n, ids, near, xs, ys))
+    EndPlan::Move(atb, k, q, pin_at(q, best.by, curves, n, ids, near, xs, ys))
 }
 
 // The end of a line that moves: b or (false) a.
-fn end_of_two(atb: bool, i: u32, j: u32) -> u32
+fn moving_end(atb: bool, i: u32, j: u32) -> u32
     ensures { λ r. ⌜ r ≡ cond atb j i ⌝ }
 {
     if atb { j } else { i }
@@ -69,7 +69,7 @@ fn end_of_two(atb: bool, i: u32, j: u32) -> u32
 
 // The end b or (false) a of a line: 14 where another curve uses it, or it is fixed. It takes the tables and no sketch, which would be
 // copied for the look into it. An end of a sketch's line lies within the table of points.
-fn end_from<'a>(
+fn plan_end<'a>(
     points: [Point; 512],
     curves: [Curve; 128],
     n: usize,
@@ -83,31 +83,31 @@ fn end_from<'a>(
     near: &'a [u16],
     xs: &'a [f64],
     ys: &'a [f64],
-) -> Ending
+) -> EndPlan
     requires { ⌜ n ≤ 128 ⌝ }
-    ensures { λ r. ⌜ EndChosen (now (ids .entry)) (now (xs .entry)) (now (ys .entry)) points curves n id at (support a b atb) end r ⌝ }
+    ensures { λ r. ⌜ PlansEnd (now (ids .entry)) (now (xs .entry)) (now (ys .entry)) points curves n id at (support a b atb) end r ⌝ }
 {
-    if used_beside(curves, n, id, end) {
-        return Ending::Refused(14);
+    if used_by_other(curves, n, id, end) {
+        return EndPlan::Refused(14);
     }
     let k = place_near(ids, near, end);
     if k >= 512 {
-        return Ending::Refused(14);
+        return EndPlan::Refused(14);
     }
     let p = points[k];
     if p.fixed {
-        return Ending::Refused(14);
+        return EndPlan::Refused(14);
     }
     let line = Shape::from_line(a, b);
     let foot = line.point(line.param(at));
-    match seek(a, b, atb, foot, id, curves, n, ids, near, xs, ys) {
-        Reached::Stopped(number) => Ending::Refused(number),
-        Reached::Best(best) => held(best, atb, k, curves, n, ids, near, xs, ys),
+    match nearest_hit(a, b, atb, foot, id, curves, n, ids, near, xs, ys) {
+        SearchResult::Stopped(number) => EndPlan::Refused(number),
+        SearchResult::Best(best) => plan_move(best, atb, k, curves, n, ids, near, xs, ys),
     }
 }
 
 // The end nearer to the pick, b where they are as near; 10 for anything but a line.
-fn ending_from<'a>(
+fn plan_extend<'a>(
     sk: Sketch,
     place: usize,
     at: Vec2,
@@ -115,22 +115,22 @@ fn ending_from<'a>(
     near: &'a [u16],
     xs: &'a [f64],
     ys: &'a [f64],
-) -> Ending
+) -> EndPlan
     requires { ⌜ Sized sk × Valid limits (view sk) × (place < sk .ncurves) × (allMet (view sk) ≡ true) × PointColumns (view sk .points) (now ids) (now xs) (now ys) ⌝ }
-    ensures { λ r. ⌜ (choiceOf r ≡ extendCurve (view sk) at (targetOf sk place) (targetOf sk place .kind)) × EndStands sk place r ⌝ }
+    ensures { λ r. ⌜ (planOf r ≡ extendCurve (view sk) at (targetOf sk place) (targetOf sk place .kind)) × EndInTable sk place r ⌝ }
 {
     let points = sk.points;
     let curves = sk.curves;
     let c = curves[place];
     let kind = c.kind;
     let CurveKind::Line(i, j) = kind else {
-        return Ending::Refused(10);
+        return EndPlan::Refused(10);
     };
     let a = point_at(i, ids, near, xs, ys);
     let b = point_at(j, ids, near, xs, ys);
     let atb = at.dist(b) <= at.dist(a);
-    let end = end_of_two(atb, i, j);
-    end_from(
+    let end = moving_end(atb, i, j);
+    plan_end(
         points,
         curves,
         sk.ncurves,
@@ -148,7 +148,7 @@ fn ending_from<'a>(
 }
 
 // What was moved, if the relations are met then by its columns; else 19 with the place of one that is not, and the sketch as it was.
-fn settled<'a>(
+fn check_met<'a>(
     sk: Sketch,
     e: Edited,
     ids: &'a [u32],
@@ -162,8 +162,8 @@ fn settled<'a>(
     seconds: &'a [u32],
     numbers: &'a [f64],
 ) -> Edited
-    requires { ⌜ ((e .refusal ≡ 0 → ⊥) → e .sketch ≡ sk) × (e .refusal ≡ 0 → (sketchFault (e .sketch) ≡ 0) × Shown (view (e .sketch)) (now ids) (now xs) (now ys) (now curves) (now kinds) (now firsts) (now seconds) (now numbers)) ⌝ }
-    ensures { λ r. ⌜ Settled sk e r ⌝ }
+    requires { ⌜ ((e .refusal ≡ 0 → ⊥) → e .sketch ≡ sk) × (e .refusal ≡ 0 → (sketchFault (e .sketch) ≡ 0) × CurveColumnsOf (view (e .sketch)) (now ids) (now xs) (now ys) (now curves) (now kinds) (now firsts) (now seconds) (now numbers)) ⌝ }
+    ensures { λ r. ⌜ MetChecked sk e r ⌝ }
 {
     if e.refusal != 0 {
         return e;
@@ -192,7 +192,7 @@ fn settled<'a>(
 }
 
 // The extend of a line, from columns of the points and of the curves: 13 with the place of a relation that is not met.
-fn extended_from<'a, 'b>(
+fn extend_line<'a, 'b>(
     sk: Sketch,
     place: usize,
     at: Vec2,
@@ -207,8 +207,8 @@ fn extended_from<'a, 'b>(
     seconds: &'a [u32],
     numbers: &'a [f64],
 ) -> Edited
-    requires { ⌜ BegunAt sk place at × (isLine (targetOf sk place .kind) ≡ true) × Shown (view sk) (now ids) (now xs) (now ys) (now curves) (now kinds) (now firsts) (now seconds) (now numbers) ⌝ }
-    ensures { λ r. ⌜ Answered Operation.Extend sk (targetOf sk place .id) at r ⌝ }
+    requires { ⌜ TargetFoundAt sk place at × (isLine (targetOf sk place .kind) ≡ true) × CurveColumnsOf (view sk) (now ids) (now xs) (now ys) (now curves) (now kinds) (now firsts) (now seconds) (now numbers) ⌝ }
+    ensures { λ r. ⌜ EditAnswer Operation.Extend sk (targetOf sk place .id) at r ⌝ }
 {
     let relations = sk.relations;
     let n = sk.nrelations;
@@ -229,13 +229,13 @@ fn extended_from<'a, 'b>(
     if broken < n {
         return answer(sk, 13, broken);
     }
-    match ending_from(sk, place, at, ids, near, &xs[..], &ys[..]) {
-        Ending::Refused(number) => answer(sk, number, 0),
-        Ending::Move(_, k, v, pin) => {
+    match plan_extend(sk, place, at, ids, near, &xs[..], &ys[..]) {
+        EndPlan::Refused(number) => answer(sk, number, 0),
+        EndPlan::Move(_, k, v, pin) => {
             let e = move_end(sk, k, v, pin);
             xs[k] = v.x;
             ys[k] = v.y;
-            settled(
+            check_met(
                 sk,
                 e,
                 ids,
@@ -255,7 +255,7 @@ fn extended_from<'a, 'b>(
 
 // The extend of the curve at a place, from columns of the points: 10 for anything but a line. The columns are the caller's to lose: the
 // moved end is put into them.
-pub(crate) fn extended<'a, 'b>(
+pub(crate) fn extend_curve<'a, 'b>(
     sk: Sketch,
     place: usize,
     at: Vec2,
@@ -264,8 +264,8 @@ pub(crate) fn extended<'a, 'b>(
     xs: &'b mut [f64],
     ys: &'b mut [f64],
 ) -> Edited
-    requires { ⌜ (sketchFault sk ≡ 0) × Sized sk × Valid limits (view sk) × (place < sk .ncurves) × (okPlace at ≡ true) × PointColumns (view sk .points) (now ids) (now xs) (now ys) ⌝ }
-    ensures { λ r. ⌜ Answered Operation.Extend sk (targetOf sk place .id) at r ⌝ }
+    requires { ⌜ (sketchFault sk ≡ 0) × Sized sk × Valid limits (view sk) × (place < sk .ncurves) × (okPosition at ≡ true) × PointColumns (view sk .points) (now ids) (now xs) (now ys) ⌝ }
+    ensures { λ r. ⌜ EditAnswer Operation.Extend sk (targetOf sk place .id) at r ⌝ }
 {
     let table = sk.curves;
     let c = table[place];
@@ -280,7 +280,7 @@ pub(crate) fn extended<'a, 'b>(
     let mut firsts = [0u32; 128];
     let mut seconds = [0u32; 128];
     let mut numbers = [0.0; 128];
-    lay_curves(
+    fill_curve_columns(
         table,
         n,
         ids,
@@ -292,7 +292,7 @@ pub(crate) fn extended<'a, 'b>(
         &mut seconds,
         &mut numbers,
     );
-    extended_from(
+    extend_line(
         sk,
         place,
         at,

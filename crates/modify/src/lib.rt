@@ -1,18 +1,18 @@
 // Trim, split and extend: the tests, the choice of a plan, and carrying it out.
-mod choosing;
+mod curve_hits;
+mod cutter_list;
 mod edits;
 mod extending;
-mod gathering;
-mod meeting;
+mod find_target;
 mod moving;
-mod picking;
+mod nearest_hit;
 mod pins;
-mod seeking;
-mod users;
+mod planning;
+mod point_uses;
 
-use carry::Pin;
-use carry::Plan;
-use cuts::Other;
+use cuts::Cutter;
+use edit_plan::Pin;
+use edit_plan::Plan;
 pub use edits::edit;
 pub use edits::extend;
 pub use edits::split;
@@ -20,14 +20,14 @@ pub use edits::trim;
 use geom::Vec2;
 
 // What is to be done with the curve that was picked, or the number of a refusal.
-pub enum Choice {
+pub enum PlanResult {
     Refused(u8),
-    Chosen(Plan),
+    Accepted(Plan),
 }
 
 // The lines and rounds that may cut, and whether there is a freeform curve.
-struct Gathered {
-    list: [Other; 128],
+struct Cutters {
+    list: [Cutter; 128],
     count: usize,
     freeform: bool,
 }
@@ -54,19 +54,19 @@ struct Nearest {
 }
 
 // One curve looked at: the number of a refusal, or the nearest hit then, and the budget that is left.
-enum Looked {
+enum SearchStep {
     Stopped(u8),
-    Went(Nearest, usize),
+    Continued(Nearest, usize),
 }
 
 // All curves looked at: the number of a refusal, or the nearest hit.
-enum Reached {
+enum SearchResult {
     Stopped(u8),
     Best(Nearest),
 }
 
 // What becomes of the end of a line: the number of a refusal; or that the end, or (false) the start, the point at a place, moves.
-enum Ending {
+enum EndPlan {
     Refused(u8),
     Move(bool, usize, Vec2, Pin),
 }

@@ -1,8 +1,8 @@
 // An end of a line moved to a place, and held there.
-use carry::Edited;
-use carry::Pin;
-use carry::Removed;
-use carry::pin_of;
+use edit_plan::Edited;
+use edit_plan::Pin;
+use edit_plan::Removed;
+use edit_plan::pin_of;
 use geom::Vec2;
 use sketch::Point;
 use sketch::RelationSlot;
@@ -14,8 +14,8 @@ ghost use lib.ListN.{getD};
 ghost use Rattle.sketch.specs.Blanks.{noPoint};
 ghost use Rattle.sketch.specs.Drawing.{view, limits};
 ghost use Rattle.sketch.specs.Facts.{Sized, Valid};
-ghost use Rattle.carry.specs.Steps.{nothing};
-ghost use Rattle.modify.specs.Seek.{itself, MovedTo};
+ghost use Rattle.edit_plan.specs.Steps.{nothing};
+ghost use Rattle.modify.specs.ExtendContracts.{itself, MovedTo};
 
 // An answer of an edit after which no curve is gone.
 pub(crate) fn answer(sketch: Sketch, refusal: u8, place: usize) -> Edited

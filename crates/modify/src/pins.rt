@@ -1,14 +1,14 @@
 // What holds a new end to the curve that cut there.
-use crate::gathering::curve_place;
-use carry::Pin;
+use crate::cutter_list::curve_place;
+use edit_plan::Pin;
 use float::bounds::BELOW_1E_6;
 use geom::Vec2;
-use placed::point_at;
 use sketch::Curve;
 use sketch::CurveKind;
+use sketch_geometry::point_at;
 ghost use mathlib.Core.Option.{some};
 ghost use Prim.Native.Nat.{_≤_};
-ghost use Rattle.modify.specs.Told.{PinTo, PinAt};
+ghost use Rattle.modify.specs.Contracts.{PinTo, PinAt};
 
 // An end of the curve `by` that is nearer than 1e-6, or the curve.
 fn pin_to<'a>(

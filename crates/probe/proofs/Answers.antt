@@ -8,34 +8,34 @@ use lib.ListN.{length}
 use lib.Dec.{leb, eqb}
 use borrow.Author.Tests.{ne-eqb, eq-eqb, le-leb}
 use Rattle.big_endian.specs.Laws.{Bytes}
-use Rattle.sketch.specs.Lists.{rule}
+use Rattle.sketch.specs.Lists.{guardNumber}
 use Rattle.sketch.specs.Drawing.{Drawing, view, limits}
 use Rattle.sketch.specs.Valid.{sketchFault, faultOf}
 use Rattle.sketch.specs.declared.Sketch.{Sketch}
 use Rattle.image.specs.declared.ImageRead.{ImageRead}
-use Rattle.image.specs.Image.{imageFault, drawingOf, verdict, parse, accepted}
-use Rattle.image.specs.Decode.{outcome, Answered}
-use Rattle.image.specs.Encode.{encode, drawingSize, Written}
-use Rattle.image.proofs.Trips.{image-kept, encode-back, size-back}
+use Rattle.image.specs.Image.{imageFault, drawingOf, resultOf, parse, accepted}
+use Rattle.image.specs.Decode.{outcome, ReadAnswer}
+use Rattle.image.specs.Encode.{encode, drawingSize, ImageWritten}
+use Rattle.image.proofs.RoundTrips.{image-kept, encode-back, size-back}
 use Rattle.image.specs.declared.Message.{Message}
 use Rattle.image.specs.declared.MessageRead.the-variants.{Accepted, Refused}
 use Rattle.image.specs.Message as M
 use Rattle.image.specs.Message.{messageFault, messageOf}
-use Rattle.image.proofs.MessageTrips as T
-use Rattle.image.proofs.MessageTrips.{verdict-accepted, message-kept}
+use Rattle.image.proofs.MessageRoundTrips as T
+use Rattle.image.proofs.MessageRoundTrips.{verdict-accepted, message-kept}
 use Rattle.probe.specs.Probe.{Copied}
 
 -- an answer's number is the verdict's
-verdict-number : (m n : ℕ) (d e : Drawing) → verdict m d ≡ verdict n e → m ≡ n
-unfolding verdict
+verdict-number : (m n : ℕ) (d e : Drawing) → resultOf m d ≡ resultOf n e → m ≡ n
+unfolding resultOf
 verdict-number zero zero d e h = refl
 verdict-number zero (suc n) d e h = let z : _≡_ {A = ℕ} 0 1 = cc in absurd (omega arith)
 verdict-number (suc m) zero d e h = let z : _≡_ {A = ℕ} 0 1 = cc in absurd (omega arith)
 verdict-number (suc m) (suc n) d e h = cc
 
 -- and so is its drawing, where it is accepted
-verdict-drawing : (m n : ℕ) (d e : Drawing) → verdict m d ≡ verdict n e → m ≡ 0 → d ≡ e
-unfolding verdict
+verdict-drawing : (m n : ℕ) (d e : Drawing) → resultOf m d ≡ resultOf n e → m ≡ 0 → d ≡ e
+unfolding resultOf
 verdict-drawing zero zero d e h z = cc
 verdict-drawing zero (suc n) d e h z = let y : _≡_ {A = ℕ} 0 1 = cc in absurd (omega arith)
 verdict-drawing (suc m) n d e h z = absurd (omega arith)
@@ -48,15 +48,15 @@ read-drawing r s e z = verdict-drawing (r .refusal) (imageFault s) (view (r .ske
 
 -- bytes that are refused are not copied
 pub not-copied : (fault : ℕ) (bytes before : List ℕ) (r : ℕ) → r ≡ fault → (r ≡ 0 → ⊥) → Copied fault bytes before before r
-unfolding rule
+unfolding guardNumber
 not-copied fault bytes before r e n =
     let t : eqb fault 0 ≡ false = ne-eqb fault 0 (λ z. n (e ∙ z)) in
     record { number = rw t e; buffer = rw (t, t) }
 
 -- what was read and written again is the same bytes
-pub image-copied : (s before later : List ℕ) (sk : Sketch) (r : ImageRead) (n : ℕ) → Bytes s → Answered s r → r .refusal ≡ 0 → sk ≡ r .sketch → Written sk before later n
+pub image-copied : (s before later : List ℕ) (sk : Sketch) (r : ImageRead) (n : ℕ) → Bytes s → ReadAnswer s r → r .refusal ≡ 0 → sk ≡ r .sketch → ImageWritten sk before later n
     → Copied (imageFault s) s before later n
-unfolding rule
+unfolding guardNumber
 image-copied s before later sk r n b a z e w =
     let i : imageFault s ≡ 0 = sym (read-number r s (a .told)) ∙ z in
     let v : view sk ≡ drawingOf s = ap view e ∙ read-drawing r s (a .told) z in
@@ -66,8 +66,8 @@ image-copied s before later sk r n b a z e w =
     let c : encode (view sk) ≡ s = ap encode v ∙ encode-back s b k in
     record { number = w .number ∙ rw (f, i, l); buffer = w .buffer ∙ rw (f, i, l, c) }
 
-pub message-copied : (s before later : List ℕ) (m : Message) (n : ℕ) → Bytes s → M.parse s ≡ Accepted m → M.Written m before later n → Copied (messageFault s) s before later n
-unfolding rule
+pub message-copied : (s before later : List ℕ) (m : Message) (n : ℕ) → Bytes s → M.parse s ≡ Accepted m → M.MessageWritten m before later n → Copied (messageFault s) s before later n
+unfolding guardNumber
 message-copied s before later m n b e w =
     let v = verdict-accepted (messageFault s) (messageOf s) m e in
     let k = message-kept s (v .0) in

@@ -19,26 +19,26 @@ use Rattle.image.specs.Message.{operationOf}
 use Rattle.image.specs.declared.Operation.{Operation}
 use Rattle.image.specs.declared.Operation.the-variants.{Extend}
 use Rattle.relations.specs.Met.{unmetAt}
-use Rattle.carry.specs.declared.Edited.{Edited}
-use Rattle.carry.specs.Outcome.{refused, accepted, need}
-use Rattle.carry.specs.Suited.{outcomeOf}
-use Rattle.modify.specs.Edits.{editOf, editUntested, Answered}
-use Rattle.exhibit.specs.Answers.{placeOf}
+use Rattle.edit_plan.specs.declared.Edited.{Edited}
+use Rattle.edit_plan.specs.Outcome.{refused, accepted, guard}
+use Rattle.edit_plan.specs.Suited.{outcomeOf}
+use Rattle.modify.specs.Edits.{editOf, editUntested, EditAnswer}
+use Rattle.replication.specs.Transitions.{reportedPlace}
 use Rattle.probe.specs.Edits.{isOperation, editImage, numberOf, leftIn, Wrote, EditMade, editAdds, repeated}
 use Rattle.probe.proofs.Places.{place-low, untested-valid}
 
 -- ---- the place above the number
 
-pub with-13 : (k p : ℕ) → k ≡ 13 → k + p % 65536 * 65536 ≡ k + placeOf k p % 65536 * 65536
+pub with-13 : (k p : ℕ) → k ≡ 13 → k + p % 65536 * 65536 ≡ k + reportedPlace k p % 65536 * 65536
 with-13 k p h = rw (eq-eqb k 13 h)
 
-pub with-19 : (k p : ℕ) → k ≡ 19 → k + p % 65536 * 65536 ≡ k + placeOf k p % 65536 * 65536
+pub with-19 : (k p : ℕ) → k ≡ 19 → k + p % 65536 * 65536 ≡ k + reportedPlace k p % 65536 * 65536
 with-19 k p h = rw (ne-eqb k 13 (λ z. omega arith), eq-eqb k 19 h)
 
-pub with-none : (k p : ℕ) → (k ≡ 13 → ⊥) → (k ≡ 19 → ⊥) → k ≡ k + placeOf k p % 65536 * 65536
+pub with-none : (k p : ℕ) → (k ≡ 13 → ⊥) → (k ≡ 19 → ⊥) → k ≡ k + reportedPlace k p % 65536 * 65536
 with-none k p a b = rw (ne-eqb k 13 a, ne-eqb k 19 b) (omega arith)
 
-place-is : (k p : ℕ) → (k ≡ 13) ⊎ (k ≡ 19) → p < 65536 → placeOf k p % 65536 ≡ p
+place-is : (k p : ℕ) → (k ≡ 13) ⊎ (k ≡ 19) → p < 65536 → reportedPlace k p % 65536 ≡ p
 place-is k p (inl h) l = rw (eq-eqb k 13 h) (omega arith)
 place-is k p (inr h) l = rw (ne-eqb k 13 (λ z. omega arith), eq-eqb k 19 h) (omega arith)
 
@@ -46,7 +46,7 @@ place-is k p (inr h) l = rw (ne-eqb k 13 (λ z. omega arith), eq-eqb k 19 h) (om
 
 module _ (op : ℕ) (s : List ℕ) (t : ℕ) (p : Vec2) (before : List ℕ) where
   pub image-refused : (r : ℕ) → r < 256 → r ≡ imageFault s → (r ≡ 0 → ⊥) → EditMade op s t p before before r
-  unfolding need numberOf leftIn
+  unfolding guard numberOf leftIn
   image-refused r low e n =
       let f : eqb (imageFault s) 0 ≡ false = ne-eqb (imageFault s) 0 (λ z. n (e ∙ z)) in
       let m : r % 65536 ≡ r = omega arith in
@@ -60,7 +60,7 @@ module _ (op : ℕ) (s : List ℕ) (t : ℕ) (p : Vec2) (before : List ℕ) wher
 
   module _ (i : imageFault s ≡ 0) where
     pub no-operation : isOperation op ≡ false → EditMade op s t p before before 6
-    unfolding need numberOf leftIn
+    unfolding guard numberOf leftIn
     no-operation o =
         let f : eqb (imageFault s) 0 ≡ true = eq-eqb (imageFault s) 0 i in
         record {
@@ -73,9 +73,9 @@ module _ (op : ℕ) (s : List ℕ) (t : ℕ) (p : Vec2) (before : List ℕ) wher
 
     -- ---- an edit
 
-    module _ (o : isOperation op ≡ true) (sk : Sketch) (v : view sk ≡ drawingOf s) (f : sketchFault sk ≡ 0) (r : Edited) (a : Answered (operationOf op) sk t p r) where
+    module _ (o : isOperation op ≡ true) (sk : Sketch) (v : view sk ≡ drawingOf s) (f : sketchFault sk ≡ 0) (r : Edited) (a : EditAnswer (operationOf op) sk t p r) where
       outcome-is : editImage op s t p ≡ outcomeOf r
-      unfolding need
+      unfolding guard
       outcome-is =
           let g : eqb (imageFault s) 0 ≡ true = eq-eqb (imageFault s) 0 i in
           let h : outcomeOf r ≡ editOf (operationOf op) limits (view sk) t p = a .outcome ∙ rw (eq-eqb (sketchFault sk) 0 f) in
@@ -85,11 +85,11 @@ module _ (op : ℕ) (s : List ℕ) (t : ℕ) (p : Vec2) (before : List ℕ) wher
       unfolding operationOf
       extends e = ap operationOf e
 
-      pub edit-refused : (n : ℕ) → r .refusal < 256 → (r .refusal ≡ 0 → ⊥) → n ≡ r .refusal + placeOf (r .refusal) (r .place) % 65536 * 65536 → EditMade op s t p before before n
+      pub edit-refused : (n : ℕ) → r .refusal < 256 → (r .refusal ≡ 0 → ⊥) → n ≡ r .refusal + reportedPlace (r .refusal) (r .place) % 65536 * 65536 → EditMade op s t p before before n
       unfolding numberOf leftIn
       edit-refused n low z is =
           let k = r .refusal in
-          let w = placeOf k (r .place) % 65536 in
+          let w = reportedPlace k (r .place) % 65536 in
           let number-is : n % 65536 ≡ k = omega arith in
           let place-told : n / 65536 ≡ w = omega arith in
           let q : editImage op s t p ≡ refused k = outcome-is ∙ rw (ne-eqb k 0 z) in
@@ -111,11 +111,11 @@ module _ (op : ℕ) (s : List ℕ) (t : ℕ) (p : Vec2) (before : List ℕ) wher
                 subst (λ (j : ℕ). unmetAt d′ j ≡ true) (sym (place-told ∙ place-is k (r .place) (inr (sym number-is ∙ h)) (omega arith))) m;
           }
         where
-          nothing : (r .refusal ≡ 13 → ⊥) → (r .refusal ≡ 19 → ⊥) → 0 ≡ placeOf (r .refusal) (r .place) % 65536
+          nothing : (r .refusal ≡ 13 → ⊥) → (r .refusal ≡ 19 → ⊥) → 0 ≡ reportedPlace (r .refusal) (r .place) % 65536
           nothing x y = rw (ne-eqb (r .refusal) 13 x, ne-eqb (r .refusal) 19 y)
 
       pub edit-written : r .refusal ≡ 0 → (later : List ℕ) (n : ℕ) → Wrote (accepted (view (r .sketch)) (r .removed)) before later n → EditMade op s t p before later n
-      unfolding need numberOf
+      unfolding guard numberOf
       edit-written z later n w =
           let q : editImage op s t p ≡ accepted (view (r .sketch)) (r .removed) = outcome-is ∙ rw (eq-eqb (r .refusal) 0 z) in
           let c = number-of (leb (12 + drawingSize (view (r .sketch))) (length before)) (w .number) in
@@ -127,7 +127,7 @@ module _ (op : ℕ) (s : List ℕ) (t : ℕ) (p : Vec2) (before : List ℕ) wher
             unmet-after = λ j e h d′ told g. absurd (not-19 c h);
           }
         where
-          number-of : (b : Bool) → n ≡ numberOf (need b 25 (accepted (view (r .sketch)) (r .removed))) → (n ≡ 0) ⊎ (n ≡ 25)
+          number-of : (b : Bool) → n ≡ numberOf (guard b 25 (accepted (view (r .sketch)) (r .removed))) → (n ≡ 0) ⊎ (n ≡ 25)
           number-of true e = inl e
           number-of false e = inr e
 
@@ -148,14 +148,14 @@ module _ (op : ℕ) (s : List ℕ) (t : ℕ) (p : Vec2) (before : List ℕ) wher
           not-19 (inr e) h = omega arith
 
 -- an operation by another name
-pub named : {o o′ : Operation} {sk : Sketch} {t : ℕ} {p : Vec2} {r : Edited} → o ≡ o′ → Answered o sk t p r → Answered o′ sk t p r
-named {o} {o′} {sk} {t} {p} {r} e a = subst (λ x. Answered x sk t p r) e a
+pub named : {o o′ : Operation} {sk : Sketch} {t : ℕ} {p : Vec2} {r : Edited} → o ≡ o′ → EditAnswer o sk t p r → EditAnswer o′ sk t p r
+named {o} {o′} {sk} {t} {p} {r} e a = subst (λ x. EditAnswer x sk t p r) e a
 
 -- ---- what an edit adds to a sum
 
-module _ (op : Operation) (sk : Sketch) (t : ℕ) (p : Vec2) (f : sketchFault sk ≡ 0) (r : Edited) (a : Answered op sk t p r) where
+module _ (op : Operation) (sk : Sketch) (t : ℕ) (p : Vec2) (f : sketchFault sk ≡ 0) (r : Edited) (a : EditAnswer op sk t p r) where
   made : outcomeOf r ≡ editOf op limits (view sk) t p
-  unfolding need
+  unfolding guard
   made = a .outcome ∙ rw (eq-eqb (sketchFault sk) 0 f)
 
   pub adds-number : (r .refusal ≡ 0 → ⊥) → r .refusal ≡ editAdds (editOf op limits (view sk) t p)

@@ -8,15 +8,15 @@ use lib.ListN.{length, take, drop, length-drop, length-append, drop-of-length-le
 use lib.Seq.{take-all, drop-drop, length-take-le, drop-at}
 use lib.Dec.{leb, eqb}
 use borrow.Author.Tests.{eq-eqb, le-leb, lt-leb, leb-true, leb-false}
-use Rattle.big_endian.specs.Fields.{bytes, over, placed}
+use Rattle.big_endian.specs.Fields.{bytes, over, overIfFits}
 use Rattle.big_endian.specs.Laws.{Run, run-starts, run-puts}
 use Rattle.sketch.specs.declared.Sketch.{Sketch}
-use Rattle.sketch.specs.Lists.{pick, rule}
+use Rattle.sketch.specs.Lists.{ite, guardNumber}
 use Rattle.sketch.specs.Drawing.{view}
 use Rattle.sketch.specs.Valid.{sketchFault}
-use Rattle.image.specs.Encode.{encode, drawingSize, Written}
-use Rattle.carry.specs.declared.Removed.{Removed}
-use Rattle.carry.specs.Outcome.{accepted, need}
+use Rattle.image.specs.Encode.{encode, drawingSize, ImageWritten}
+use Rattle.edit_plan.specs.declared.Removed.{Removed}
+use Rattle.edit_plan.specs.Outcome.{accepted, guard}
 use Rattle.probe.specs.Edits.{numberOf, leftIn, report, Wrote}
 
 module _ (sk : Sketch) (gone : Removed) (xs : List ℕ) where
@@ -25,12 +25,12 @@ module _ (sk : Sketch) (gone : Removed) (xs : List ℕ) where
 
   -- no room for the report
   pub report-short : length xs < 12 → Wrote (accepted (view sk) gone) xs xs 25
-  unfolding need numberOf leftIn
+  unfolding guard numberOf leftIn
   report-short h =
       let t : leb (12 + size) (length xs) ≡ false = lt-leb (12 + size) (length xs) (omega arith) in
       record { number = rw t; buffer = rw t }
 
-  module _ (f : sketchFault sk ≡ 0) (room : 12 ≤ length xs) (ys : List ℕ) (n : ℕ) (w : Written sk (take (length xs - 12) (drop 12 xs)) ys n) where
+  module _ (f : sketchFault sk ≡ 0) (room : 12 ≤ length xs) (ys : List ℕ) (n : ℕ) (w : ImageWritten sk (take (length xs - 12) (drop 12 xs)) ys n) where
     abbrev rest : List ℕ
     rest = drop 12 xs
 
@@ -48,27 +48,27 @@ module _ (sk : Sketch) (gone : Removed) (xs : List ℕ) where
     fits true e = le-leb (12 + size) (length xs) (omega (arith, leb-true size (length rest) e, long))
     fits false e = lt-leb (12 + size) (length xs) (omega (arith, leb-false size (length rest) e, long))
 
-    number-is : n ≡ rule (leb size (length rest)) 25 0
-    unfolding rule
+    number-is : n ≡ guardNumber (leb size (length rest)) 25 0
+    unfolding guardNumber
     number-is = w .number ∙ rw (eq-eqb (sketchFault sk) 0 f, all)
 
-    part-is : ys ≡ pick (eqb (rule (leb size (length rest)) 25 0) 0) (over rest 0 (encode (view sk))) rest
-    unfolding rule
+    part-is : ys ≡ ite (eqb (guardNumber (leb size (length rest)) 25 0) 0) (over rest 0 (encode (view sk))) rest
+    unfolding guardNumber
     part-is = w .buffer ∙ rw (eq-eqb (sketchFault sk) 0 f, all)
 
     pub image-short : (n ≡ 0 → ⊥) → Wrote (accepted (view sk) gone) xs (take 12 xs ++ (ys ++ drop (length xs - 12) rest)) n
-    unfolding rule need numberOf leftIn
+    unfolding guardNumber guard numberOf leftIn
     image-short z = go (leb size (length rest)) refl number-is part-is
       where
-        go : (b : Bool) → leb size (length rest) ≡ b → n ≡ rule b 25 0 → ys ≡ pick (eqb (rule b 25 0) 0) (over rest 0 (encode (view sk))) rest
+        go : (b : Bool) → leb size (length rest) ≡ b → n ≡ guardNumber b 25 0 → ys ≡ ite (eqb (guardNumber b 25 0) 0) (over rest 0 (encode (view sk))) rest
             → Wrote (accepted (view sk) gone) xs (take 12 xs ++ (ys ++ drop (length xs - 12) rest)) n
         go true e q r = absurd (z q)
         go false e q r = record { number = rw (fits false e) q; buffer = rw (fits false e) (back ∙ ap (λ l. take 12 xs ++ l) r ∙ take-append-drop 12 xs) }
 
     -- the three numbers of the report, one after the other
-    module _ (z : n ≡ 0) (l m k : List ℕ) (a : l ≡ placed (take 12 xs ++ (ys ++ drop (length xs - 12) rest)) 0 (bytes 4 (gone .curve))) (b : m ≡ placed l 4 (bytes 4 (gone .from))) (c : k ≡ placed m 8 (bytes 4 (gone .to))) where
+    module _ (z : n ≡ 0) (l m k : List ℕ) (a : l ≡ overIfFits (take 12 xs ++ (ys ++ drop (length xs - 12) rest)) 0 (bytes 4 (gone .curve))) (b : m ≡ overIfFits l 4 (bytes 4 (gone .from))) (c : k ≡ overIfFits m 8 (bytes 4 (gone .to))) where
       pub edit-told : Wrote (accepted (view sk) gone) xs k 0
-      unfolding rule need numberOf leftIn over
+      unfolding guardNumber guard numberOf leftIn over
       edit-told = go (leb size (length rest)) refl number-is part-is
         where
           front : List ℕ
@@ -91,7 +91,7 @@ module _ (sk : Sketch) (gone : Removed) (xs : List ℕ) where
           ends : length (report gone) ≡ 12
           ends = rw (← joined) (told .long)
 
-          go : (b : Bool) → leb size (length rest) ≡ b → n ≡ rule b 25 0 → ys ≡ pick (eqb (rule b 25 0) 0) (over rest 0 (encode (view sk))) rest → Wrote (accepted (view sk) gone) xs k 0
+          go : (b : Bool) → leb size (length rest) ≡ b → n ≡ guardNumber b 25 0 → ys ≡ ite (eqb (guardNumber b 25 0) 0) (over rest 0 (encode (view sk))) rest → Wrote (accepted (view sk) gone) xs k 0
           go false e q r = absurd (omega arith)
           go true e q r =
               let d = encode (view sk) in

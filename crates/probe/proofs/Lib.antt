@@ -3,6 +3,6 @@ pub mod Crossed
 pub mod EditsMade
 pub mod EditsWritten
 pub mod Places
-pub mod ScreenSums
+pub mod ReplicaSums
 pub mod Sums
-pub mod ToldRoots
+pub mod RootsAnswer

@@ -11,27 +11,27 @@ use Rattle.sketch.specs.Facts.{Valid}
 use Rattle.image.specs.declared.Operation.the-variants.{Extend}
 use Rattle.relations.specs.Met.{met, unmetAt}
 use Rattle.relations.proofs.Failing.{fails-within}
-use Rattle.carry.specs.declared.Plan.{Plan}
-use Rattle.carry.specs.declared.Removed.{Removed}
-use Rattle.carry.specs.Outcome.{accepted}
-use Rattle.carry.specs.Tables.{okPlace}
-use Rattle.carry.specs.Suited.{Pinned}
-use Rattle.carry.proofs.Tables.{look-some}
+use Rattle.edit_plan.specs.declared.Plan.{Plan}
+use Rattle.edit_plan.specs.declared.Removed.{Removed}
+use Rattle.edit_plan.specs.Outcome.{accepted}
+use Rattle.edit_plan.specs.Tables.{okPosition}
+use Rattle.edit_plan.specs.Suited.{Pinned}
+use Rattle.edit_plan.proofs.Tables.{look-some}
 use Rattle.chains.proofs.Edits.{plan-valid}
-use Rattle.modify.specs.declared.Choice.{Choice}
-use Rattle.modify.specs.declared.Choice.the-variants.{Refused, Chosen}
-use Rattle.modify.specs.Edits.{onCurve, onFound, choose, decided, editUntested}
+use Rattle.modify.specs.declared.PlanResult.{PlanResult}
+use Rattle.modify.specs.declared.PlanResult.the-variants.{Refused, Accepted}
+use Rattle.modify.specs.Edits.{planOnCurve, planOnFound, planEdit, applyPlanned, editUntested}
 use Rattle.modify.proofs.Suits.{unless-chosen}
 use Rattle.modify.proofs.Moves.{extend-chosen}
 
 pub place-low : (d : Drawing) (k : ℕ) → Valid limits d → unmetAt d k ≡ true → k < 256
 place-low d k v h = omega (arith, fails-within (met (d .points) (d .curves)) (d .relations) k h, v .relations-fit)
 
-extend-pinned : (d : Drawing) (t : ℕ) (p : Vec2) (plan : Plan) → onFound Extend d p (curveIn (d .curves) t) ≡ Chosen plan → Pinned d t plan
-unfolding onFound onCurve
+extend-pinned : (d : Drawing) (t : ℕ) (p : Vec2) (plan : Plan) → planOnFound Extend d p (curveIn (d .curves) t) ≡ Accepted plan → Pinned d t plan
+unfolding planOnFound planOnCurve
 extend-pinned d t p plan h = go (curveIn (d .curves) t) refl h
   where
-    go : (o : Option Curve) → curveIn (d .curves) t ≡ o → onFound Extend d p o ≡ Chosen plan → Pinned d t plan
+    go : (o : Option Curve) → curveIn (d .curves) t ≡ o → planOnFound Extend d p o ≡ Accepted plan → Pinned d t plan
     go none e h = let z : _≡_ {A = ℕ} 0 1 = cc in absurd (omega arith)
     go (some c) e h =
         let w = extend-chosen d c p plan h .1 in
@@ -39,10 +39,10 @@ extend-pinned d t p plan h = go (curveIn (d .curves) t) refl h
 
 -- an extend leaves a valid drawing before its relations are tested
 pub untested-valid : (d : Drawing) (t : ℕ) (p : Vec2) (d′ : Drawing) (r : Removed) → Valid limits d → editUntested Extend limits d t p ≡ accepted d′ r → Valid limits d′
-unfolding decided
-untested-valid d t p d′ r v q = go (choose Extend d t p) refl q
+unfolding applyPlanned
+untested-valid d t p d′ r v q = go (planEdit Extend d t p) refl q
   where
-    go : (c : Choice) → choose Extend d t p ≡ c → decided (λ x. true) limits d t c ≡ accepted d′ r → Valid limits d′
+    go : (c : PlanResult) → planEdit Extend d t p ≡ c → applyPlanned (λ x. true) limits d t c ≡ accepted d′ r → Valid limits d′
     go (Refused n) e q = let z : _≡_ {A = ℕ} 0 1 = cc in absurd (omega arith)
-    go (Chosen plan) e q =
-        plan-valid (λ x. true) limits d v t plan d′ r q (extend-pinned d t p plan (unless-chosen (okPlace p) 9 (onFound Extend d p (curveIn (d .curves) t)) plan e .1))
+    go (Accepted plan) e q =
+        plan-valid (λ x. true) limits d v t plan d′ r q (extend-pinned d t p plan (unless-chosen (okPosition p) 9 (planOnFound Extend d p (curveIn (d .curves) t)) plan e .1))

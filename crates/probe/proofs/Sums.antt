@@ -6,7 +6,7 @@ use Prim.Native.Nat.{ℕ, _+_, _*_, _%_, _^_, _≤_}
 use native.Mathlib.Nat.{add-mul, one-mul, zero-mul}
 use native.Mathlib.Omega.{arith}
 use borrow.Author.Tests.{eq-eqb, ne-eqb}
-use Rattle.sketch.specs.Lists.{rule}
+use Rattle.sketch.specs.Lists.{guardNumber}
 use Rattle.image.specs.Image.{imageFault}
 use Rattle.probe.specs.Edits.{isOperation, ofImage, repeated}
 
@@ -29,17 +29,17 @@ all-done i times k h g e = let q : i ≡ times = omega arith in e ∙ ap (λ (n 
 
 module _ (s : List ℕ) where
   pub image-turned : (k : ℕ) {r : ℕ} → r ≡ imageFault s → (r ≡ 0 → ⊥) → r ≡ ofImage s k
-  unfolding rule
+  unfolding guardNumber
   image-turned k e n = e ∙ rw (ne-eqb (imageFault s) 0 (λ z. n (e ∙ z)))
 
   pub image-passed : (k : ℕ) {r : ℕ} → imageFault s ≡ 0 → r ≡ k → r ≡ ofImage s k
-  unfolding rule
+  unfolding guardNumber
   image-passed k i e = e ∙ rw (eq-eqb (imageFault s) 0 i)
 
-  pub operation-turned : (op k : ℕ) → imageFault s ≡ 0 → isOperation op ≡ false → 6 ≡ ofImage s (rule (isOperation op) 6 k)
-  unfolding rule
-  operation-turned op k i o = image-passed (rule (isOperation op) 6 k) i (rw o)
+  pub operation-turned : (op k : ℕ) → imageFault s ≡ 0 → isOperation op ≡ false → 6 ≡ ofImage s (guardNumber (isOperation op) 6 k)
+  unfolding guardNumber
+  operation-turned op k i o = image-passed (guardNumber (isOperation op) 6 k) i (rw o)
 
-  pub operation-passed : (op k : ℕ) {r : ℕ} → imageFault s ≡ 0 → isOperation op ≡ true → r ≡ k → r ≡ ofImage s (rule (isOperation op) 6 k)
-  unfolding rule
-  operation-passed op k i o e = image-passed (rule (isOperation op) 6 k) i (rw o e)
+  pub operation-passed : (op k : ℕ) {r : ℕ} → imageFault s ≡ 0 → isOperation op ≡ true → r ≡ k → r ≡ ofImage s (guardNumber (isOperation op) 6 k)
+  unfolding guardNumber
+  operation-passed op k i o e = image-passed (guardNumber (isOperation op) 6 k) i (rw o e)

@@ -7,15 +7,15 @@ use lib.ListN.{length}
 use lib.Dec.{leb, eqb}
 use Rattle.big_endian.specs.Fields.{bytes, over}
 use Rattle.geom.specs.declared.Vec2.{Vec2}
-use Rattle.sketch.specs.Lists.{rule}
+use Rattle.sketch.specs.Lists.{guardNumber}
 use Rattle.sketch.specs.Drawing.{Drawing, limits}
 use Rattle.image.specs.Image.{imageFault, drawingOf}
 use Rattle.image.specs.Encode.{encode, drawingSize}
 use Rattle.image.specs.Message.{operationOf}
 use Rattle.image.specs.declared.Operation.the-variants.{Extend}
 use Rattle.relations.specs.Met.{unmetAt}
-use Rattle.carry.specs.declared.Removed.{Removed}
-use Rattle.carry.specs.Outcome.{Outcome, refused, accepted, _then_, need}
+use Rattle.edit_plan.specs.declared.Removed.{Removed}
+use Rattle.edit_plan.specs.Outcome.{Outcome, refused, accepted, _then_, guard}
 use Rattle.modify.specs.Edits.{editOf, editUntested}
 
 -- ---- one edit
@@ -25,15 +25,15 @@ isOperation n = leb 1 n && leb n 3
 
 -- by its operation's number; 6 where none has it
 abbrev pub editBy : ℕ → Drawing → ℕ → Vec2 → Outcome Drawing Removed
-editBy op d t p = need (isOperation op) 6 (editOf (operationOf op) limits d t p)
+editBy op d t p = guard (isOperation op) 6 (editOf (operationOf op) limits d t p)
 
 -- the image's own refusal first
 abbrev pub editImage : ℕ → List ℕ → ℕ → Vec2 → Outcome Drawing Removed
-editImage op s t p = need (eqb (imageFault s) 0) (imageFault s) (editBy op (drawingOf s) t p)
+editImage op s t p = guard (eqb (imageFault s) 0) (imageFault s) (editBy op (drawingOf s) t p)
 
 -- last, a buffer that is too short for the report and the image (25)
 abbrev pub fitting : ℕ → Outcome Drawing Removed → Outcome Drawing Removed
-fitting room o = o then (λ d r. need (leb (12 + drawingSize d) room) 25 (accepted d r))
+fitting room o = o then (λ d r. guard (leb (12 + drawingSize d) room) 25 (accepted d r))
 
 -- the report: the curve that went and its ends
 abbrev pub report : Removed → List ℕ
@@ -66,7 +66,7 @@ pub record EditMade (op : ℕ) (s : List ℕ) (t : ℕ) (p : Vec2) (before later
 
 -- the image's refusal, or the number
 abbrev pub ofImage : List ℕ → ℕ → ℕ
-ofImage s k = rule (eqb (imageFault s) 0) (imageFault s) k
+ofImage s k = guardNumber (eqb (imageFault s) 0) (imageFault s) k
 
 -- so many times a number, in 32 bits
 abbrev pub repeated : ℕ → ℕ → ℕ
@@ -78,4 +78,4 @@ editAdds (refused n) = n
 editAdds (accepted d r) = (d .next + r .curve) % 2 ^ 32
 
 abbrev pub editsSum : ℕ → List ℕ → ℕ → Vec2 → ℕ → ℕ
-editsSum op s t p times = ofImage s (rule (isOperation op) 6 (repeated times (editAdds (editOf (operationOf op) limits (drawingOf s) t p))))
+editsSum op s t p times = ofImage s (guardNumber (isOperation op) 6 (repeated times (editAdds (editOf (operationOf op) limits (drawingOf s) t p))))

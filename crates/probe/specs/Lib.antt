@@ -2,5 +2,5 @@ pub mod Edits
 pub mod Polynomials
 pub mod Probe
 pub mod Relations
-pub mod Screens
+pub mod Replicas
 pub mod Shapes

@@ -5,7 +5,7 @@ use mathlib.Core.List.{List}
 use lib.ListN.{length}
 use lib.Dec.{leb, eqb}
 use Rattle.big_endian.specs.Fields.{over}
-use Rattle.sketch.specs.Lists.{pick, rule}
+use Rattle.sketch.specs.Lists.{ite, guardNumber}
 use Rattle.sketch.specs.Drawing.{view}
 use Rattle.sketch.specs.Valid.{sketchFault}
 use Rattle.sketch.specs.declared.Sketch.{Sketch}
@@ -14,12 +14,12 @@ use Rattle.image.specs.Message.{messageFault}
 
 -- the bytes' own refusal, then a buffer that is too short for them
 abbrev pub copyFault : ℕ → List ℕ → ℕ → ℕ
-copyFault fault bytes room = rule (eqb fault 0) fault (rule (leb (length bytes) room) 25 0)
+copyFault fault bytes room = guardNumber (eqb fault 0) fault (guardNumber (leb (length bytes) room) 25 0)
 
 -- bytes that are accepted come out as they went in, and the rest of the buffer is as it was; a refusal leaves all of it
 pub record Copied (fault : ℕ) (bytes before later : List ℕ) (r : ℕ) : Type 0 where
   pub number : r ≡ copyFault fault bytes (length before)
-  pub buffer : later ≡ pick (eqb (copyFault fault bytes (length before)) 0) (over before 0 bytes) before
+  pub buffer : later ≡ ite (eqb (copyFault fault bytes (length before)) 0) (over before 0 bytes) before
 
 abbrev pub ImageCopied : List ℕ → List ℕ → List ℕ → ℕ → Type 0
 ImageCopied bytes before later r = Copied (imageFault bytes) bytes before later r

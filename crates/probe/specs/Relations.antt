@@ -5,7 +5,7 @@ use mathlib.Core.List.{List}
 use Rattle.sketch.specs.Drawing.{view}
 use Rattle.sketch.specs.declared.Sketch.{Sketch}
 use Rattle.image.specs.Image.{imageFault, drawingOf}
-use Rattle.relations.specs.Answer.{Told}
+use Rattle.relations.specs.Answer.{UnmetAnswer}
 use Rattle.relations.specs.declared.Verdict.{Verdict}
 use Rattle.relations.specs.declared.Verdict.the-variants.{Refused, Met, Unmet}
 use Rattle.probe.specs.Probe.{altered}
@@ -19,4 +19,4 @@ numbered (Unmet k) = 256 + k
 -- the image's refusal, or the verdict on a sketch that the image gives, altered
 pub data RelationsTested (bytes : List ℕ) (next points curves relations : ℕ) (r : ℕ) : Type 0 where
   unread : (imageFault bytes ≡ 0 → ⊥) → r ≡ imageFault bytes → RelationsTested bytes next points curves relations r
-  tested : (s : Sketch) (v : Verdict) → imageFault bytes ≡ 0 → view s ≡ drawingOf bytes → Told (altered s next points curves relations) v → r ≡ numbered v → RelationsTested bytes next points curves relations r
+  tested : (s : Sketch) (v : Verdict) → imageFault bytes ≡ 0 → view s ≡ drawingOf bytes → UnmetAnswer (altered s next points curves relations) v → r ≡ numbered v → RelationsTested bytes next points curves relations r

@@ -20,8 +20,8 @@ abbrev pub pairAt : List Float → ℕ → Vec2
 pairAt n i = vec (getD n i nan) (getD n (i + 1) nan)
 
 -- a line by its ends, an arc by its centre and its ends, and of any other kind a circle by its centre and its radius
-unfoldable pub shapeOf : ℕ → List Float → Shape
-shapeOf kind n =
+unfoldable pub shapeFromNumbers : ℕ → List Float → Shape
+shapeFromNumbers kind n =
     cond (eqb kind 0) (Line (pairAt n 0) (pairAt n 2))
     (cond (eqb kind 1) (arc (pairAt n 0) (pairAt n 2) (pairAt n 4))
     (circle (pairAt n 0) (getD n 2 nan)))

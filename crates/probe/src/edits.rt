@@ -1,6 +1,6 @@
 // Edits of an image: one a call, and one many times over for timing.
 use big_endian::put4;
-use carry::Removed;
+use edit_plan::Removed;
 use geom::Vec2;
 use image::Operation;
 use sketch::Sketch;
@@ -10,9 +10,9 @@ ghost use Rattle.geom.specs.Plane.{vec};
 ghost use Rattle.sketch.specs.Drawing.{view, limits};
 ghost use Rattle.sketch.specs.Valid.{sketchFault};
 ghost use Rattle.image.specs.Message.{operationOf};
-ghost use Rattle.carry.specs.Outcome.{accepted};
+ghost use Rattle.edit_plan.specs.Outcome.{accepted};
 ghost use Rattle.modify.specs.Edits.{editOf};
-ghost use Rattle.exhibit.specs.Answers.{placeOf};
+ghost use Rattle.replication.specs.Transitions.{reportedPlace};
 ghost use Rattle.probe.specs.Edits.{isOperation, Wrote, EditMade, editAdds, repeated, editsSum};
 
 // A report's size in bytes.
@@ -36,7 +36,7 @@ pub(crate) fn operation_of(number: u32) -> Operation
 
 // A refusal's number, and above its 16 bits the place that comes with 13 and 19.
 fn with_place(refusal: u8, place: usize) -> u32
-    ensures { λ r. ⌜ r ≡ refusal + placeOf refusal place % 65536 * 65536 ⌝ }
+    ensures { λ r. ⌜ r ≡ refusal + reportedPlace refusal place % 65536 * 65536 ⌝ }
 {
     let number = refusal as u32;
     match refusal {

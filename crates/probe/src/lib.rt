@@ -2,7 +2,7 @@
 mod edits;
 mod numbers;
 mod polynomials;
-mod screens;
+mod replicas;
 mod shapes;
 mod verdicts;
 

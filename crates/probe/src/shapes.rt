@@ -4,7 +4,7 @@ ghost use Rattle.geom.specs.Plane.{vec};
 ghost use Rattle.shape.specs.Intersections.{crossings};
 ghost use Rattle.shape.specs.Measures as M;
 ghost use Rattle.shape.specs.Measures.{isFull};
-ghost use Rattle.probe.specs.Shapes.{shapeOf, laidRange, laidPoint, Crossed};
+ghost use Rattle.probe.specs.Shapes.{shapeFromNumbers, laidRange, laidPoint, Crossed};
 use geom::Vec2;
 use shape::Crossings;
 use shape::Shape;
@@ -14,8 +14,8 @@ const LINE: u32 = 0;
 const ARC: u32 = 1;
 
 // A line by its ends, an arc by its centre and its ends; with any other kind a circle by its centre and its radius.
-fn shape_of(kind: u32, n: &[f64; 6]) -> Shape
-    ensures { λ r. ⌜ r ≡ shapeOf kind (now (n .entry)) ⌝ }
+fn shape_from_numbers(kind: u32, n: &[f64; 6]) -> Shape
+    ensures { λ r. ⌜ r ≡ shapeFromNumbers kind (now (n .entry)) ⌝ }
 {
     let p = Vec2::new(n[0], n[1]);
     let q = Vec2::new(n[2], n[3]);
@@ -30,48 +30,48 @@ fn shape_of(kind: u32, n: &[f64; 6]) -> Shape
 
 #[no_mangle]
 pub extern "C" fn mulkefi_param(kind: u32, n: &[f64; 6], x: f64, y: f64) -> f64
-    ensures { λ r. ⌜ r ≡ M.param (shapeOf kind (now (n .entry))) (vec x y) ⌝ }
+    ensures { λ r. ⌜ r ≡ M.param (shapeFromNumbers kind (now (n .entry))) (vec x y) ⌝ }
 {
-    shape_of(kind, n).param(Vec2::new(x, y))
+    shape_from_numbers(kind, n).param(Vec2::new(x, y))
 }
 
 #[no_mangle]
 pub extern "C" fn mulkefi_dist(kind: u32, n: &[f64; 6], x: f64, y: f64) -> f64
-    ensures { λ r. ⌜ r ≡ M.dist (shapeOf kind (now (n .entry))) (vec x y) ⌝ }
+    ensures { λ r. ⌜ r ≡ M.dist (shapeFromNumbers kind (now (n .entry))) (vec x y) ⌝ }
 {
-    shape_of(kind, n).dist(Vec2::new(x, y))
+    shape_from_numbers(kind, n).dist(Vec2::new(x, y))
 }
 
 #[no_mangle]
 pub extern "C" fn mulkefi_is_full(kind: u32, n: &[f64; 6]) -> bool
-    ensures { λ r. ⌜ r ≡ isFull (shapeOf kind (now (n .entry))) ⌝ }
+    ensures { λ r. ⌜ r ≡ isFull (shapeFromNumbers kind (now (n .entry))) ⌝ }
 {
-    shape_of(kind, n).is_full()
+    shape_from_numbers(kind, n).is_full()
 }
 
 #[no_mangle]
 pub extern "C" fn mulkefi_range(kind: u32, n: &[f64; 6], out: &mut [f64; 2])
-    ensures { λ r. ⌜ now (out .exit) ≡ laidRange (now (out .entry)) (M.range (shapeOf kind (now (n .entry)))) ⌝ }
+    ensures { λ r. ⌜ now (out .exit) ≡ laidRange (now (out .entry)) (M.range (shapeFromNumbers kind (now (n .entry)))) ⌝ }
 {
-    let r = shape_of(kind, n).range();
+    let r = shape_from_numbers(kind, n).range();
     out[0] = r.start;
     out[1] = r.end;
 }
 
 #[no_mangle]
 pub extern "C" fn mulkefi_point(kind: u32, n: &[f64; 6], t: f64, out: &mut [f64; 2])
-    ensures { λ r. ⌜ now (out .exit) ≡ laidPoint (now (out .entry)) 0 (M.point (shapeOf kind (now (n .entry))) t) ⌝ }
+    ensures { λ r. ⌜ now (out .exit) ≡ laidPoint (now (out .entry)) 0 (M.point (shapeFromNumbers kind (now (n .entry))) t) ⌝ }
 {
-    let p = shape_of(kind, n).point(t);
+    let p = shape_from_numbers(kind, n).point(t);
     out[0] = p.x;
     out[1] = p.y;
 }
 
 #[no_mangle]
 pub extern "C" fn mulkefi_project(kind: u32, n: &[f64; 6], x: f64, y: f64, out: &mut [f64; 2])
-    ensures { λ r. ⌜ now (out .exit) ≡ laidPoint (now (out .entry)) 0 (M.project (shapeOf kind (now (n .entry))) (vec x y)) ⌝ }
+    ensures { λ r. ⌜ now (out .exit) ≡ laidPoint (now (out .entry)) 0 (M.project (shapeFromNumbers kind (now (n .entry))) (vec x y)) ⌝ }
 {
-    let p = shape_of(kind, n).project(Vec2::new(x, y));
+    let p = shape_from_numbers(kind, n).project(Vec2::new(x, y));
     out[0] = p.x;
     out[1] = p.y;
 }
@@ -85,9 +85,9 @@ pub extern "C" fn mulkefi_crossings(
     m: &[f64; 6],
     out: &mut [f64; 4],
 ) -> u32
-    ensures { λ r. ⌜ Crossed (crossings (shapeOf kind (now (n .entry))) (shapeOf other (now (m .entry)))) (now (out .entry)) (now (out .exit)) r ⌝ }
+    ensures { λ r. ⌜ Crossed (crossings (shapeFromNumbers kind (now (n .entry))) (shapeFromNumbers other (now (m .entry)))) (now (out .entry)) (now (out .exit)) r ⌝ }
 {
-    match shape::intersections(shape_of(kind, n), shape_of(other, m)) {
+    match shape::intersections(shape_from_numbers(kind, n), shape_from_numbers(other, m)) {
         Crossings::Zero => 0,
         Crossings::One(p) => {
             out[0] = p.x;

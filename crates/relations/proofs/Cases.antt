@@ -14,13 +14,13 @@ use Rattle.sketch.specs.declared.Curve.{Curve}
 use Rattle.sketch.specs.declared.Relation.{Relation}
 use Rattle.sketch.specs.declared.RelationSlot.{RelationSlot}
 use Rattle.sketch.specs.declared.Relation.the-variants.{Coincident, PointOnCurve, Collinear, Equal, Length, Distance, Midpoint, ArcLength, ArcSweep}
-use Rattle.relations.specs.declared.Piece.{Piece}
-use Rattle.placed.specs.Placed.{at, shapeIn}
-use Rattle.relations.specs.Met.{same, close, on, extent, ends, middle, met}
+use Rattle.relations.specs.declared.CurveData.{CurveData}
+use Rattle.sketch_geometry.specs.Geometry.{positionOf, shapeIn}
+use Rattle.relations.specs.Met.{same, close, on, lengthOrRadius, lineEndPoints, lineMidpoint, met}
 use Rattle.relations.specs.Columns.{CurveColumns, wholeOf, whole}
-use Rattle.placed.specs.Columns.{PointColumns}
+use Rattle.sketch_geometry.specs.Columns.{PointColumns}
 use Rattle.relations.proofs.Failing.{Passed}
-use Rattle.relations.proofs.Pieces.{on-whole, extent-whole, ends-whole, middle-whole}
+use Rattle.relations.proofs.CurveMeasures.{on-whole, extent-whole, ends-whole, middle-whole}
 
 every-whole : (o : Option Shape) (l : List Vec2) → every (on (whole o)) l ≡ every (on o) l
 every-whole o [] = refl
@@ -28,41 +28,41 @@ every-whole o (p ∷ l) = rw (on-whole o p, every-whole o l)
 
 module _ (ps : List Point) (cs : List Curve) (r : Relation) where
   -- the piece is the curve's, as far as it is measured
-  abbrev Read : Piece → ℕ → Type 0
+  abbrev Read : CurveData → ℕ → Type 0
   Read s c = wholeOf s ≡ whole (shapeIn ps cs c)
 
-  extent-read : (s : Piece) (c : ℕ) → Read s c → extent (wholeOf s) ≡ extent (shapeIn ps cs c)
-  extent-read s c f = ap extent f ∙ extent-whole (shapeIn ps cs c)
+  extent-read : (s : CurveData) (c : ℕ) → Read s c → lengthOrRadius (wholeOf s) ≡ lengthOrRadius (shapeIn ps cs c)
+  extent-read s c f = ap lengthOrRadius f ∙ extent-whole (shapeIn ps cs c)
 
   module _ {p q : ℕ} {a b : Vec2} where
-    pub met-coincident : r ≡ Coincident p q → a ≡ at ps p → b ≡ at ps q → close a b ≡ met ps cs r
+    pub met-coincident : r ≡ Coincident p q → a ≡ positionOf ps p → b ≡ positionOf ps q → close a b ≡ met ps cs r
     unfolding met
     met-coincident e f g = rw (e, f, g)
 
-    pub met-distance : {v : Float} → r ≡ Distance p q v → a ≡ at ps p → b ≡ at ps q → same (distance a b) v ≡ met ps cs r
+    pub met-distance : {v : Float} → r ≡ Distance p q v → a ≡ positionOf ps p → b ≡ positionOf ps q → same (distance a b) v ≡ met ps cs r
     unfolding met
     met-distance e f g = rw (e, f, g)
 
-  module _ {p c : ℕ} {a : Vec2} (s : Piece) where
-    pub met-on-curve : r ≡ PointOnCurve p c → Read s c → a ≡ at ps p → on (wholeOf s) a ≡ met ps cs r
+  module _ {p c : ℕ} {a : Vec2} (s : CurveData) where
+    pub met-on-curve : r ≡ PointOnCurve p c → Read s c → a ≡ positionOf ps p → on (wholeOf s) a ≡ met ps cs r
     unfolding met
-    met-on-curve e f g = rw (e, f, g) (on-whole (shapeIn ps cs c) (at ps p))
+    met-on-curve e f g = rw (e, f, g) (on-whole (shapeIn ps cs c) (positionOf ps p))
 
-    pub met-midpoint : r ≡ Midpoint p c → a ≡ at ps p → Read s c → close a (middle (wholeOf s)) ≡ met ps cs r
+    pub met-midpoint : r ≡ Midpoint p c → a ≡ positionOf ps p → Read s c → close a (lineMidpoint (wholeOf s)) ≡ met ps cs r
     unfolding met
-    met-midpoint e f g = rw (e, f, ap middle g ∙ middle-whole (shapeIn ps cs c))
+    met-midpoint e f g = rw (e, f, ap lineMidpoint g ∙ middle-whole (shapeIn ps cs c))
 
-  module _ {a b : ℕ} (s t : Piece) where
-    pub met-collinear : r ≡ Collinear a b → Read s a → Read t b → every (on (wholeOf s)) (ends (wholeOf t)) ≡ met ps cs r
+  module _ {a b : ℕ} (s t : CurveData) where
+    pub met-collinear : r ≡ Collinear a b → Read s a → Read t b → every (on (wholeOf s)) (lineEndPoints (wholeOf t)) ≡ met ps cs r
     unfolding met
-    met-collinear e f g = rw (e, f, ap ends g ∙ ends-whole (shapeIn ps cs b)) (every-whole (shapeIn ps cs a) (ends (shapeIn ps cs b)))
+    met-collinear e f g = rw (e, f, ap lineEndPoints g ∙ ends-whole (shapeIn ps cs b)) (every-whole (shapeIn ps cs a) (lineEndPoints (shapeIn ps cs b)))
 
-    pub met-equal : r ≡ Equal a b → Read s a → Read t b → same (extent (wholeOf s)) (extent (wholeOf t)) ≡ met ps cs r
+    pub met-equal : r ≡ Equal a b → Read s a → Read t b → same (lengthOrRadius (wholeOf s)) (lengthOrRadius (wholeOf t)) ≡ met ps cs r
     unfolding met
     met-equal e f g = rw (e, extent-read s a f, extent-read t b g)
 
   module _ {l : ℕ} {v : Float} where
-    pub met-length : (s : Piece) → r ≡ Length l v → Read s l → same (extent (wholeOf s)) v ≡ met ps cs r
+    pub met-length : (s : CurveData) → r ≡ Length l v → Read s l → same (lengthOrRadius (wholeOf s)) v ≡ met ps cs r
     unfolding met
     met-length s e f = rw (e, extent-read s l f)
 

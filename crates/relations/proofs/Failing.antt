@@ -7,7 +7,7 @@ use native.Mathlib.Numerals.{add-one}
 use native.Mathlib.Omega.{arith}
 use lib.ListN.{length, take, drop, getD, length-take, drop-of-length-le}
 use lib.Seq.{drop-cons, getD-take}
-use Rattle.sketch.specs.Lists.{pick, every}
+use Rattle.sketch.specs.Lists.{ite, every}
 use Rattle.sketch.proofs.Bools.{never}
 use Rattle.relations.specs.Met.{failsAt, firstFailing}
 
@@ -30,7 +30,7 @@ module _ {A B : Type 0} {f : B → Bool} {g : A → B} {n : ℕ} {xs : List A} w
     search-end e = let z : later i ≡ 0 = rw (drop-of-length-le (take n xs) e) in omega (arith, w .same, z)
 
     module _ (d : A) (h : i < n) (k : i < length xs) where
-      next : (b : Bool) → f (g (getD xs i d)) ≡ b → later i ≡ pick b (suc (later (i + 1))) 0
+      next : (b : Bool) → f (g (getD xs i d)) ≡ b → later i ≡ ite b (suc (later (i + 1))) 0
       next b e =
           let q : i < length (take n xs) = rw length-take (omega arith) in
           rw (add-one, drop-cons (take n xs) i d q, getD-take n xs i d h, e)

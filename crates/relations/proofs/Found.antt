@@ -20,40 +20,40 @@ use Rattle.sketch.specs.declared.CurveKind.the-variants.{Line, Arc, Circle, Bez
 use Rattle.sketch.proofs.Bools.{or-left-false, or-right-false, at-most-or-above}
 use Rattle.sketch.proofs.Ascent.{above-at, above-ascends}
 use Rattle.sketch.proofs.Facts.{getD-mapped, curve-at, curve-nowhere}
-use Rattle.relations.specs.declared.Piece.{Piece}
-use Rattle.placed.specs.Placed.{at, shapeOf, shapeFrom, shapeIn}
-use Rattle.placed.specs.Columns.{spot, PointColumns}
-use Rattle.placed.proofs.Found.{spot-stands}
-use Rattle.relations.specs.Columns.{CurveColumns, Stands, Tells, wholeOf, whole}
-use Rattle.relations.proofs.Pieces.{whole-line, whole-arc, whole-circle, whole-none}
+use Rattle.relations.specs.declared.CurveData.{CurveData}
+use Rattle.sketch_geometry.specs.Geometry.{positionOf, shapeOf, shapeFrom, shapeIn}
+use Rattle.sketch_geometry.specs.Columns.{position, PointColumns}
+use Rattle.sketch_geometry.proofs.Found.{spot-stands}
+use Rattle.relations.specs.Columns.{CurveColumns, IdAt, RowOf, wholeOf, whole}
+use Rattle.relations.proofs.CurveMeasures.{whole-line, whole-arc, whole-circle, whole-none}
 
 -- ---- a curve by its place
 
-module _ {ps : List Point} {points : List ℕ} {xs ys : List Float} (p : PointColumns ps points xs ys) (s : Piece) where
+module _ {ps : List Point} {points : List ℕ} {xs ys : List Float} (p : PointColumns ps points xs ys) (s : CurveData) where
   -- what is told of a curve is its shape, as far as it is measured
-  told-whole : (k : CurveKind) (kind i j : ℕ) (number : Float) → Tells points k kind i j number → s .kind ≡ kind → s .a ≡ spot xs ys i → s .b ≡ spot xs ys j → s .number ≡ number
+  told-whole : (k : CurveKind) (kind i j : ℕ) (number : Float) → RowOf points k kind i j number → s .kind ≡ kind → s .a ≡ position xs ys i → s .b ≡ position xs ys j → s .number ≡ number
       → wholeOf s ≡ whole (shapeOf ps k)
   unfolding whole shapeOf
   told-whole (Line a b) kind i j number t e f g h =
-      let u : s .a ≡ at ps a = f ∙ spot-stands p a i (t .1 .0) (t .1 .1) in
-      let v : s .b ≡ at ps b = g ∙ spot-stands p b j (t .2 .0) (t .2 .1) in
+      let u : s .a ≡ positionOf ps a = f ∙ spot-stands p a i (t .1 .0) (t .1 .1) in
+      let v : s .b ≡ positionOf ps b = g ∙ spot-stands p b j (t .2 .0) (t .2 .1) in
       whole-line s (e ∙ t .0) ∙ rw (u, v)
   told-whole (Arc c a b) kind i j number t e f g h =
-      let u : s .a ≡ at ps c = f ∙ spot-stands p c i (t .1 .0) (t .1 .1) in
-      let v : s .b ≡ at ps a = g ∙ spot-stands p a j (t .2 .0) (t .2 .1) in
+      let u : s .a ≡ positionOf ps c = f ∙ spot-stands p c i (t .1 .0) (t .1 .1) in
+      let v : s .b ≡ positionOf ps a = g ∙ spot-stands p a j (t .2 .0) (t .2 .1) in
       whole-arc s (e ∙ t .0) ∙ rw (u, v)
   told-whole (Circle c r) kind i j number t e f g h =
-      let u : s .a ≡ at ps c = f ∙ spot-stands p c i (t .1 .0) (t .1 .1) in
+      let u : s .a ≡ positionOf ps c = f ∙ spot-stands p c i (t .1 .0) (t .1 .1) in
       whole-circle s (e ∙ t .0) ∙ rw (u, h ∙ t .2)
   told-whole (Bezier n) kind i j number t e f g h = whole-none s (λ z. omega arith) (λ z. omega arith) (λ z. omega arith)
   told-whole (Conic a m b rho) kind i j number t e f g h = whole-none s (λ z. omega arith) (λ z. omega arith) (λ z. omega arith)
 
 module _ {ps : List Point} {cs : List Curve} {points ids kinds firsts seconds : List ℕ} {xs ys numbers : List Float}
-    (p : PointColumns ps points xs ys) (w : CurveColumns points cs ids kinds firsts seconds numbers) (s : Piece) (id k : ℕ) (f : Found id ids k) where
+    (p : PointColumns ps points xs ys) (w : CurveColumns points cs ids kinds firsts seconds numbers) (s : CurveData) (id k : ℕ) (f : Found id ids k) where
   curves-many : length ids ≡ length cs
   curves-many = ap length (w .ids-are) ∙ length-map cs (λ (x : Curve). x .id)
 
-  here : k < length ids → s .kind ≡ getD kinds k 0 → s .a ≡ spot xs ys (getD firsts k 0) → s .b ≡ spot xs ys (getD seconds k 0) → s .number ≡ getD numbers k nan
+  here : k < length ids → s .kind ≡ getD kinds k 0 → s .a ≡ position xs ys (getD firsts k 0) → s .b ≡ position xs ys (getD seconds k 0) → s .number ≡ getD numbers k nan
       → wholeOf s ≡ whole (shapeIn ps cs id)
   unfolding shapeFrom
   here l d e g h =
@@ -69,9 +69,9 @@ module _ {ps : List Point} {cs : List Curve} {points ids kinds firsts seconds : 
       let n : among id (curveIds cs) ≡ false = rw (← w .ids-are) (f .nowhere (w .rise) (omega (arith, f .within))) in
       rw (curve-nowhere id cs n) (whole-none s (λ z. omega arith) (λ z. omega arith) (λ z. omega arith))
 
-  pub piece-found : {i j : ℕ} → i ≡ getD firsts k 0 → j ≡ getD seconds k 0 → s .a ≡ spot xs ys i → s .b ≡ spot xs ys j → s .number ≡ getD numbers k nan → s .kind ≡ getD kinds k 0
+  pub piece-found : {i j : ℕ} → i ≡ getD firsts k 0 → j ≡ getD seconds k 0 → s .a ≡ position xs ys i → s .b ≡ position xs ys j → s .number ≡ getD numbers k nan → s .kind ≡ getD kinds k 0
       → wholeOf s ≡ whole (shapeIn ps cs id)
   piece-found u v e g h d =
       at-most-or-above (length ids) k
       (λ q. let z : length kinds ≤ k = omega (arith, w .kinds-long) in missing q (d ∙ List·getD-eq-default kinds 0 z))
-      (λ q. here q d (e ∙ ap (spot xs ys) u) (g ∙ ap (spot xs ys) v) h)
+      (λ q. here q d (e ∙ ap (position xs ys) u) (g ∙ ap (position xs ys) v) h)

@@ -1,7 +1,7 @@
 -- The laws that the proofs of `relations` share.
-pub mod Pieces
+pub mod CurveMeasures
 pub mod Found
-pub mod Laid
+pub mod Filled
 pub mod Failing
 pub mod Cases
 pub mod Verdicts

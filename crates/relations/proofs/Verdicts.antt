@@ -10,7 +10,7 @@ use Rattle.sketch.specs.declared.Sketch.{Sketch}
 use Rattle.sketch.proofs.Sketches.{sketch-valid}
 use Rattle.relations.specs.declared.Verdict.the-variants.{Met, Unmet}
 use Rattle.relations.specs.Met.{met, firstUnmet}
-use Rattle.relations.specs.Answer.{Told}
+use Rattle.relations.specs.Answer.{UnmetAnswer}
 use Rattle.relations.proofs.Failing.{none-fails, fails-there, fails-within}
 
 module _ (s : Sketch) (h : sketchFault s ≡ 0) (e : length (s .relations) ≡ 256) {k : ℕ} (f : k ≡ firstUnmet (view s .points) (view s .curves) (view s .relations)) where
@@ -19,14 +19,14 @@ module _ (s : Sketch) (h : sketchFault s ≡ 0) (e : length (s .relations) ≡ 2
       let z = sketch-valid s h .0 .relations in
       length-map (take (s .nrelations) (s .relations)) (λ (r : RelationSlot). r .relation) ∙ rw length-take (omega arith)
 
-  pub told-met : s .nrelations ≤ k → Told s Met
+  pub told-met : s .nrelations ≤ k → UnmetAnswer s Met
   told-met q = (h, none-fails (met (view s .points) (view s .curves)) (view s .relations) (omega (arith, as-many)))
 
-  pub told-unmet : k < s .nrelations → Told s (Unmet k)
+  pub told-unmet : k < s .nrelations → UnmetAnswer s (Unmet k)
   told-unmet q = (h, rw f (fails-there (met (view s .points) (view s .curves)) (view s .relations) (omega (arith, as-many))))
 
 -- a place that is answered is a relation's
-pub place-below : (s : Sketch) (k : ℕ) → Told s (Unmet k) → k < 256
+pub place-below : (s : Sketch) (k : ℕ) → UnmetAnswer s (Unmet k) → k < 256
 place-below s k t =
     let q = fails-within (met (view s .points) (view s .curves)) (view s .relations) k (t .1) in
     omega (arith, sketch-valid s (t .0) .1 .relations-fit)

@@ -9,7 +9,7 @@ use Rattle.relations.specs.declared.Verdict.the-variants.{Refused, Met, 
 use Rattle.relations.specs.Met.{allMet, unmetAt}
 
 -- the number of a sketch that no image gives; of any other, that every relation is met, or the place of one that is not
-abbrev pub Told : Sketch → Verdict → Type 0
-Told s (Refused n) = (n ≡ sketchFault s) × (n ≡ 0 → ⊥)
-Told s Met = (sketchFault s ≡ 0) × (allMet (view s) ≡ true)
-Told s (Unmet k) = (sketchFault s ≡ 0) × (unmetAt (view s) k ≡ true)
+abbrev pub UnmetAnswer : Sketch → Verdict → Type 0
+UnmetAnswer s (Refused n) = (n ≡ sketchFault s) × (n ≡ 0 → ⊥)
+UnmetAnswer s Met = (sketchFault s ≡ 0) × (allMet (view s) ≡ true)
+UnmetAnswer s (Unmet k) = (sketchFault s ≡ 0) × (unmetAt (view s) k ≡ true)

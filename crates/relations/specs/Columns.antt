@@ -12,7 +12,7 @@ use Rattle.geom.specs.declared.Vec2.{Vec2}
 use Rattle.shape.specs.Measures.{circle}
 use Rattle.shape.specs.declared.Shape.{Shape}
 use Rattle.shape.specs.declared.Shape.the-variants as S
-use Rattle.sketch.specs.Lists.{pick}
+use Rattle.sketch.specs.Lists.{ite}
 use Rattle.sketch.specs.Lookup.{Ascends}
 use Rattle.sketch.specs.Drawing.{pointIds, curveIds}
 use Rattle.sketch.specs.Blanks.{noPoint, noCurve}
@@ -22,22 +22,22 @@ use Rattle.sketch.specs.declared.CurveKind.{CurveKind}
 use Rattle.sketch.specs.declared.CurveKind.the-variants.{Line, Arc, Circle, Bezier, Conic}
 use Rattle.sketch.specs.declared.Relation.{Relation}
 use Rattle.sketch.specs.declared.RelationSlot.{RelationSlot}
-use Rattle.relations.specs.declared.Piece.{Piece}
-use Rattle.placed.specs.Placed.{shapeIn}
-use Rattle.placed.specs.Columns.{PointColumns}
+use Rattle.relations.specs.declared.CurveData.{CurveData}
+use Rattle.sketch_geometry.specs.Geometry.{shapeIn}
+use Rattle.sketch_geometry.specs.Columns.{PointColumns}
 use Rattle.relations.specs.Met.{met, firstUnmet}
 
 -- the id stands at the place
-abbrev pub Stands : List ℕ → ℕ → ℕ → Type 0
-Stands ids id k = (k < length ids) × (getD ids k 0 ≡ id)
+abbrev pub IdAt : List ℕ → ℕ → ℕ → Type 0
+IdAt ids id k = (k < length ids) × (getD ids k 0 ≡ id)
 
 -- a curve's kind as a byte, the places of its first two points and its number, each as far as a kind uses it
-abbrev pub Tells : List ℕ → CurveKind → ℕ → ℕ → ℕ → Float → Type 0
-Tells ids (Line a b) kind i j number = (kind ≡ 1) × Stands ids a i × Stands ids b j
-Tells ids (Arc c a b) kind i j number = (kind ≡ 2) × Stands ids c i × Stands ids a j
-Tells ids (Circle c r) kind i j number = (kind ≡ 3) × Stands ids c i × (number ≡ r)
-Tells ids (Bezier n) kind i j number = 3 < kind
-Tells ids (Conic a p b rho) kind i j number = 3 < kind
+abbrev pub RowOf : List ℕ → CurveKind → ℕ → ℕ → ℕ → Float → Type 0
+RowOf ids (Line a b) kind i j number = (kind ≡ 1) × IdAt ids a i × IdAt ids b j
+RowOf ids (Arc c a b) kind i j number = (kind ≡ 2) × IdAt ids c i × IdAt ids a j
+RowOf ids (Circle c r) kind i j number = (kind ≡ 3) × IdAt ids c i × (number ≡ r)
+RowOf ids (Bezier n) kind i j number = 3 < kind
+RowOf ids (Conic a p b rho) kind i j number = 3 < kind
 
 -- the curves' ids, which rise, and what is told of each
 pub record CurveColumns (points : List ℕ) (cs : List Curve) (ids kinds firsts seconds : List ℕ) (numbers : List Float) : Type 0 where
@@ -47,14 +47,14 @@ pub record CurveColumns (points : List ℕ) (cs : List Curve) (ids kinds firsts 
   pub firsts-long : length firsts ≡ length ids
   pub seconds-long : length seconds ≡ length ids
   pub numbers-long : length numbers ≡ length ids
-  pub each : (k : ℕ) → k < length cs → Tells points (getD cs k noCurve .kind) (getD kinds k 0) (getD firsts k 0) (getD seconds k 0) (getD numbers k nan)
+  pub each : (k : ℕ) → k < length cs → RowOf points (getD cs k noCurve .kind) (getD kinds k 0) (getD firsts k 0) (getD seconds k 0) (getD numbers k nan)
 
 -- the shape of what is told of a curve, an arc as its whole circle
-unfoldable pub wholeOf : Piece → Option Shape
+unfoldable pub wholeOf : CurveData → Option Shape
 wholeOf s =
-    pick (eqb (s .kind) 1) (some (S.Line (s .a) (s .b)))
-    (pick (eqb (s .kind) 2) (some (circle (s .a) (distance (s .b) (s .a))))
-    (pick (eqb (s .kind) 3) (some (circle (s .a) (s .number)))
+    ite (eqb (s .kind) 1) (some (S.Line (s .a) (s .b)))
+    (ite (eqb (s .kind) 2) (some (circle (s .a) (distance (s .b) (s .a))))
+    (ite (eqb (s .kind) 3) (some (circle (s .a) (s .number)))
     none))
 
 -- a shape with an arc as its whole circle, which is all that relations measure of it
@@ -65,13 +65,13 @@ whole (some (S.Round c r start sweep)) = some (circle c r)
 
 -- ---- what is answered from columns, whichever points and curves they hold
 
-abbrev pub PieceAt : List Float → List Float → List ℕ → List ℕ → List ℕ → List ℕ → List Float → ℕ → Piece → Type 0
+abbrev pub PieceAt : List Float → List Float → List ℕ → List ℕ → List ℕ → List ℕ → List Float → ℕ → CurveData → Type 0
 PieceAt xs ys ids kinds firsts seconds numbers id r =
     (points : List ℕ) (ps : List Point) (cs : List Curve) → PointColumns ps points xs ys → CurveColumns points cs ids kinds firsts seconds numbers
     → wholeOf r ≡ whole (shapeIn ps cs id)
 
-abbrev pub MetTold : List ℕ → List Float → List Float → List ℕ → List ℕ → List ℕ → List ℕ → List Float → Relation → Bool → Type 0
-MetTold points xs ys ids kinds firsts seconds numbers relation r =
+abbrev pub MetAnswer : List ℕ → List Float → List Float → List ℕ → List ℕ → List ℕ → List ℕ → List Float → Relation → Bool → Type 0
+MetAnswer points xs ys ids kinds firsts seconds numbers relation r =
     (ps : List Point) (cs : List Curve) → PointColumns ps points xs ys → CurveColumns points cs ids kinds firsts seconds numbers → r ≡ met ps cs relation
 
 -- of the relations in the first n slots

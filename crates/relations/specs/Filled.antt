@@ -12,10 +12,10 @@ use Rattle.sketch.specs.declared.Point.{Point}
 use Rattle.sketch.specs.declared.Curve.{Curve}
 use Rattle.sketch.specs.declared.CurveKind.{CurveKind}
 use Rattle.sketch.specs.declared.CurveKind.the-variants.{Line, Arc, Circle, Bezier, Conic}
-use Rattle.relations.specs.declared.Parts.{Parts}
+use Rattle.relations.specs.declared.CurveRow.{CurveRow}
 
 -- what columns take from a kind
-unfoldable pub partsOf : CurveKind → Parts
+unfoldable pub partsOf : CurveKind → CurveRow
 partsOf (Line a b) = record { number = 0f; first = a; second = b; kind = 1 }
 partsOf (Arc c a b) = record { number = 0f; first = c; second = a; kind = 2 }
 partsOf (Circle c r) = record { number = r; first = c; second = 0; kind = 3 }
@@ -26,11 +26,11 @@ partsOf (Conic a p b rho) = record { number = 0f; first = 0; second = 0; kind = 
 abbrev pub Each : {A : Type 0} → ℕ → A → List A → (ℕ → A → Type 0) → Type 0
 Each n d column P = (k : ℕ) → k < n → P k (getD column k d)
 
-abbrev pub partsAt : List Curve → ℕ → Parts
+abbrev pub partsAt : List Curve → ℕ → CurveRow
 partsAt curves k = partsOf (getD curves k noCurve .kind)
 
 -- the first n of the curves: a point's place is what a look-up of its id gives
-pub record CurvesLaid (curves : List Curve) (n : ℕ) (points : List ℕ) (ids₀ kinds₀ firsts₀ seconds₀ : List ℕ) (numbers₀ : List Float)
+pub record CurvesFilled (curves : List Curve) (n : ℕ) (points : List ℕ) (ids₀ kinds₀ firsts₀ seconds₀ : List ℕ) (numbers₀ : List Float)
     (ids kinds firsts seconds : List ℕ) (numbers : List Float) : Type 0 where
   pub ids-long : length ids ≡ length ids₀
   pub kinds-long : length kinds ≡ length kinds₀
@@ -44,7 +44,7 @@ pub record CurvesLaid (curves : List Curve) (n : ℕ) (points : List ℕ) (ids�
   pub each-number : Each n nan numbers (λ k v. v ≡ partsAt curves k .number)
 
 -- in columns that have the room
-abbrev pub CurvesLaidOut : List Curve → ℕ → List ℕ → List ℕ → List ℕ → List ℕ → List ℕ → List Float → List ℕ → List ℕ → List ℕ → List ℕ → List Float → Type 0
-CurvesLaidOut curves n points ids₀ kinds₀ firsts₀ seconds₀ numbers₀ ids kinds firsts seconds numbers =
+abbrev pub FillsCurves : List Curve → ℕ → List ℕ → List ℕ → List ℕ → List ℕ → List ℕ → List Float → List ℕ → List ℕ → List ℕ → List ℕ → List Float → Type 0
+FillsCurves curves n points ids₀ kinds₀ firsts₀ seconds₀ numbers₀ ids kinds firsts seconds numbers =
     n ≤ 128 → length points ≤ 512 → n ≤ length ids₀ → n ≤ length kinds₀ → n ≤ length firsts₀ → n ≤ length seconds₀ → n ≤ length numbers₀
-    → CurvesLaid curves n points ids₀ kinds₀ firsts₀ seconds₀ numbers₀ ids kinds firsts seconds numbers
+    → CurvesFilled curves n points ids₀ kinds₀ firsts₀ seconds₀ numbers₀ ids kinds firsts seconds numbers

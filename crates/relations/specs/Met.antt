@@ -11,13 +11,13 @@ use Rattle.geom.specs.declared.Vec2.{Vec2}
 use Rattle.shape.specs.Measures.{dist}
 use Rattle.shape.specs.declared.Shape.{Shape}
 use Rattle.shape.specs.declared.Shape.the-variants as S
-use Rattle.sketch.specs.Lists.{pick, every}
+use Rattle.sketch.specs.Lists.{ite, every}
 use Rattle.sketch.specs.Drawing.{Drawing}
 use Rattle.sketch.specs.declared.Point.{Point}
 use Rattle.sketch.specs.declared.Curve.{Curve}
 use Rattle.sketch.specs.declared.Relation.{Relation}
 use Rattle.sketch.specs.declared.Relation.the-variants.{Coincident, PointOnCurve, Collinear, Equal, Length, Distance, Midpoint, ArcLength, ArcSweep}
-use Rattle.placed.specs.Placed.{at, nowhere, shapeIn}
+use Rattle.sketch_geometry.specs.Geometry.{positionOf, nowhere, shapeIn}
 
 -- ---- measures
 
@@ -39,34 +39,34 @@ on none p = true
 on (some sh) p = small (dist sh p)
 
 -- a line's length, a round's radius
-unfoldable pub extent : Option Shape → Float
-extent none = nan
-extent (some (S.Line a b)) = distance a b
-extent (some (S.Round c r start sweep)) = r
+unfoldable pub lengthOrRadius : Option Shape → Float
+lengthOrRadius none = nan
+lengthOrRadius (some (S.Line a b)) = distance a b
+lengthOrRadius (some (S.Round c r start sweep)) = r
 
 -- a line's ends
-unfoldable pub ends : Option Shape → List Vec2
-ends none = []
-ends (some (S.Line a b)) = a ∷ b ∷ []
-ends (some (S.Round c r start sweep)) = []
+unfoldable pub lineEndPoints : Option Shape → List Vec2
+lineEndPoints none = []
+lineEndPoints (some (S.Line a b)) = a ∷ b ∷ []
+lineEndPoints (some (S.Round c r start sweep)) = []
 
 -- a line's middle
-unfoldable pub middle : Option Shape → Vec2
-middle none = nowhere
-middle (some (S.Line a b)) = (a +ᵥ b) ·ᵥ ½
-middle (some (S.Round c r start sweep)) = nowhere
+unfoldable pub lineMidpoint : Option Shape → Vec2
+lineMidpoint none = nowhere
+lineMidpoint (some (S.Line a b)) = (a +ᵥ b) ·ᵥ ½
+lineMidpoint (some (S.Round c r start sweep)) = nowhere
 
 -- ---- relations
 
 -- one relation, among these points and curves; of an arc's length and sweep nothing is measured
 unfoldable pub met : List Point → List Curve → Relation → Bool
-met ps cs (Coincident p q) = close (at ps p) (at ps q)
-met ps cs (PointOnCurve p c) = on (shapeIn ps cs c) (at ps p)
-met ps cs (Collinear a b) = every (on (shapeIn ps cs a)) (ends (shapeIn ps cs b))
-met ps cs (Equal a b) = same (extent (shapeIn ps cs a)) (extent (shapeIn ps cs b))
-met ps cs (Length l v) = same (extent (shapeIn ps cs l)) v
-met ps cs (Distance p q v) = same (distance (at ps p) (at ps q)) v
-met ps cs (Midpoint p l) = close (at ps p) (middle (shapeIn ps cs l))
+met ps cs (Coincident p q) = close (positionOf ps p) (positionOf ps q)
+met ps cs (PointOnCurve p c) = on (shapeIn ps cs c) (positionOf ps p)
+met ps cs (Collinear a b) = every (on (shapeIn ps cs a)) (lineEndPoints (shapeIn ps cs b))
+met ps cs (Equal a b) = same (lengthOrRadius (shapeIn ps cs a)) (lengthOrRadius (shapeIn ps cs b))
+met ps cs (Length l v) = same (lengthOrRadius (shapeIn ps cs l)) v
+met ps cs (Distance p q v) = same (distance (positionOf ps p) (positionOf ps q)) v
+met ps cs (Midpoint p l) = close (positionOf ps p) (lineMidpoint (shapeIn ps cs l))
 met ps cs (ArcLength c v) = true
 met ps cs (ArcSweep c v) = true
 
@@ -86,7 +86,7 @@ unmetAt d k = failsAt (met (d .points) (d .curves)) (d .relations) k
 -- the place of the first entry that fails the test; the number of entries where none does
 abbrev pub firstFailing : {A : Type 0} → (A → Bool) → List A → ℕ
 firstFailing f [] = 0
-firstFailing f (a ∷ l) = pick (f a) (suc (firstFailing f l)) 0
+firstFailing f (a ∷ l) = ite (f a) (suc (firstFailing f l)) 0
 
 -- the place of the first relation that is not met; their number where all are
 abbrev pub firstUnmet : List Point → List Curve → List Relation → ℕ

@@ -1,5 +1,5 @@
 // A sketch's points and curves laid out as columns.
-use crate::Parts;
+use crate::CurveRow;
 use sketch::Curve;
 use sketch::CurveKind;
 use sketch::note;
@@ -7,32 +7,32 @@ use sketch::place_near;
 ghost use mathlib.Core.Path.{_≡_};
 ghost use Prim.Native.Nat.{_≤_};
 ghost use lib.ListN.{length, take};
-ghost use Rattle.relations.specs.Filled.{CurvesLaid, CurvesLaidOut, partsOf};
+ghost use Rattle.relations.specs.Filled.{CurvesFilled, FillsCurves, partsOf};
 
 // What columns take from a kind.
-fn parts_of(kind: CurveKind) -> Parts
+fn parts_of(kind: CurveKind) -> CurveRow
     ensures { λ r. ⌜ r ≡ partsOf kind ⌝ }
 {
     match kind {
-        CurveKind::Line(a, b) => Parts {
+        CurveKind::Line(a, b) => CurveRow {
             kind: 1,
             first: a,
             second: b,
             number: 0.0,
         },
-        CurveKind::Arc(c, a, _) => Parts {
+        CurveKind::Arc(c, a, _) => CurveRow {
             kind: 2,
             first: c,
             second: a,
             number: 0.0,
         },
-        CurveKind::Circle(c, r) => Parts {
+        CurveKind::Circle(c, r) => CurveRow {
             kind: 3,
             first: c,
             second: 0,
             number: r,
         },
-        _ => Parts {
+        _ => CurveRow {
             kind: 4,
             first: 0,
             second: 0,
@@ -43,7 +43,7 @@ fn parts_of(kind: CurveKind) -> Parts
 
 // Ids, kinds, places of the first two points and radii of the first n curves; `near` gets guesses of the curves' places, as
 // `near_points` has of the points'.
-fn lay<'a, 'b>(
+fn fill_columns<'a, 'b>(
     curves: [Curve; 128],
     n: usize,
     points: &'a [u32],
@@ -56,7 +56,7 @@ fn lay<'a, 'b>(
     numbers: &'b mut [f64],
 )
     requires { ⌜ (n ≤ 128) × (length (now points) ≤ 512) × (n ≤ length (now ids)) × (n ≤ length (now kinds)) × (n ≤ length (now firsts)) × (n ≤ length (now seconds)) × (n ≤ length (now numbers)) ⌝ }
-    ensures { λ r. ⌜ CurvesLaid curves n (now (points .entry)) (now (ids .entry)) (now (kinds .entry)) (now (firsts .entry)) (now (seconds .entry)) (now (numbers .entry)) (now (ids .exit)) (now (kinds .exit)) (now (firsts .exit)) (now (seconds .exit)) (now (numbers .exit)) ⌝ }
+    ensures { λ r. ⌜ CurvesFilled curves n (now (points .entry)) (now (ids .entry)) (now (kinds .entry)) (now (firsts .entry)) (now (seconds .entry)) (now (numbers .entry)) (now (ids .exit)) (now (kinds .exit)) (now (firsts .exit)) (now (seconds .exit)) (now (numbers .exit)) ⌝ }
 {
     let mut i: usize = 0;
     while i < n {
@@ -75,7 +75,7 @@ fn lay<'a, 'b>(
 }
 
 // The same where the columns have the room.
-pub fn lay_curves<'a, 'b>(
+pub fn fill_curve_columns<'a, 'b>(
     curves: [Curve; 128],
     n: usize,
     points: &'a [u32],
@@ -87,7 +87,7 @@ pub fn lay_curves<'a, 'b>(
     seconds: &'b mut [u32],
     numbers: &'b mut [f64],
 )
-    ensures { λ r. ⌜ CurvesLaidOut curves n (now (points .entry)) (now (ids .entry)) (now (kinds .entry)) (now (firsts .entry)) (now (seconds .entry)) (now (numbers .entry)) (now (ids .exit)) (now (kinds .exit)) (now (firsts .exit)) (now (seconds .exit)) (now (numbers .exit)) ⌝ }
+    ensures { λ r. ⌜ FillsCurves curves n (now (points .entry)) (now (ids .entry)) (now (kinds .entry)) (now (firsts .entry)) (now (seconds .entry)) (now (numbers .entry)) (now (ids .exit)) (now (kinds .exit)) (now (firsts .exit)) (now (seconds .exit)) (now (numbers .exit)) ⌝ }
 {
     if n > 128 {
         return;
@@ -110,7 +110,7 @@ pub fn lay_curves<'a, 'b>(
     if n > numbers.len() {
         return;
     }
-    lay(
+    fill_columns(
         curves,
         n,
         points,

@@ -5,18 +5,18 @@ mod reading;
 mod search;
 
 use geom::Vec2;
-use placed::lay_points;
 use sketch::Id;
 use sketch::Sketch;
+use sketch_geometry::fill_point_columns;
 ghost use mathlib.Core.Path.{_≡_};
 ghost use Prim.Native.Nat.{_≤_};
 ghost use lib.ListN.{length};
 ghost use Rattle.sketch.specs.Drawing.{view, limits};
 ghost use Rattle.sketch.specs.Facts.{Sized, Valid};
 ghost use Rattle.relations.specs.Met.{firstUnmet};
-ghost use Rattle.placed.specs.Columns.{PointColumns};
-ghost use Rattle.relations.specs.Answer.{Told};
-pub use columns::lay_curves;
+ghost use Rattle.sketch_geometry.specs.Columns.{PointColumns};
+ghost use Rattle.relations.specs.Answer.{UnmetAnswer};
+pub use columns::fill_curve_columns;
 pub use search::first_unmet;
 
 // A sketch that no image gives, by its number; else that all relations are met, or the place of one that is not.
@@ -28,7 +28,7 @@ pub enum Verdict {
 
 // What relations measure of a curve: its kind, 1 a line, 2 an arc, 3 a circle; a line's ends, an arc's centre and start, or a circle's
 // centre; and a circle's radius.
-struct Piece {
+struct CurveData {
     number: f64,
     a: Vec2,
     b: Vec2,
@@ -36,7 +36,7 @@ struct Piece {
 }
 
 // The same by the points' ids.
-struct Parts {
+struct CurveRow {
     number: f64,
     first: Id,
     second: Id,
@@ -45,7 +45,7 @@ struct Parts {
 
 // Looks for a relation of a sketch that is not met. It gives the first; promised is only that it is one.
 pub fn unmet(sk: Sketch) -> Verdict
-    ensures { λ r. ⌜ Told sk r ⌝ }
+    ensures { λ r. ⌜ UnmetAnswer sk r ⌝ }
 {
     let fault = sketch::fault(sk);
     if fault != 0 {
@@ -69,7 +69,7 @@ fn search_all(sk: Sketch) -> usize
     let mut near = [0u16; 1024];
     let mut xs = [0.0; 512];
     let mut ys = [0.0; 512];
-    lay_points(points, n, &mut ids, &mut near, &mut xs, &mut ys);
+    fill_point_columns(points, n, &mut ids, &mut near, &mut xs, &mut ys);
     search_from(sk, &ids[..n], &near, &xs[..n], &ys[..n])
 }
 
@@ -92,7 +92,7 @@ fn search_from<'a>(
     let mut firsts = [0u32; 128];
     let mut seconds = [0u32; 128];
     let mut numbers = [0.0; 128];
-    lay_curves(
+    fill_curve_columns(
         curves,
         n,
         points,

@@ -1,5 +1,5 @@
 // Measures held against the 1e-7 within which a relation is met.
-use crate::Piece;
+use crate::CurveData;
 use float::bounds::ABOVE_1E_7;
 use geom::Vec2;
 use shape::Shape;
@@ -32,7 +32,7 @@ fn on_circle(c: Vec2, radius: f64, p: Vec2) -> bool
 }
 
 // Whether p lies on the curve's endless line or full circle; a freeform curve has neither, and every point passes.
-pub(crate) fn on(s: Piece, p: Vec2) -> bool
+pub(crate) fn on(s: CurveData, p: Vec2) -> bool
     ensures { λ r. ⌜ r ≡ M.on (wholeOf s) p ⌝ }
 {
     let a = s.a;
@@ -47,8 +47,8 @@ pub(crate) fn on(s: Piece, p: Vec2) -> bool
 }
 
 // A line's length, a round's radius.
-pub(crate) fn extent(s: Piece) -> f64
-    ensures { λ r. ⌜ r ≡ M.extent (wholeOf s) ⌝ }
+pub(crate) fn length_or_radius(s: CurveData) -> f64
+    ensures { λ r. ⌜ r ≡ M.lengthOrRadius (wholeOf s) ⌝ }
 {
     let a = s.a;
     let b = s.b;
@@ -62,8 +62,8 @@ pub(crate) fn extent(s: Piece) -> f64
 }
 
 // Whether both ends of the line t lie on the curve s.
-pub(crate) fn along(s: Piece, t: Piece) -> bool
-    ensures { λ r. ⌜ r ≡ every (M.on (wholeOf s)) (M.ends (wholeOf t)) ⌝ }
+pub(crate) fn is_collinear(s: CurveData, t: CurveData) -> bool
+    ensures { λ r. ⌜ r ≡ every (M.on (wholeOf s)) (M.lineEndPoints (wholeOf t)) ⌝ }
 {
     if t.kind == 1 {
         let a = t.a;
@@ -74,8 +74,8 @@ pub(crate) fn along(s: Piece, t: Piece) -> bool
 }
 
 // Whether p is the middle of the line s.
-pub(crate) fn halves(p: Vec2, s: Piece) -> bool
-    ensures { λ r. ⌜ r ≡ M.close p (M.middle (wholeOf s)) ⌝ }
+pub(crate) fn is_midpoint(p: Vec2, s: CurveData) -> bool
+    ensures { λ r. ⌜ r ≡ M.close p (M.lineMidpoint (wholeOf s)) ⌝ }
 {
     if s.kind == 1 {
         let a = s.a;

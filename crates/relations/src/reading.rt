@@ -1,8 +1,8 @@
 // Curves read from columns.
-use crate::Piece;
-use placed::number_at;
-use placed::spot_at;
+use crate::CurveData;
 use sketch::place_near;
+use sketch_geometry::number_at;
+use sketch_geometry::position_at;
 ghost use mathlib.Core.Path.{_≡_};
 ghost use lib.ListN.{getD};
 ghost use Rattle.relations.specs.Columns.{PieceAt};
@@ -32,13 +32,13 @@ pub(crate) fn piece_at<'a>(
     firsts: &'a [u32],
     seconds: &'a [u32],
     numbers: &'a [f64],
-) -> Piece
+) -> CurveData
     ensures { λ r. ⌜ PieceAt (now (xs .entry)) (now (ys .entry)) (now (ids .entry)) (now (kinds .entry)) (now (firsts .entry)) (now (seconds .entry)) (now (numbers .entry)) id r ⌝ }
 {
     let k = place_near(ids, near, id);
-    let a = spot_at(xs, ys, place_at(firsts, k) as usize);
-    let b = spot_at(xs, ys, place_at(seconds, k) as usize);
-    Piece {
+    let a = position_at(xs, ys, place_at(firsts, k) as usize);
+    let b = position_at(xs, ys, place_at(seconds, k) as usize);
+    CurveData {
         number: number_at(numbers, k),
         a,
         b,

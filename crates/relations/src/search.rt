@@ -1,15 +1,15 @@
 // The search for a relation that is not met, over columns of points and curves.
-use crate::measures::along;
 use crate::measures::close;
-use crate::measures::extent;
-use crate::measures::halves;
+use crate::measures::is_collinear;
+use crate::measures::is_midpoint;
+use crate::measures::length_or_radius;
 use crate::measures::on;
 use crate::measures::same;
 use crate::reading::piece_at;
-use placed::point_at;
 use sketch::Relation;
 use sketch::RelationSlot;
-ghost use Rattle.relations.specs.Columns.{MetTold, FirstUnmet};
+use sketch_geometry::point_at;
+ghost use Rattle.relations.specs.Columns.{MetAnswer, FirstUnmet};
 
 // Whether one relation is met.
 fn is_met<'a>(
@@ -25,7 +25,7 @@ fn is_met<'a>(
     seconds: &'a [u32],
     numbers: &'a [f64],
 ) -> bool
-    ensures { λ r. ⌜ MetTold (now (points .entry)) (now (xs .entry)) (now (ys .entry)) (now (ids .entry)) (now (kinds .entry)) (now (firsts .entry)) (now (seconds .entry)) (now (numbers .entry)) relation r ⌝ }
+    ensures { λ r. ⌜ MetAnswer (now (points .entry)) (now (xs .entry)) (now (ys .entry)) (now (ids .entry)) (now (kinds .entry)) (now (firsts .entry)) (now (seconds .entry)) (now (numbers .entry)) relation r ⌝ }
 {
     match relation {
         Relation::Coincident(p, q) => close(
@@ -36,25 +36,25 @@ fn is_met<'a>(
             piece_at(c, xs, ys, ids, near, kinds, firsts, seconds, numbers),
             point_at(p, points, near_points, xs, ys),
         ),
-        Relation::Collinear(a, b) => along(
+        Relation::Collinear(a, b) => is_collinear(
             piece_at(a, xs, ys, ids, near, kinds, firsts, seconds, numbers),
             piece_at(b, xs, ys, ids, near, kinds, firsts, seconds, numbers),
         ),
         Relation::Equal(a, b) => {
             let s = piece_at(a, xs, ys, ids, near, kinds, firsts, seconds, numbers);
             let t = piece_at(b, xs, ys, ids, near, kinds, firsts, seconds, numbers);
-            same(extent(s), extent(t))
+            same(length_or_radius(s), length_or_radius(t))
         }
         Relation::Length(l, v) => {
             let s = piece_at(l, xs, ys, ids, near, kinds, firsts, seconds, numbers);
-            same(extent(s), v)
+            same(length_or_radius(s), v)
         }
         Relation::Distance(p, q, v) => {
             let a = point_at(p, points, near_points, xs, ys);
             let b = point_at(q, points, near_points, xs, ys);
             same(a.dist(b), v)
         }
-        Relation::Midpoint(p, l) => halves(
+        Relation::Midpoint(p, l) => is_midpoint(
             point_at(p, points, near_points, xs, ys),
             piece_at(l, xs, ys, ids, near, kinds, firsts, seconds, numbers),
         ),

@@ -11,7 +11,7 @@ use borrow.Author.Tests.{leb-true, ltb-true, le-leb, lt-ltb, eq-eqb, ne-eqb}
 use Rattle.sketch.specs.declared.Point.{Point}
 use Rattle.sketch.specs.declared.Curve.{Curve}
 use Rattle.sketch.specs.declared.Relation.{Relation}
-use Rattle.sketch.specs.Lists.{rule, pick}
+use Rattle.sketch.specs.Lists.{guardNumber, ite}
 use Rattle.sketch.specs.Lookup.{among, Above, Ascends, sortAmong}
 use Rattle.sketch.specs.Drawing.{Drawing, Limits, curveIn, pointIds, curveIds}
 use Rattle.sketch.specs.Valid.{okPoint, okCurve, okRelation, sortOf, soundCurve, soundRelation, hasPoint, sortAt, sortIn, tableFault, listFault, curvesFault, relationsFault, faultOf}
@@ -23,13 +23,13 @@ use Rattle.sketch.proofs.Ascent.{above-ascends, above-at}
 -- ---- rules
 
 -- a rule's number is not 0, so that 0 means that the test holds and the later rules do
-pub rule-none : (b : Bool) (n rest : ℕ) → 0 < n → rule b n rest ≡ 0 → (b ≡ true) × (rest ≡ 0)
-unfolding rule
+pub rule-none : (b : Bool) (n rest : ℕ) → 0 < n → guardNumber b n rest ≡ 0 → (b ≡ true) × (rest ≡ 0)
+unfolding guardNumber
 rule-none true n rest p h = (refl, h)
 rule-none false n rest p h = absurd (omega arith)
 
-pub none-rule : (b : Bool) (n rest : ℕ) → b ≡ true → rest ≡ 0 → rule b n rest ≡ 0
-unfolding rule
+pub none-rule : (b : Bool) (n rest : ℕ) → b ≡ true → rest ≡ 0 → guardNumber b n rest ≡ 0
+unfolding guardNumber
 none-rule true n rest h k = k
 none-rule false n rest h k = never h
 
@@ -88,25 +88,25 @@ module _ {A : Type 0} (id : A → ℕ) (ok sound : A → Bool) (next : ℕ) wher
       (facts-table (id a) l rest (record { rise = t .rise .2; oks = t .oks .1; sounds = t .sounds .1 }) h))
 
   -- what comes after a table counts where the table has no fault
-  pub table-rest : (last : ℕ) (l : List A) (rest : ℕ) → tableFault id ok sound next last l rest ≡ rule (eqb (tableFault id ok sound next last l 0) 0) (tableFault id ok sound next last l 0) rest
-  unfolding rule
+  pub table-rest : (last : ℕ) (l : List A) (rest : ℕ) → tableFault id ok sound next last l rest ≡ guardNumber (eqb (tableFault id ok sound next last l 0) 0) (tableFault id ok sound next last l 0) rest
+  unfolding guardNumber
   table-rest last [] rest = refl
   table-rest last (a ∷ l) rest = go (ok a) (ltb last (id a) && ltb (id a) next && sound a) (table-rest (id a) l rest)
     where
       later : ℕ → ℕ
       later n = tableFault id ok sound next (id a) l n
 
-      go : (u v : Bool) → later rest ≡ rule (eqb (later 0) 0) (later 0) rest → rule u 4 (rule v 5 (later rest)) ≡ rule (eqb (rule u 4 (rule v 5 (later 0))) 0) (rule u 4 (rule v 5 (later 0))) rest
+      go : (u v : Bool) → later rest ≡ guardNumber (eqb (later 0) 0) (later 0) rest → guardNumber u 4 (guardNumber v 5 (later rest)) ≡ guardNumber (eqb (guardNumber u 4 (guardNumber v 5 (later 0))) 0) (guardNumber u 4 (guardNumber v 5 (later 0))) rest
       go true true e = e
       go true false e = refl
       go false v e = refl
 
   pub table-first : (last : ℕ) (l : List A) (rest n : ℕ) → n ≡ tableFault id ok sound next last l 0 → (n ≡ 0 → ⊥) → tableFault id ok sound next last l rest ≡ n
-  unfolding rule
+  unfolding guardNumber
   table-first last l rest n e h = table-rest last l rest ∙ rw (← e, ne-eqb n 0 h)
 
   pub table-later : (last : ℕ) (l : List A) (rest : ℕ) → tableFault id ok sound next last l 0 ≡ 0 → tableFault id ok sound next last l rest ≡ rest
-  unfolding rule
+  unfolding guardNumber
   table-later last l rest e = table-rest last l rest ∙ rw (eq-eqb _ 0 e)
 
 module _ {A : Type 0} (ok sound : A → Bool) where
@@ -185,7 +185,7 @@ unfolding sortAmong curveIn sortAt
 sort-among [] i = refl
 sort-among (c ∷ cs) i = go (eqb i (c .id)) (sort-among cs i)
   where
-    go : (b : Bool) → sortAmong i (curveIds cs) (sortsOf cs) ≡ sortIn cs i → pick b (sortOf (c .kind)) (sortAmong i (curveIds cs) (sortsOf cs)) ≡ sortAt (pick b (some c) (curveIn cs i))
+    go : (b : Bool) → sortAmong i (curveIds cs) (sortsOf cs) ≡ sortIn cs i → ite b (sortOf (c .kind)) (sortAmong i (curveIds cs) (sortsOf cs)) ≡ sortAt (ite b (some c) (curveIn cs i))
     go true e = refl
     go false e = e
 

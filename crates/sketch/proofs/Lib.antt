@@ -7,4 +7,4 @@ pub mod CurveCases
 pub mod RelationCases
 pub mod Facts
 pub mod Sketches
-pub mod Told
+pub mod Checked

@@ -10,12 +10,12 @@ use borrow.Author.Tests.{leb-true, ltb-false, lt-ltb, le-ltb, le-leb, lt-leb}
 use Rattle.sketch.specs.declared.Point.{Point}
 use Rattle.sketch.specs.declared.Curve.{Curve}
 use Rattle.sketch.specs.declared.Sketch.{Sketch}
-use Rattle.sketch.specs.Lists.{rule}
+use Rattle.sketch.specs.Lists.{guardNumber}
 use Rattle.sketch.specs.Lookup.{Ascends}
 use Rattle.sketch.specs.Drawing.{view, limits, pointIds, curveIds}
 use Rattle.sketch.specs.Valid.{okPoint, okCurve, soundCurve, hasPoint, pointsFault, curvesFault, relationsFault, sketchFault}
 use Rattle.sketch.specs.Facts.{Sized, Valid}
-use Rattle.sketch.specs.Columns.{sortsOf, shapesFault, PointsTold, CurvesTold, RelationsTold}
+use Rattle.sketch.specs.Columns.{sortsOf, shapesFault, PointsChecked, CurvesChecked, RelationsChecked}
 use Rattle.sketch.proofs.Bools.{all-three, or-left-false, or-right-false, at-most-or-above}
 use Rattle.sketch.proofs.Facts.{rule-none, none-rule, table-first, table-later, table-ascends, curves-by-column, relations-by-columns, fault-valid, valid-fault}
 
@@ -71,7 +71,7 @@ module _ (s : Sketch) where
   valid-sketch z v = none-rule within 3 _ (counts z) (valid-fault limits (view s) v)
 
   pub fault-over : ltb 512 (s .npoints) || ltb 128 (s .ncurves) || ltb 256 (s .nrelations) ≡ true → 3 ≡ sketchFault s
-  unfolding rule
+  unfolding guardNumber
   fault-over h = sym (rw (some-over (s .npoints) (s .ncurves) (s .nrelations) 512 128 256 h))
 
   pub sized : ltb 512 (s .npoints) || ltb 128 (s .ncurves) || ltb 256 (s .nrelations) ≡ false → Sized s
@@ -85,13 +85,13 @@ module _ (s : Sketch) where
   abbrev pointsRest : ℕ
   pointsRest = pointsFault (s .next) (view s .points) (shapesFault (view s))
 
-  in-order : Sized s → sketchFault s ≡ rule (leb 1 (s .next) && leb (s .next) 4294967295) 4 pointsRest
-  unfolding rule
+  in-order : Sized s → sketchFault s ≡ guardNumber (leb 1 (s .next) && leb (s .next) 4294967295) 4 pointsRest
+  unfolding guardNumber
   in-order z =
       rw (counts z, fits (s .npoints) 512 (s .points) (z .points), fits (s .ncurves) 128 (s .curves) (z .curves), fits-mapped (λ r. r .relation) (s .nrelations) 256 (s .relations) (z .relations))
 
   pub fault-next : Sized s → s .next < 1 → 4 ≡ sketchFault s
-  unfolding rule
+  unfolding guardNumber
   fault-next z h = sym (in-order z ∙ rw (lt-leb 1 (s .next) h))
 
   -- ---- the tables, one after another
@@ -114,10 +114,10 @@ module _ (s : Sketch) where
     pub rise : Ascends (take (s .ncurves) ids)
 
   pub begun : Sized s → 1 ≤ s .next → s .next ≤ 4294967295 → Begun
-  unfolding rule
+  unfolding guardNumber
   begun z low high = record { rest = in-order z ∙ rw (le-leb 1 (s .next) low, le-leb (s .next) 4294967295 high) }
 
-module _ {s : Sketch} (g : Begun s) {before ids : List ℕ} {p : ℕ} (t : PointsTold (s .next) (view s .points) (s .npoints) before ids p) where
+module _ {s : Sketch} (g : Begun s) {before ids : List ℕ} {p : ℕ} (t : PointsChecked (s .next) (view s .points) (s .npoints) before ids p) where
   pub fault-points : (p ≡ 0 → ⊥) → p ≡ sketchFault s
   fault-points h = sym (g .rest ∙ table-first pointId okPoint (λ (x : Point). true) (s .next) 0 (view s .points) _ p (t .number) h)
 
@@ -132,7 +132,7 @@ module _ {s : Sketch} (g : Begun s) {before ids : List ℕ} {p : ℕ} (t : Point
 
 module _ (s : Sketch) {points : List ℕ} (g : points ≡ pointIds (view s .points)) where
   module _ {before was ids sorts : List ℕ} {c : ℕ}
-      (t : CurvesTold (s .next) points (view s .curves) (s .ncurves) before was ids sorts c) where
+      (t : CurvesChecked (s .next) points (view s .curves) (s .ncurves) before was ids sorts c) where
     abbrev sound : Curve → Bool
     sound = soundCurve (hasPoint (view s .points))
 
@@ -153,6 +153,6 @@ module _ (s : Sketch) {points : List ℕ} (g : points ≡ pointIds (view s .poin
         }
 
   pub fault-relations :
-      {ids sorts : List ℕ} {r : ℕ} → CurvesPassed s ids sorts → RelationsTold points (take (s .ncurves) ids) (take (s .ncurves) sorts) (view s .relations) r → r ≡ shapesFault (view s)
+      {ids sorts : List ℕ} {r : ℕ} → CurvesPassed s ids sorts → RelationsChecked points (take (s .ncurves) ids) (take (s .ncurves) sorts) (view s .relations) r → r ≡ shapesFault (view s)
   fault-relations h t =
       t .number ∙ relations-by-columns (view s .points) (view s .curves) (view s .relations) g (h .column) (h .beside) ∙ sym (h .rest)

@@ -8,7 +8,7 @@ use native.Mathlib.Omega.{arith}
 use lib.ListN.{length, take, drop, getD, set, length-take, length-set, drop-of-length-le}
 use lib.Seq.{drop-cons, slice-cons, take-suc, take-suc-set}
 use lib.Dec.{ltb}
-use Rattle.sketch.specs.Lists.{every, rule}
+use Rattle.sketch.specs.Lists.{every, guardNumber}
 use Rattle.sketch.specs.Valid.{tableFault, listFault}
 
 -- ---- a test of every entry, from the i-th on
@@ -32,7 +32,7 @@ module _ {A : Type 0} (ok : A → Bool) (fits : ℕ → A → Bool) (id : A → 
   -- 4 where a record's values are wrong, 5 where it does not fit after the one before
   abbrev pub verdict : ℕ → List A → ℕ
   verdict last [] = 0
-  verdict last (a ∷ l) = rule (ok a) 4 (rule (fits last a) 5 (verdict (id a) l))
+  verdict last (a ∷ l) = guardNumber (ok a) 4 (guardNumber (fits last a) 5 (verdict (id a) l))
 
   -- i records are passed, the last of them with the id `last`, and n are there
   pub record Walk (xs : List A) (n last i : ℕ) : Type 0 where
@@ -44,19 +44,19 @@ module _ {A : Type 0} (ok : A → Bool) (fits : ℕ → A → Bool) (id : A → 
   walk-start xs n h = record { within = omega arith; enough = h; same = refl }
 
   module _ (d : A) (xs : List A) (n last i : ℕ) (w : Walk xs n last i) where
-    next-record : i < n → verdict 0 (take n xs) ≡ rule (ok (getD xs i d)) 4 (rule (fits last (getD xs i d)) 5 (verdict (id (getD xs i d)) (drop (i + 1) (take n xs))))
+    next-record : i < n → verdict 0 (take n xs) ≡ guardNumber (ok (getD xs i d)) 4 (guardNumber (fits last (getD xs i d)) 5 (verdict (id (getD xs i d)) (drop (i + 1) (take n xs))))
     next-record h = w .same ∙ rw (add-one, slice-cons i n xs d h (w .enough))
 
     pub walk-four : i < n → ok (getD xs i d) ≡ false → 4 ≡ verdict 0 (take n xs)
-    unfolding rule
+    unfolding guardNumber
     walk-four h e = sym (next-record h ∙ rw e)
 
     pub walk-five : i < n → ok (getD xs i d) ≡ true → fits last (getD xs i d) ≡ false → 5 ≡ verdict 0 (take n xs)
-    unfolding rule
+    unfolding guardNumber
     walk-five h e f = sym (next-record h ∙ rw (e, f))
 
     pub walk-on : i < n → ok (getD xs i d) ≡ true → fits last (getD xs i d) ≡ true → Walk xs n (id (getD xs i d)) (i + 1)
-    unfolding rule
+    unfolding guardNumber
     walk-on h e f = record { within = omega arith; enough = w .enough; same = next-record h ∙ rw (e, f) }
 
   pub walk-end : (xs : List A) (n last i : ℕ) → Walk xs n last i → n ≤ i → 0 ≡ verdict 0 (take n xs)
@@ -71,12 +71,12 @@ module _ {A : Type 0} where
 
   pub table-verdict : (id : A → ℕ) (ok sound : A → Bool) (next last : ℕ) (l : List A) → verdict ok (placed id sound next) id last l ≡ tableFault id ok sound next last l 0
   table-verdict id ok sound next last [] = refl
-  table-verdict id ok sound next last (a ∷ l) = ap (λ t. rule (ok a) 4 (rule (placed id sound next last a) 5 t)) (table-verdict id ok sound next (id a) l)
+  table-verdict id ok sound next last (a ∷ l) = ap (λ t. guardNumber (ok a) 4 (guardNumber (placed id sound next last a) 5 t)) (table-verdict id ok sound next (id a) l)
 
   -- a table without ids, of which each record stands in a slot
   pub list-verdict : {B : Type 0} (g : A → B) (ok sound : B → Bool) (l : List A) → verdict (λ a. ok (g a)) (λ last a. sound (g a)) (λ a. 0) 0 l ≡ listFault ok sound (map g l)
   list-verdict g ok sound [] = refl
-  list-verdict g ok sound (a ∷ l) = ap (λ t. rule (ok (g a)) 4 (rule (sound (g a)) 5 t)) (list-verdict g ok sound l)
+  list-verdict g ok sound (a ∷ l) = ap (λ t. guardNumber (ok (g a)) 4 (guardNumber (sound (g a)) 5 t)) (list-verdict g ok sound l)
 
 -- ---- columns
 

@@ -13,19 +13,19 @@ use Rattle.sketch.specs.Valid.{sortOf, tableFault, listFault, pointsFaul
 abbrev pub sortsOf : List Curve → List ℕ
 sortsOf cs = map (λ c. sortOf (c .kind)) cs
 
-pub record PointsTold (next : ℕ) (ps : List Point) (n : ℕ) (before ids : List ℕ) (r : ℕ) : Type 0 where
+pub record PointsChecked (next : ℕ) (ps : List Point) (n : ℕ) (before ids : List ℕ) (r : ℕ) : Type 0 where
   pub number : r ≡ pointsFault next ps 0
   pub long : length ids ≡ length before
   pub column : r ≡ 0 → take n ids ≡ pointIds ps
 
-pub record CurvesTold (next : ℕ) (points : List ℕ) (cs : List Curve) (n : ℕ) (before was ids sorts : List ℕ) (r : ℕ) : Type 0 where
+pub record CurvesChecked (next : ℕ) (points : List ℕ) (cs : List Curve) (n : ℕ) (before was ids sorts : List ℕ) (r : ℕ) : Type 0 where
   pub number : r ≡ tableFault (λ c. c .id) okCurve (soundCurve (λ p. among p points)) next 0 cs 0
   pub long : length ids ≡ length before
   pub as-long : length sorts ≡ length was
   pub column : r ≡ 0 → take n ids ≡ curveIds cs
   pub beside : r ≡ 0 → take n sorts ≡ sortsOf cs
 
-pub record RelationsTold (points curves sorts : List ℕ) (rs : List Relation) (r : ℕ) : Type 0 where
+pub record RelationsChecked (points curves sorts : List ℕ) (rs : List Relation) (r : ℕ) : Type 0 where
   pub number : r ≡ listFault okRelation (soundRelation (λ p. among p points) (λ i. sortAmong i curves sorts)) rs
 
 -- the first broken rule of a drawing whose points are right

@@ -5,7 +5,7 @@ use mathlib.Core.Option.{Option, some, none}
 use lib.ListN.{take}
 use lib.Dec.{eqb}
 use lib.Ieee.{Float}
-use Rattle.sketch.specs.Lists.{pick}
+use Rattle.sketch.specs.Lists.{ite}
 use Rattle.sketch.specs.declared.Point.{Point}
 use Rattle.sketch.specs.declared.Curve.{Curve}
 use Rattle.sketch.specs.declared.CurveKind.{CurveKind}
@@ -49,7 +49,7 @@ curveIds cs = map (λ c. c .id) cs
 -- the curve with an id
 unfoldable pub curveIn : List Curve → ℕ → Option Curve
 curveIn [] i = none
-curveIn (c ∷ cs) i = pick (eqb i (c .id)) (some c) (curveIn cs i)
+curveIn (c ∷ cs) i = ite (eqb i (c .id)) (some c) (curveIn cs i)
 
 -- the points that a curve uses, in order
 unfoldable pub usesOf : CurveKind → List ℕ → List ℕ

@@ -5,7 +5,7 @@ use mathlib.Core.Bool.{Bool, true, false, _||_}
 use mathlib.Core.List.{List, [], _∷_}
 use lib.ListN.{length, getD}
 use lib.Dec.{eqb}
-use Rattle.sketch.specs.Lists.{pick}
+use Rattle.sketch.specs.Lists.{ite}
 
 -- whether the id is in the list
 abbrev pub among : ℕ → List ℕ → Bool
@@ -32,4 +32,4 @@ pub record Found (id : ℕ) (ids : List ℕ) (r : ℕ) : Type 0 where
 unfoldable pub sortAmong : ℕ → List ℕ → List ℕ → ℕ
 sortAmong i [] ss = 0
 sortAmong i (j ∷ js) [] = 0
-sortAmong i (j ∷ js) (s ∷ ss) = pick (eqb i j) s (sortAmong i js ss)
+sortAmong i (j ∷ js) (s ∷ ss) = ite (eqb i j) s (sortAmong i js ss)

@@ -13,7 +13,7 @@ use Rattle.sketch.specs.declared.CurveKind.the-variants.{Line, Arc, Circ
 use Rattle.sketch.specs.declared.Relation.{Relation}
 use Rattle.sketch.specs.declared.Relation.the-variants.{Coincident, PointOnCurve, Collinear, Equal, Length, Distance, Midpoint, ArcLength, ArcSweep}
 use Rattle.sketch.specs.declared.Sketch.{Sketch}
-use Rattle.sketch.specs.Lists.{every, rule}
+use Rattle.sketch.specs.Lists.{every, guardNumber}
 use Rattle.sketch.specs.Lookup.{among}
 use Rattle.sketch.specs.Drawing.{Drawing, view, Limits, limits, pointIds, curveIn, usesOf, pointsOf}
 
@@ -46,11 +46,11 @@ sortOf (Circle c r) = 2
 sortOf (Bezier n) = 3
 sortOf (Conic a p b rho) = 3
 
-abbrev pub isLine : ℕ → Bool
-isLine sort = eqb sort 1
+abbrev pub isLineSort : ℕ → Bool
+isLineSort sort = eqb sort 1
 
-abbrev pub isRound : ℕ → Bool
-isRound sort = eqb sort 2
+abbrev pub isRoundSort : ℕ → Bool
+isRoundSort sort = eqb sort 2
 
 -- a circle's radius, a Bézier curve's degree, a conic's rho
 unfoldable pub okNumber : CurveKind → Bool
@@ -71,7 +71,7 @@ inSlots (Conic a p b rho) = 0
 -- only lines are infinite; slots that are not in use hold 0
 abbrev pub okCurve : Curve → Bool
 okCurve c =
-    (not (c .infinite) || isLine (sortOf (c .kind))) && okNumber (c .kind) && every (λ i. eqb i 0) (drop (inSlots (c .kind)) (c .slots))
+    (not (c .infinite) || isLineSort (sortOf (c .kind))) && okNumber (c .kind) && every (λ i. eqb i 0) (drop (inSlots (c .kind)) (c .slots))
 
 unfoldable pub okRelation : Relation → Bool
 okRelation (Coincident p q) = true
@@ -105,13 +105,13 @@ soundCurve has c = every has (usesOf (c .kind) (c .slots)) && distinct (c .kind)
 unfoldable pub fits : (ℕ → ℕ) → Relation → Bool
 fits sort (Coincident p q) = true
 fits sort (PointOnCurve p c) = ltb 0 (sort c)
-fits sort (Collinear a b) = isLine (sort a) && isLine (sort b)
-fits sort (Equal a b) = (isLine (sort a) && isLine (sort b)) || (isRound (sort a) && isRound (sort b))
-fits sort (Length l v) = isLine (sort l)
+fits sort (Collinear a b) = isLineSort (sort a) && isLineSort (sort b)
+fits sort (Equal a b) = (isLineSort (sort a) && isLineSort (sort b)) || (isRoundSort (sort a) && isRoundSort (sort b))
+fits sort (Length l v) = isLineSort (sort l)
 fits sort (Distance p q v) = true
-fits sort (Midpoint p l) = isLine (sort l)
-fits sort (ArcLength c v) = isRound (sort c)
-fits sort (ArcSweep c v) = isRound (sort c)
+fits sort (Midpoint p l) = isLineSort (sort l)
+fits sort (ArcLength c v) = isRoundSort (sort c)
+fits sort (ArcSweep c v) = isRoundSort (sort c)
 
 -- two ids of one sort differ
 unfoldable pub apart : Relation → Bool
@@ -145,12 +145,12 @@ sortIn cs i = sortAt (curveIn cs i)
 abbrev pub tableFault : {A : Type 0} → (A → ℕ) → (A → Bool) → (A → Bool) → ℕ → ℕ → List A → ℕ → ℕ
 tableFault id ok sound next last [] rest = rest
 tableFault id ok sound next last (a ∷ l) rest =
-    rule (ok a) 4 (rule (ltb last (id a) && ltb (id a) next && sound a) 5 (tableFault id ok sound next (id a) l rest))
+    guardNumber (ok a) 4 (guardNumber (ltb last (id a) && ltb (id a) next && sound a) 5 (tableFault id ok sound next (id a) l rest))
 
 -- a table without: of each record first its values, then its references
 abbrev pub listFault : {A : Type 0} → (A → Bool) → (A → Bool) → List A → ℕ
 listFault ok sound [] = 0
-listFault ok sound (a ∷ l) = rule (ok a) 4 (rule (sound a) 5 (listFault ok sound l))
+listFault ok sound (a ∷ l) = guardNumber (ok a) 4 (guardNumber (sound a) 5 (listFault ok sound l))
 
 abbrev pub pointsFault : ℕ → List Point → ℕ → ℕ
 pointsFault next ps rest = tableFault (λ p. p .id) okPoint (λ p. true) next 0 ps rest
@@ -164,8 +164,8 @@ relationsFault ps cs rs = listFault okRelation (soundRelation (hasPoint ps) (sor
 -- the tables' sizes, the next id, then the records of each table
 abbrev pub faultOf : Limits → Drawing → ℕ
 faultOf m d =
-    rule (leb (length (d .points)) (m .points) && leb (length (d .curves)) (m .curves) && leb (length (d .relations)) (m .relations)) 3
-    (rule (leb 1 (d .next) && leb (d .next) (m .ids)) 4
+    guardNumber (leb (length (d .points)) (m .points) && leb (length (d .curves)) (m .curves) && leb (length (d .relations)) (m .relations)) 3
+    (guardNumber (leb 1 (d .next) && leb (d .next) (m .ids)) 4
     (pointsFault (d .next) (d .points)
     (curvesFault (d .next) (d .points) (d .curves)
     (relationsFault (d .points) (d .curves) (d .relations)))))
@@ -173,5 +173,5 @@ faultOf m d =
 -- the same of a sketch, whose counts may be anything
 abbrev pub sketchFault : Sketch → ℕ
 sketchFault s =
-    rule (leb (s .npoints) (limits .points) && leb (s .ncurves) (limits .curves) && leb (s .nrelations) (limits .relations)) 3
+    guardNumber (leb (s .npoints) (limits .points) && leb (s .ncurves) (limits .curves) && leb (s .nrelations) (limits .relations)) 3
     (faultOf limits (view s))

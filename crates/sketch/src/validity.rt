@@ -22,7 +22,7 @@ ghost use Rattle.sketch.specs.Lookup.{among, Ascends, sortAmong};
 ghost use Rattle.sketch.specs.Valid.{okCurve, okRelation, soundCurve, soundRelation, sortOf, sketchFault};
 ghost use Rattle.sketch.specs.Drawing.{view, pointIds};
 ghost use Rattle.sketch.specs.Facts.{Sized};
-ghost use Rattle.sketch.specs.Columns.{PointsTold, CurvesTold, RelationsTold, shapesFault};
+ghost use Rattle.sketch.specs.Columns.{PointsChecked, CurvesChecked, RelationsChecked, shapesFault};
 
 // The first broken rule of the first n points, 0 for none: then `ids` holds their ids. `near` gets guesses of their
 // places.
@@ -34,7 +34,7 @@ fn points_fault<'a>(
     near: &'a mut [u16],
 ) -> u8
     requires { ⌜ (n ≤ 512) × (n ≤ length (now ids)) ⌝ }
-    ensures { λ r. ⌜ PointsTold next (take n points) n (now (ids .entry)) (now (ids .exit)) r ⌝ }
+    ensures { λ r. ⌜ PointsChecked next (take n points) n (now (ids .entry)) (now (ids .exit)) r ⌝ }
 {
     let mut last: u32 = 0;
     let mut i: usize = 0;
@@ -152,7 +152,7 @@ fn curves_fault<'a, 'b>(
     near: &'b mut [u16],
 ) -> u8
     requires { ⌜ (n ≤ 128) × (n ≤ length (now ids)) × (n ≤ length (now sorts)) × Ascends (now points) ⌝ }
-    ensures { λ r. ⌜ CurvesTold next (now (points .entry)) (take n curves) n (now (ids .entry)) (now (sorts .entry)) (now (ids .exit)) (now (sorts .exit)) r ⌝ }
+    ensures { λ r. ⌜ CurvesChecked next (now (points .entry)) (take n curves) n (now (ids .entry)) (now (sorts .entry)) (now (ids .exit)) (now (sorts .exit)) r ⌝ }
 {
     let mut last: u32 = 0;
     let mut i: usize = 0;
@@ -236,7 +236,7 @@ fn relations_fault<'a>(
     sorts: &'a [u8],
 ) -> u8
     requires { ⌜ (n ≤ 256) × (length (now curves) ≡ length (now sorts)) × Ascends (now points) × Ascends (now curves) ⌝ }
-    ensures { λ r. ⌜ RelationsTold (now (points .entry)) (now (curves .entry)) (now (sorts .entry)) (map (λ s. s .relation) (take n relations)) r ⌝ }
+    ensures { λ r. ⌜ RelationsChecked (now (points .entry)) (now (curves .entry)) (now (sorts .entry)) (map (λ s. s .relation) (take n relations)) r ⌝ }
 {
     let mut i: usize = 0;
     while i < n {

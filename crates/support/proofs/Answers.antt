@@ -18,16 +18,16 @@ use Rattle.shape.specs.Intersections.{points, crossings}
 use Rattle.sketch.specs.Lists.{keep}
 use Rattle.support.specs.declared.Hits.{Hits}
 use Rattle.support.specs.declared.Hits.the-variants.{Found, Refused}
-use Rattle.support.specs.Hits.{Outcome, found, refused, need, overlaps, onPiece, shapeHits}
-use Rattle.support.specs.Pieces.{answerOf, listOf, Met}
-use Rattle.support.specs.Handed.{Laid}
+use Rattle.support.specs.Hits.{HitsResult, found, refused, guardHits, overlaps, onPiece, shapeHits}
+use Rattle.support.specs.Pieces.{answerOf, listOf, HitsWritten}
+use Rattle.support.specs.Contracts.{HitsAtFront}
 
 module _ (hx hy : List Float) (b : ℕ) where
-  pub met-none : Met (found [] b) hx hy hx hy (Found 0 b)
+  pub met-none : HitsWritten (found [] b) hx hy hx hy (Found 0 b)
   unfolding answerOf listOf
   met-none = record { answer = refl; across = refl; up = refl }
 
-  pub met-refused : (n : ℕ) → Met (refused n b) hx hy hx hy (Refused n b)
+  pub met-refused : (n : ℕ) → HitsWritten (refused n b) hx hy hx hy (Refused n b)
   unfolding answerOf listOf
   met-refused n = record { answer = refl; across = refl; up = refl }
 
@@ -41,30 +41,30 @@ second-stored (u ∷ []) a b h = absurd (omega arith)
 second-stored (u ∷ v ∷ l) a b h = refl
 
 module _ (hx hy : List Float) (b : ℕ) (h : 28 ≤ length hx) (g : 28 ≤ length hy) where
-  pub met-one : (p : Vec2) → Met (found (p ∷ []) b) hx hy (set hx 0 (p .x)) (set hy 0 (p .y)) (Found 1 b)
+  pub met-one : (p : Vec2) → HitsWritten (found (p ∷ []) b) hx hy (set hx 0 (p .x)) (set hy 0 (p .y)) (Found 1 b)
   unfolding answerOf listOf
   met-one p = record { answer = refl; across = first-stored hx (p .x) h; up = first-stored hy (p .y) g }
 
-  pub met-two : (p q : Vec2) → Met (found (p ∷ q ∷ []) b) hx hy (set (set hx 0 (p .x)) 1 (q .x)) (set (set hy 0 (p .y)) 1 (q .y)) (Found 2 b)
+  pub met-two : (p q : Vec2) → HitsWritten (found (p ∷ q ∷ []) b) hx hy (set (set hx 0 (p .x)) 1 (q .x)) (set (set hy 0 (p .y)) 1 (q .y)) (Found 2 b)
   unfolding answerOf listOf
   met-two p q = record { answer = refl; across = second-stored hx (p .x) (q .x) h; up = second-stored hy (p .y) (q .y) g }
 
 -- ---- what was gathered elsewhere first
 
 -- the count that is answered is that of the list
-counted : (o : Outcome) (k b : ℕ) → answerOf o ≡ Found k b → k ≡ length (listOf o)
+counted : (o : HitsResult) (k b : ℕ) → answerOf o ≡ Found k b → k ≡ length (listOf o)
 unfolding answerOf listOf
 counted (found l c) k b e = cc
 counted (refused n c) k b e = let z : _≡_ {A = ℕ} 0 1 = cc in absurd (omega arith)
 
-left-alone : (o : Outcome) (hx hy : List Float) (n b : ℕ) → answerOf o ≡ Refused n b → Met o hx hy hx hy (Refused n b)
+left-alone : (o : HitsResult) (hx hy : List Float) (n b : ℕ) → answerOf o ≡ Refused n b → HitsWritten o hx hy hx hy (Refused n b)
 unfolding answerOf listOf
 left-alone (found l c) hx hy n b e = let z : _≡_ {A = ℕ} 0 1 = cc in absurd (omega arith)
 left-alone (refused m c) hx hy n b e = record { answer = sym e; across = refl; up = refl }
 
-module _ (o : Outcome) (qx qy : List Float) (r : Hits) (w : Laid o qx qy r) where
+module _ (o : HitsResult) (qx qy : List Float) (r : Hits) (w : HitsAtFront o qx qy r) where
   -- a refusal leaves the lent floats alone
-  pub met-nothing : (hx hy : List Float) (n b : ℕ) → r ≡ Refused n b → Met o hx hy hx hy r
+  pub met-nothing : (hx hy : List Float) (n b : ℕ) → r ≡ Refused n b → HitsWritten o hx hy hx hy r
   met-nothing hx hy n b e = rw e (left-alone o hx hy n b (sym (w .answer) ∙ e))
 
   module _ (k b : ℕ) (e : r ≡ Found k b) where
@@ -96,7 +96,7 @@ module _ (o : Outcome) (qx qy : List Float) (r : Hits) (w : Laid o qx qy r) wher
     laid-roomY n same few hy room = omega (arith, laid-countY, laid-fitsY)
 
     pub met-all : (hx hy laterX laterY : List Float) → laterX ≡ take k qx ++ drop (length (take k qx)) hx → laterY ≡ take k qy ++ drop (length (take k qy)) hy
-        → Met o hx hy laterX laterY (Found k b)
+        → HitsWritten o hx hy laterX laterY (Found k b)
     met-all hx hy laterX laterY ex ey =
         let n : k ≡ length (listOf o) = same-count in
         let x : length (take k qx) ≡ length (listOf o) = sym laid-countX ∙ n in
@@ -105,7 +105,7 @@ module _ (o : Outcome) (qx qy : List Float) (r : Hits) (w : Laid o qx qy r) wher
 
 -- ---- a line or round
 
-pub as-outcome : {o o′ : Outcome} {hx hy laterX laterY : List Float} {r : Hits} → o ≡ o′ → Met o′ hx hy laterX laterY r → Met o hx hy laterX laterY r
+pub as-outcome : {o o′ : HitsResult} {hx hy laterX laterY : List Float} {r : Hits} → o ≡ o′ → HitsWritten o′ hx hy laterX laterY r → HitsWritten o hx hy laterX laterY r
 as-outcome e h = rw e h
 
 pub round-clear : (p : Vec2) (d : Direction) (sh : Shape) (c : Vec2) (r start sweep : Float) → sh ≡ Round c r start sweep → overlaps p d sh ≡ false
@@ -115,16 +115,16 @@ round-clear p (Unit u) sh c r start sweep e = rw e
 
 module _ (a b : Vec2) (sh : Shape) (budget : ℕ) where
   pub overlapping : overlaps a (normalized (b -ᵥ a)) sh ≡ true → shapeHits a b sh budget ≡ refused 15 budget
-  unfolding shapeHits need
+  unfolding shapeHits guardHits
   overlapping e = rw e
 
   pub clear : overlaps a (normalized (b -ᵥ a)) sh ≡ false → (all : Crossings) → all ≡ crossings (Line a b) sh
       → shapeHits a b sh budget ≡ found (keep (onPiece sh) (points all)) budget
-  unfolding shapeHits need
+  unfolding shapeHits guardHits
   clear e all f = rw (e, f)
 
 module _ (sh : Shape) (all : Crossings) (b : ℕ) where
-  abbrev kept : Outcome
+  abbrev kept : HitsResult
   kept = found (keep (onPiece sh) (points all)) b
 
   pub none-crosses : all ≡ Zero → kept ≡ found [] b

@@ -17,14 +17,14 @@ use Rattle.support.specs.declared.Form.{Form}
 use Rattle.support.specs.declared.Form.the-variants.{Polynomial, Rational}
 use Rattle.support.specs.Freeform.{controls, weights, pointAt}
 use Rattle.support.specs.Hits.{largest, offEach, polynomial}
-use Rattle.support.specs.Pieces.{pointsOf, pointIn}
-use Rattle.support.specs.Handed.{curveOf, atMost8, fits, Controls, weightsOf, farthestOf}
+use Rattle.support.specs.Pieces.{zipPoints, pointIn}
+use Rattle.support.specs.Contracts.{freeformOf, atMost8, enoughControls, Controls, weightsOf, farthestOf}
 use Rattle.support.proofs.Coordinates.{points-length, points-across, points-up, points-next, points-end}
 
 -- ---- how many control points
 
-fits-few : (curve : Form) (n : ℕ) → fits curve n ≡ true → n ≤ 8
-unfolding fits
+fits-few : (curve : Form) (n : ℕ) → enoughControls curve n ≡ true → n ≤ 8
+unfolding enoughControls
 fits-few Polynomial n e = leb-true n 8 e
 fits-few (Rational w) n e = let h : n ≡ 3 = eqb-true n 3 e in omega arith
 
@@ -32,7 +32,7 @@ pub few : (curve : Form) (xs ys : List Float) → Controls curve xs ys → lengt
 few curve xs ys h = fits-few curve (length xs) (h .enough)
 
 three : (w : Float) (xs ys : List Float) → Controls (Rational w) xs ys → length xs ≡ 3
-unfolding fits
+unfolding enoughControls
 three w xs ys h = eqb-true (length xs) 3 (h .enough)
 
 pub three-at-least : (curve : Form) (w : Float) (xs ys : List Float) → curve ≡ Rational w → Controls curve xs ys → (3 ≤ length xs) × (3 ≤ length ys)
@@ -45,7 +45,7 @@ three-at-least curve w xs ys e h =
 -- ---- points
 
 pub polynomial-point : (curve : Form) (xs ys : List Float) (t x y : Float) → curve ≡ Polynomial → Controls curve xs ys → x ≡ evaluateOf xs t → y ≡ evaluateOf ys t
-    → vec x y ≡ pointAt (curveOf curve xs ys) t
+    → vec x y ≡ pointAt (freeformOf curve xs ys) t
 unfolding pointAt
 polynomial-point curve xs ys t x y e h ex ey = rw (e, ex, ey, points-across xs ys (h .paired), points-up xs ys (h .paired))
 
@@ -68,33 +68,33 @@ front-count k l e h = sym (length-take-le k l (omega arith))
 
 module _ (xs ys : List Float) (ex : length xs ≡ 8) (ey : length ys ≡ 8) where
   pub bezier-controls : (k : ℕ) → k ≤ 8 → Controls Polynomial (take k xs) (take k ys)
-  unfolding fits
+  unfolding enoughControls
   bezier-controls k h =
       let x : k ≡ length (take k xs) = front-count k xs ex h in
       let y : k ≡ length (take k ys) = front-count k ys ey h in
       record { paired = sym y ∙ x; enough = le-leb (length (take k xs)) 8 (omega arith) }
 
   pub conic-controls : (w : Float) → Controls (Rational w) (take 3 xs) (take 3 ys)
-  unfolding fits
+  unfolding enoughControls
   conic-controls w =
       let x : 3 ≡ length (take 3 xs) = front-count 3 xs ex (omega arith) in
       let y : 3 ≡ length (take 3 ys) = front-count 3 ys ey (omega arith) in
       record { paired = sym y ∙ x; enough = eq-eqb (length (take 3 xs)) 3 (sym x) }
 
-pub conic-front : (w : Float) (xs ys : List Float) → curveOf (Rational w) (take 3 xs) (take 3 ys) ≡ curveOf (Rational w) xs ys
+pub conic-front : (w : Float) (xs ys : List Float) → freeformOf (Rational w) (take 3 xs) (take 3 ys) ≡ freeformOf (Rational w) xs ys
 conic-front w xs ys =
     cc (getD-take 3 xs 0 nan (omega arith), getD-take 3 xs 1 nan (omega arith), getD-take 3 xs 2 nan (omega arith), getD-take 3 ys 0 nan (omega arith), getD-take 3 ys 1 nan (omega arith), getD-take 3 ys 2 nan (omega arith))
 
 -- ---- control points and weights
 
-three-points : (xs ys : List Float) → length xs ≡ 3 → length ys ≡ length xs → pointsOf xs ys ≡ pointIn xs ys 0 ∷ pointIn xs ys 1 ∷ pointIn xs ys 2 ∷ []
+three-points : (xs ys : List Float) → length xs ≡ 3 → length ys ≡ length xs → zipPoints xs ys ≡ pointIn xs ys 0 ∷ pointIn xs ys 1 ∷ pointIn xs ys 2 ∷ []
 three-points xs ys h e =
     points-next xs ys 0 (omega arith) e
     ∙ ap (λ (l : List Vec2). pointIn xs ys 0 ∷ l) (points-next xs ys 1 (omega arith) e
     ∙ ap (λ (l : List Vec2). pointIn xs ys 1 ∷ l) (points-next xs ys 2 (omega arith) e
     ∙ ap (λ (l : List Vec2). pointIn xs ys 2 ∷ l) (points-end xs ys 3 (omega arith))))
 
-control-points : (curve : Form) (xs ys : List Float) → Controls curve xs ys → controls (curveOf curve xs ys) ≡ pointsOf xs ys
+control-points : (curve : Form) (xs ys : List Float) → Controls curve xs ys → controls (freeformOf curve xs ys) ≡ zipPoints xs ys
 control-points Polynomial xs ys h = refl
 control-points (Rational w) xs ys h = sym (three-points xs ys (three w xs ys h) (h .paired))
 
@@ -108,9 +108,9 @@ ones (suc n) (suc m) (p ∷ ps) e h = ap (λ (l : List Float). 1f ∷ l) (ones n
 first-three : (w : Float) (n : ℕ) → n ≡ 3 → take n (1f ∷ w ∷ replicate 6 1f) ≡ 1f ∷ w ∷ 1f ∷ []
 first-three w n e = rw e
 
-pub front-weights : (curve : Form) (xs ys : List Float) → Controls curve xs ys → take (length xs) (weightsOf curve) ≡ weights (curveOf curve xs ys)
+pub front-weights : (curve : Form) (xs ys : List Float) → Controls curve xs ys → take (length xs) (weightsOf curve) ≡ weights (freeformOf curve xs ys)
 unfolding weightsOf
-front-weights Polynomial xs ys h = ones (length xs) 8 (pointsOf xs ys) (points-length xs ys (h .paired)) (few Polynomial xs ys h)
+front-weights Polynomial xs ys h = ones (length xs) 8 (zipPoints xs ys) (points-length xs ys (h .paired)) (few Polynomial xs ys h)
 front-weights (Rational w) xs ys h = first-three w (length xs) (three w xs ys h)
 
 weights-count : (curve : Form) → length (weightsOf curve) ≡ 8
@@ -128,7 +128,7 @@ module _ (curve : Form) (xs ys ws : List Float) (h : Controls curve xs ys) (e : 
 -- ---- the polynomial
 
 pub coefficients : (d o : Vec2) (curve : Form) (xs ys : List Float) → Controls curve xs ys → (ws : List Float) → ws ≡ weightsOf curve
-    → (scale : Float) → scale ≡ farthestOf o (pointsOf xs ys) → (top : Float) → top ≡ largest 1f (take (length xs) ws)
-    → offEach d o scale (pointsOf xs ys) (map (λ w. w ⊘ top) (take (length xs) ws)) ≡ polynomial d o (curveOf curve xs ys)
+    → (scale : Float) → scale ≡ farthestOf o (zipPoints xs ys) → (top : Float) → top ≡ largest 1f (take (length xs) ws)
+    → offEach d o scale (zipPoints xs ys) (map (λ w. w ⊘ top) (take (length xs) ws)) ≡ polynomial d o (freeformOf curve xs ys)
 unfolding polynomial farthestOf
 coefficients d o curve xs ys h ws ew scale es top et = rw (es, et, ew, front-weights curve xs ys h, control-points curve xs ys h)

@@ -16,8 +16,8 @@ use Rattle.geom.specs.declared.Vec2.{Vec2}
 use Rattle.sketch.specs.Lists.{every}
 use Rattle.bernstein.proofs.Lists.{pushed}
 use Rattle.support.specs.Hits.{largest, off, offEach}
-use Rattle.support.specs.Pieces.{pointsOf, pointIn}
-use Rattle.support.specs.Handed.{farthestOf}
+use Rattle.support.specs.Pieces.{zipPoints, pointIn}
+use Rattle.support.specs.Contracts.{farthestOf}
 use Rattle.support.proofs.Coordinates.{points-next, points-end}
 
 -- ---- the largest
@@ -32,10 +32,10 @@ heaviest-so-far ws i m h = rw (drop-of-length-le ws h)
 
 -- the largest of m and how far the points from the i-th on lie from o
 abbrev pub farthestFrom : Vec2 → List Float → List Float → ℕ → Float → Float
-farthestFrom o xs ys i m = largest m (map (λ p. distance p o) (pointsOf (drop i xs) (drop i ys)))
+farthestFrom o xs ys i m = largest m (map (λ p. distance p o) (zipPoints (drop i xs) (drop i ys)))
 
 module _ (o : Vec2) (xs ys : List Float) where
-  pub farthest-start : farthestFrom o xs ys 0 1f ≡ farthestOf o (pointsOf xs ys)
+  pub farthest-start : farthestFrom o xs ys 0 1f ≡ farthestOf o (zipPoints xs ys)
   unfolding farthestOf
   farthest-start = refl
 
@@ -53,7 +53,7 @@ module _ (o : Vec2) (xs ys : List Float) where
 module _ (d o : Vec2) (scale top : Float) (xs ys ws : List Float) where
   -- from the i-th on
   abbrev pub offFrom : ℕ → List Float
-  offFrom i = offEach d o scale (pointsOf (drop i xs) (drop i ys)) (map (λ w. w ⊘ top) (drop i ws))
+  offFrom i = offEach d o scale (zipPoints (drop i xs) (drop i ys)) (map (λ w. w ⊘ top) (drop i ws))
 
   pub off-next : (c : List Float) (i : ℕ) (p : Vec2) (x : Float) → i < length xs → length ys ≡ length xs → length ws ≡ length xs → i < length c
       → p ≡ pointIn xs ys i → x ≡ off d o scale p (getD ws i nan ⊘ top)

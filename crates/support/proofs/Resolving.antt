@@ -19,16 +19,16 @@ use Rattle.shape.specs.Measures.{dist, dist2}
 use Rattle.shape.proofs.Offsets.{dist-at-most}
 use Rattle.support.specs.declared.Hits.the-variants.{Found, Refused}
 use Rattle.support.specs.Freeform.{Freeform, pointAt}
-use Rattle.support.specs.Hits.{found, refused, need, near, resolved}
-use Rattle.support.specs.Pieces.{pointsOf, pointIn, answerOf, listOf}
-use Rattle.support.specs.Handed.{Laid}
+use Rattle.support.specs.Hits.{found, refused, guardHits, near, resolved}
+use Rattle.support.specs.Pieces.{zipPoints, pointIn, answerOf, listOf}
+use Rattle.support.specs.Contracts.{HitsAtFront}
 use Rattle.support.proofs.Coordinates.{points-length, points-across, points-up, points-stored, points-next, points-end}
 
 -- ---- near an earlier hit
 
 module _ (q : Vec2) (xs ys : List Float) (i : ℕ) where
   abbrev pub nearFrom : Bool
-  nearFrom = near q (pointsOf (drop i xs) (drop i ys))
+  nearFrom = near q (zipPoints (drop i xs) (drop i ys))
 
   module _ (h : i < length xs) (e : length ys ≡ length xs) (p : Vec2) (ep : p ≡ pointIn xs ys i) (s : Float) (es : s ≡ dot (p -ᵥ q) (p -ᵥ q)) where
     by-square : lt s (leastOf at-1e-7) ≡ lt (distance p q) 1e-7
@@ -40,7 +40,7 @@ module _ (q : Vec2) (xs ys : List Float) (i : ℕ) where
         let d : lt (distance (pointIn xs ys i) q) 1e-7 ≡ true = rw ep at (sym by-square ∙ t) in
         rw (points-next xs ys i h e, d)
 
-    pub near-next : lt s (leastOf at-1e-7) ≡ false → near q (pointsOf (drop (i + 1) xs) (drop (i + 1) ys)) ≡ nearFrom
+    pub near-next : lt s (leastOf at-1e-7) ≡ false → near q (zipPoints (drop (i + 1) xs) (drop (i + 1) ys)) ≡ nearFrom
     unfolding near
     near-next t =
         let d : lt (distance (pointIn xs ys i) q) 1e-7 ≡ false = rw ep at (sym by-square ∙ t) in
@@ -60,16 +60,16 @@ pub record Walk (line : Shape) (f : Freeform) (ts : List Float) (b : ℕ) (qx₀
   pub roomY : length ts ≤ length qy
   pub sameX : length qx ≡ length qx₀
   pub sameY : length qy ≡ length qy₀
-  pub rest : resolved line f (pointsOf (take k qx) (take k qy)) (drop i ts) b ≡ resolved line f [] ts b
+  pub rest : resolved line f (zipPoints (take k qx) (take k qy)) (drop i ts) b ≡ resolved line f [] ts b
 
 module _ (line : Shape) (f : Freeform) (ts : List Float) (b : ℕ) (qx₀ qy₀ : List Float) where
   pub start : length ts ≤ length qx₀ → length ts ≤ length qy₀ → Walk line f ts b qx₀ qy₀ 0 0 qx₀ qy₀
-  unfolding pointsOf
+  unfolding zipPoints
   start h g = record { within = omega arith; behind = omega arith; roomX = h; roomY = g; sameX = refl; sameY = refl; rest = refl }
 
   module _ (k i : ℕ) (qx qy : List Float) (w : Walk line f ts b qx₀ qy₀ k i qx qy) where
     abbrev kept : List Vec2
-    kept = pointsOf (take k qx) (take k qy)
+    kept = zipPoints (take k qx) (take k qy)
 
     fitsX : k ≤ length qx
     fitsX = omega (arith, w .behind, w .within, w .roomX)
@@ -86,7 +86,7 @@ module _ (line : Shape) (f : Freeform) (ts : List Float) (b : ℕ) (qx₀ qy₀ 
     pub paired : length (take k qy) ≡ length (take k qx)
     paired = sym countY ∙ countX
 
-    pub finish : length ts ≤ i → Laid (resolved line f [] ts b) qx qy (Found k b)
+    pub finish : length ts ≤ i → HitsAtFront (resolved line f [] ts b) qx qy (Found k b)
     unfolding resolved answerOf listOf
     finish h =
         let o : resolved line f [] ts b ≡ found kept b = sym (rw (drop-of-length-le ts h) at (w .rest)) in
@@ -98,12 +98,12 @@ module _ (line : Shape) (f : Freeform) (ts : List Float) (b : ℕ) (qx₀ qy₀ 
       by-square₂ : le s (mostOf at-1e-7) ≡ le (dist line q) 1e-7
       by-square₂ = rw es (sym (dist-at-most at-1e-7 exact-1e-7 line q))
 
-      step : resolved line f kept (drop i ts) b ≡ need (le (dist line q) 1e-7) 16 b (resolved line f (cond (near q kept) kept (kept ++ q ∷ [])) (drop (i + 1) ts) b)
+      step : resolved line f kept (drop i ts) b ≡ guardHits (le (dist line q) 1e-7) 16 b (resolved line f (cond (near q kept) kept (kept ++ q ∷ [])) (drop (i + 1) ts) b)
       unfolding resolved
       step = rw (eq, add-one, drop-cons ts i nan h)
 
-      pub astray : le s (mostOf at-1e-7) ≡ false → Laid (resolved line f [] ts b) qx qy (Refused 16 b)
-      unfolding need answerOf listOf
+      pub astray : le s (mostOf at-1e-7) ≡ false → HitsAtFront (resolved line f [] ts b) qx qy (Refused 16 b)
+      unfolding guardHits answerOf listOf
       astray t =
           let d : le (dist line q) 1e-7 ≡ false = sym by-square₂ ∙ t in
           let o : resolved line f [] ts b ≡ refused 16 b = sym (w .rest) ∙ step ∙ rw d in
@@ -114,7 +114,7 @@ module _ (line : Shape) (f : Freeform) (ts : List Float) (b : ℕ) (qx₀ qy₀ 
         on = sym by-square₂ ∙ t
 
         pub skip : near q kept ≡ true → Walk line f ts b qx₀ qy₀ k (i + 1) qx qy
-        unfolding need
+        unfolding guardHits
         skip n = record {
           within = omega arith;
           behind = omega (arith, w .behind);
@@ -126,7 +126,7 @@ module _ (line : Shape) (f : Freeform) (ts : List Float) (b : ℕ) (qx₀ qy₀ 
         }
 
         pub push : near q kept ≡ false → Walk line f ts b qx₀ qy₀ (k + 1) (i + 1) (set qx k (q .x)) (set qy k (q .y))
-        unfolding need
+        unfolding guardHits
         push n =
             let x : k < length qx = omega (arith, w .behind, w .roomX) in
             let y : k < length qy = omega (arith, w .behind, w .roomY) in

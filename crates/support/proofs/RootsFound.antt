@@ -15,17 +15,17 @@ use Rattle.bernstein.proofs.Levels.{room-enough}
 use Rattle.support.specs.declared.Hits.{Hits}
 use Rattle.support.specs.declared.Hits.the-variants.{Found, Refused}
 use Rattle.support.specs.Freeform.{Freeform}
-use Rattle.support.specs.Hits.{Outcome, found, refused, resolved, resolvedAt}
-use Rattle.support.specs.Pieces.{Met}
-use Rattle.support.specs.Handed.{passedUp}
+use Rattle.support.specs.Hits.{HitsResult, found, refused, resolved, resolvedAt}
+use Rattle.support.specs.Pieces.{HitsWritten}
+use Rattle.support.specs.Contracts.{hitsOfRoots}
 use Rattle.support.proofs.Answers.{met-refused}
 
-refusal-is : (o : B.Outcome) (n left : ℕ) → B.answerOf o ≡ R.Refused n left → o ≡ B.refused n left
+refusal-is : (o : B.RootsResult) (n left : ℕ) → B.answerOf o ≡ R.Refused n left → o ≡ B.refused n left
 unfolding B.answerOf
 refusal-is (B.found l b) n left e = let z : _≡_ {A = ℕ} 0 1 = cc in absurd (omega arith)
 refusal-is (B.refused m b) n left e = cc
 
-found-is : (o : B.Outcome) (m left : ℕ) (lent later : List Float) → B.answerOf o ≡ R.Found m left → later ≡ leftIn o lent → o ≡ B.found (take m later) left
+found-is : (o : B.RootsResult) (m left : ℕ) (lent later : List Float) → B.answerOf o ≡ R.Found m left → later ≡ leftIn o lent → o ≡ B.found (take m later) left
 unfolding B.answerOf leftIn
 found-is (B.found l b) m left lent later e g =
     let n : length l ≡ m = cc in
@@ -34,7 +34,7 @@ found-is (B.found l b) m left lent later e g =
     rw (t, k)
 found-is (B.refused w b) m left lent later e g = let z : _≡_ {A = ℕ} 0 1 = cc in absurd (omega arith)
 
-found-fits : (o : B.Outcome) (m left : ℕ) (lent later : List Float) → B.answerOf o ≡ R.Found m left → later ≡ leftIn o lent → m ≤ length later
+found-fits : (o : B.RootsResult) (m left : ℕ) (lent later : List Float) → B.answerOf o ≡ R.Found m left → later ≡ leftIn o lent → m ≤ length later
 unfolding B.answerOf leftIn
 found-fits (B.found l b) m left lent later e g =
     let n : length l ≡ m = cc in
@@ -45,8 +45,8 @@ module _ (line : Shape) (f : Freeform) (c ts₀ ts : List Float) (b : ℕ) (r : 
   roots-are : searchOf (length ts₀) c b ≡ rootsOf c b
   roots-are = room-enough (length ts₀) c b room
 
-  pub none-resolved : (n left : ℕ) → r ≡ R.Refused n left → (h : Hits) → h ≡ passedUp r → (hx hy : List Float) → Met (resolvedAt line f (rootsOf c b)) hx hy hx hy h
-  unfolding resolvedAt passedUp
+  pub none-resolved : (n left : ℕ) → r ≡ R.Refused n left → (h : Hits) → h ≡ hitsOfRoots r → (hx hy : List Float) → HitsWritten (resolvedAt line f (rootsOf c b)) hx hy hx hy h
+  unfolding resolvedAt hitsOfRoots
   none-resolved n left e h eh hx hy =
       let o : rootsOf c b ≡ B.refused n left = sym roots-are ∙ refusal-is (searchOf (length ts₀) c b) n left (sym (s .answer) ∙ e) in
       let k : h ≡ Refused n left = eh ∙ rw e in

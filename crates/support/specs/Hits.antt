@@ -20,14 +20,14 @@ use Rattle.bernstein.specs.Roots.{rootsOf}
 use Rattle.support.specs.Freeform.{Freeform, controls, weights, pointAt}
 
 -- the hits in order, or a refusal's number; and the budget that is left
-pub data Outcome : Type 0 where
-  found : List Vec2 → ℕ → Outcome
-  refused : ℕ → ℕ → Outcome
+pub data HitsResult : Type 0 where
+  found : List Vec2 → ℕ → HitsResult
+  refused : ℕ → ℕ → HitsResult
 
 -- refused by the number where the test fails, with the budget as it is
-unfoldable pub need : Bool → ℕ → ℕ → Outcome → Outcome
-need true n b o = o
-need false n b o = refused n b
+unfoldable pub guardHits : Bool → ℕ → ℕ → HitsResult → HitsResult
+guardHits true n b o = o
+guardHits false n b o = refused n b
 
 -- ---- a line or round
 
@@ -43,9 +43,9 @@ onPiece (Line a b) q = le (neg 1e-10) (param (Line a b) q) && le (param (Line a 
 onPiece (Round c r start sweep) q = le (param (Round c r start sweep) q) (sweep ⊕ 1e-10)
 
 -- 15 where it overlaps, and else the crossings that lie on it
-unfoldable pub shapeHits : Vec2 → Vec2 → Shape → ℕ → Outcome
+unfoldable pub shapeHits : Vec2 → Vec2 → Shape → ℕ → HitsResult
 shapeHits a b piece budget =
-    need (not (overlaps a (normalized (b -ᵥ a)) piece)) 15 budget
+    guardHits (not (overlaps a (normalized (b -ᵥ a)) piece)) 15 budget
     (found (keep (onPiece piece) (points (crossings (Line a b) piece))) budget)
 
 -- ---- a freeform curve: the roots of its distance from the line
@@ -78,28 +78,28 @@ near q [] = false
 near q (p ∷ ps) = cond (lt (distance p q) 1e-7) true (near q ps)
 
 -- the points at the roots, those near an earlier one left out; 16 where one lies more than 1e-7 off the support
-unfoldable pub resolved : Shape → Freeform → List Vec2 → List Float → ℕ → Outcome
+unfoldable pub resolved : Shape → Freeform → List Vec2 → List Float → ℕ → HitsResult
 resolved line f hits [] b = found hits b
 resolved line f hits (t ∷ ts) b =
     let q = pointAt f t in
     let now = cond (near q hits) hits (hits ++ q ∷ []) in
     let rest = resolved line f now ts b in
-    need (le (dist line q) 1e-7) 16 b rest
+    guardHits (le (dist line q) 1e-7) 16 b rest
 
-unfoldable pub resolvedAt : Shape → Freeform → R.Outcome → Outcome
+unfoldable pub resolvedAt : Shape → Freeform → R.RootsResult → HitsResult
 resolvedAt line f (R.found ts b) = resolved line f [] ts b
 resolvedAt line f (R.refused n b) = refused n b
 
 -- 15 where every coefficient counts as nothing
-unfoldable pub freeformBy : Shape → Freeform → List Float → ℕ → Outcome
-freeformBy line f c budget = need (not (every (λ x. lt (abs x) 1e-28) c)) 15 budget (resolvedAt line f (rootsOf c budget))
+unfoldable pub freeformBy : Shape → Freeform → List Float → ℕ → HitsResult
+freeformBy line f c budget = guardHits (not (every (λ x. lt (abs x) 1e-28) c)) 15 budget (resolvedAt line f (rootsOf c budget))
 
 -- 16 where the support has no direction
-unfoldable pub freeformAlong : Vec2 → Vec2 → Direction → Freeform → ℕ → Outcome
+unfoldable pub freeformAlong : Vec2 → Vec2 → Direction → Freeform → ℕ → HitsResult
 freeformAlong a b None f budget = refused 16 budget
 freeformAlong a b (Unit d) f budget = freeformBy (Line a b) f (polynomial d a f) budget
 
-abbrev pub freeformHits : Vec2 → Vec2 → Freeform → ℕ → Outcome
+abbrev pub freeformHits : Vec2 → Vec2 → Freeform → ℕ → HitsResult
 freeformHits a b f budget = freeformAlong a b (normalized (b -ᵥ a)) f budget
 
 -- ---- endless: an infinite line as a boundary, 1e7 each way from its point nearest to `near`

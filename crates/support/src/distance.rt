@@ -9,15 +9,15 @@ ghost use Rattle.float.specs.Sign.{abs};
 ghost use Rattle.sketch.specs.Lists.{every};
 ghost use Rattle.support.specs.Hits as Defs;
 ghost use Rattle.support.specs.Hits.{offEach};
-ghost use Rattle.support.specs.Pieces.{pointsOf};
-ghost use Rattle.support.specs.Handed.{curveOf, weightsOf, farthestOf, Controls};
+ghost use Rattle.support.specs.Pieces.{zipPoints};
+ghost use Rattle.support.specs.Contracts.{freeformOf, weightsOf, farthestOf, Controls};
 use crate::Form;
 use geom::Vec2;
 
 // How far the farthest of the points lies from o, and 1 at least.
 fn farthest<'a>(o: Vec2, xs: &'a [f64], ys: &'a [f64]) -> f64
     requires { ⌜ length (now ys) ≡ length (now xs) ⌝ }
-    ensures { λ r. ⌜ r ≡ farthestOf o (pointsOf (now (xs .entry)) (now (ys .entry))) ⌝ }
+    ensures { λ r. ⌜ r ≡ farthestOf o (zipPoints (now (xs .entry)) (now (ys .entry))) ⌝ }
 {
     let mut m = 1.0;
     let mut i = 0usize;
@@ -69,7 +69,7 @@ fn off_each<'a>(
     ws: &'a [f64],
 ) -> [f64; 8]
     requires { ⌜ (length (now ys) ≡ length (now xs)) × (length (now ws) ≡ length (now xs)) × (length (now xs) ≤ 8) ⌝ }
-    ensures { λ r. ⌜ (take (length (now (xs .entry))) r ≡ offEach d o scale (pointsOf (now (xs .entry)) (now (ys .entry))) (map (λ w. w ⊘ top) (now (ws .entry)))) × (length r ≡ 8) ⌝ }
+    ensures { λ r. ⌜ (take (length (now (xs .entry))) r ≡ offEach d o scale (zipPoints (now (xs .entry)) (now (ys .entry))) (map (λ w. w ⊘ top) (now (ws .entry)))) × (length r ≡ 8) ⌝ }
 {
     let mut c = [0.0; 8];
     let mut i = 0usize;
@@ -89,7 +89,7 @@ pub(crate) fn polynomial<'a>(
     ys: &'a [f64],
 ) -> [f64; 8]
     requires { ⌜ Controls curve (now xs) (now ys) ⌝ }
-    ensures { λ r. ⌜ (take (length (now (xs .entry))) r ≡ Defs.polynomial d o (curveOf curve (now (xs .entry)) (now (ys .entry)))) × (length r ≡ 8) ⌝ }
+    ensures { λ r. ⌜ (take (length (now (xs .entry))) r ≡ Defs.polynomial d o (freeformOf curve (now (xs .entry)) (now (ys .entry)))) × (length r ≡ 8) ⌝ }
 {
     let ws = weights(curve);
     let n = xs.len();

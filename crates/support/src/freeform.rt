@@ -6,8 +6,8 @@ ghost use lib.ListN.{length, drop};
 ghost use Rattle.bernstein.specs.Roots.{rootsOf};
 ghost use Rattle.support.specs.Hits as Defs;
 ghost use Rattle.support.specs.Hits.{resolved, resolvedAt, freeformHits};
-ghost use Rattle.support.specs.Pieces.{pointsOf, Met};
-ghost use Rattle.support.specs.Handed.{curveOf, passedUp, Controls, Laid};
+ghost use Rattle.support.specs.Pieces.{zipPoints, HitsWritten};
+ghost use Rattle.support.specs.Contracts.{freeformOf, hitsOfRoots, Controls, HitsAtFront};
 use crate::Form;
 use crate::Hits;
 use crate::ROOM;
@@ -22,7 +22,7 @@ use shape::Shape;
 // Whether one of the points lies nearer than 1e-7 to q.
 fn near<'a>(q: Vec2, xs: &'a [f64], ys: &'a [f64]) -> bool
     requires { ⌜ length (now ys) ≡ length (now xs) ⌝ }
-    ensures { λ r. ⌜ r ≡ Defs.near q (pointsOf (now (xs .entry)) (now (ys .entry))) ⌝ }
+    ensures { λ r. ⌜ r ≡ Defs.near q (zipPoints (now (xs .entry)) (now (ys .entry))) ⌝ }
 {
     let mut i = 0usize;
     while i < xs.len() {
@@ -46,7 +46,7 @@ fn resolve<'a, 'b>(
     budget: usize,
 ) -> Hits
     requires { ⌜ Controls curve (now xs) (now ys) × (length (now ts) ≤ length (now qx)) × (length (now ts) ≤ length (now qy)) ⌝ }
-    ensures { λ r. ⌜ Laid (resolved line (curveOf curve (now (xs .entry)) (now (ys .entry))) [] (now (ts .entry)) budget) (now (qx .exit)) (now (qy .exit)) r ⌝ }
+    ensures { λ r. ⌜ HitsAtFront (resolved line (freeformOf curve (now (xs .entry)) (now (ys .entry))) [] (now (ts .entry)) budget) (now (qx .exit)) (now (qy .exit)) r ⌝ }
 {
     let mut k = 0usize;
     let mut i = 0usize;
@@ -78,8 +78,8 @@ fn put(s: &[f64], out: &mut [f64])
 }
 
 // An answer of the search for roots, as one of the search for hits.
-fn passed_up(r: Roots) -> Hits
-    ensures { λ h. ⌜ h ≡ passedUp r ⌝ }
+fn hits_of_roots(r: Roots) -> Hits
+    ensures { λ h. ⌜ h ≡ hitsOfRoots r ⌝ }
 {
     match r {
         Roots::Found(n, left) => Hits::Found(n, left),
@@ -99,12 +99,12 @@ fn hits_at_roots<'a, 'b>(
     budget: usize,
 ) -> Hits
     requires { ⌜ Controls curve (now xs) (now ys) × (28 ≤ length (now hx)) × (28 ≤ length (now hy)) ⌝ }
-    ensures { λ r. ⌜ Met (resolvedAt line (curveOf curve (now (xs .entry)) (now (ys .entry))) (rootsOf (now (c .entry)) budget)) (now (hx .entry)) (now (hy .entry)) (now (hx .exit)) (now (hy .exit)) r ⌝ }
+    ensures { λ r. ⌜ HitsWritten (resolvedAt line (freeformOf curve (now (xs .entry)) (now (ys .entry))) (rootsOf (now (c .entry)) budget)) (now (hx .entry)) (now (hy .entry)) (now (hx .exit)) (now (hy .exit)) r ⌝ }
 {
     let mut ts = [0.0; ROOM];
     let roots = bernstein::search::roots(c, &mut ts, budget);
     let Roots::Found(m, left) = roots else {
-        return passed_up(roots);
+        return hits_of_roots(roots);
     };
     let mut qx = [0.0; ROOM];
     let mut qy = [0.0; ROOM];
@@ -129,7 +129,7 @@ pub(crate) fn freeform_hits<'a, 'b>(
     budget: usize,
 ) -> Hits
     requires { ⌜ Controls curve (now xs) (now ys) × (28 ≤ length (now hx)) × (28 ≤ length (now hy)) ⌝ }
-    ensures { λ r. ⌜ Met (freeformHits a b (curveOf curve (now (xs .entry)) (now (ys .entry))) budget) (now (hx .entry)) (now (hy .entry)) (now (hx .exit)) (now (hy .exit)) r ⌝ }
+    ensures { λ r. ⌜ HitsWritten (freeformHits a b (freeformOf curve (now (xs .entry)) (now (ys .entry))) budget) (now (hx .entry)) (now (hy .entry)) (now (hx .exit)) (now (hy .exit)) r ⌝ }
 {
     let Direction::Unit(d) = Vec2::from_points(a, b).normalized() else {
         return Hits::Refused(16, budget);

@@ -17,7 +17,7 @@ pub(crate) const ROOM: usize = 28;
 
 // A line or round; a Bézier curve of so many control points, eight at most; or a conic, with its apex's weight. The control points stand beside it.
 pub enum Piece {
-    Of(Shape),
+    Analytic(Shape),
     Bezier(usize),
     Conic(f64),
 }

@@ -4,7 +4,7 @@ ghost use mathlib.Core.Path.{_≡_};
 ghost use lib.ListN.{length, take};
 ghost use Rattle.support.specs.Freeform.{pointAt};
 ghost use Rattle.support.specs.Pieces.{bezierOf, conicOf};
-ghost use Rattle.support.specs.Handed.{curveOf, atMost8, Controls};
+ghost use Rattle.support.specs.Contracts.{freeformOf, atMost8, Controls};
 use crate::Form;
 use geom::Vec2;
 
@@ -24,7 +24,7 @@ fn rational_point<'a>(w: f64, xs: &'a [f64], ys: &'a [f64], t: f64) -> Vec2
 
 pub(crate) fn curve_point<'a>(curve: Form, xs: &'a [f64], ys: &'a [f64], t: f64) -> Vec2
     requires { ⌜ Controls curve (now xs) (now ys) ⌝ }
-    ensures { λ r. ⌜ r ≡ pointAt (curveOf curve (now (xs .entry)) (now (ys .entry))) t ⌝ }
+    ensures { λ r. ⌜ r ≡ pointAt (freeformOf curve (now (xs .entry)) (now (ys .entry))) t ⌝ }
 {
     match curve {
         Form::Polynomial => Vec2::new(bernstein::evaluate(xs, t), bernstein::evaluate(ys, t)),

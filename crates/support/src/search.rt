@@ -1,5 +1,5 @@
 // The search for the hits of a support.
-ghost use Rattle.support.specs.Pieces.{outcomeOf, withRoom, Met};
+ghost use Rattle.support.specs.Pieces.{hitsOf, withRoom, HitsWritten};
 use crate::Form;
 use crate::Hits;
 use crate::Piece;
@@ -23,7 +23,7 @@ pub fn hits<'a>(
     hy: &'a mut [f64],
     budget: usize,
 ) -> Hits
-    ensures { λ r. ⌜ Met (withRoom (now (hx .entry)) (now (hy .entry)) budget (outcomeOf a b piece xs ys budget)) (now (hx .entry)) (now (hy .entry)) (now (hx .exit)) (now (hy .exit)) r ⌝ }
+    ensures { λ r. ⌜ HitsWritten (withRoom (now (hx .entry)) (now (hy .entry)) budget (hitsOf a b piece xs ys budget)) (now (hx .entry)) (now (hy .entry)) (now (hx .exit)) (now (hy .exit)) r ⌝ }
 {
     if hx.len() < ROOM {
         return Hits::Refused(25, budget);
@@ -32,7 +32,7 @@ pub fn hits<'a>(
         return Hits::Refused(25, budget);
     }
     match piece {
-        Piece::Of(sh) => shape_hits(a, b, sh, hx, hy, budget),
+        Piece::Analytic(sh) => shape_hits(a, b, sh, hx, hy, budget),
         Piece::Bezier(n) => {
             let k = at_most_8(n);
             freeform_hits(a, b, Form::Polynomial, &xs[..k], &ys[..k], hx, hy, budget)

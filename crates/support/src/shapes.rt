@@ -8,7 +8,7 @@ ghost use Rattle.shape.specs.Intersections.{points};
 ghost use Rattle.sketch.specs.Lists.{keep};
 ghost use Rattle.support.specs.Hits as Defs;
 ghost use Rattle.support.specs.Hits.{found, onPiece, shapeHits};
-ghost use Rattle.support.specs.Pieces.{Met};
+ghost use Rattle.support.specs.Pieces.{HitsWritten};
 use crate::Hits;
 use geom::Direction;
 use geom::Vec2;
@@ -44,7 +44,7 @@ fn on_piece(sh: Shape, q: Vec2) -> bool
 // One hit, to the front of hx and hy.
 fn one_hit<'a>(p: Vec2, hx: &'a mut [f64], hy: &'a mut [f64], budget: usize) -> Hits
     requires { ⌜ (28 ≤ length (now hx)) × (28 ≤ length (now hy)) ⌝ }
-    ensures { λ r. ⌜ Met (found (p ∷ []) budget) (now (hx .entry)) (now (hy .entry)) (now (hx .exit)) (now (hy .exit)) r ⌝ }
+    ensures { λ r. ⌜ HitsWritten (found (p ∷ []) budget) (now (hx .entry)) (now (hy .entry)) (now (hx .exit)) (now (hy .exit)) r ⌝ }
 {
     hx[0] = p.x;
     hy[0] = p.y;
@@ -53,7 +53,7 @@ fn one_hit<'a>(p: Vec2, hx: &'a mut [f64], hy: &'a mut [f64], budget: usize) -> 
 
 fn two_hits<'a>(p: Vec2, q: Vec2, hx: &'a mut [f64], hy: &'a mut [f64], budget: usize) -> Hits
     requires { ⌜ (28 ≤ length (now hx)) × (28 ≤ length (now hy)) ⌝ }
-    ensures { λ r. ⌜ Met (found (p ∷ q ∷ []) budget) (now (hx .entry)) (now (hy .entry)) (now (hx .exit)) (now (hy .exit)) r ⌝ }
+    ensures { λ r. ⌜ HitsWritten (found (p ∷ q ∷ []) budget) (now (hx .entry)) (now (hy .entry)) (now (hx .exit)) (now (hy .exit)) r ⌝ }
 {
     hx[0] = p.x;
     hy[0] = p.y;
@@ -65,7 +65,7 @@ fn two_hits<'a>(p: Vec2, q: Vec2, hx: &'a mut [f64], hy: &'a mut [f64], budget: 
 // The crossings that lie on the piece, to the front of hx and hy.
 fn kept<'a>(sh: Shape, all: Crossings, hx: &'a mut [f64], hy: &'a mut [f64], budget: usize) -> Hits
     requires { ⌜ (28 ≤ length (now hx)) × (28 ≤ length (now hy)) ⌝ }
-    ensures { λ r. ⌜ Met (found (keep (onPiece sh) (points all)) budget) (now (hx .entry)) (now (hy .entry)) (now (hx .exit)) (now (hy .exit)) r ⌝ }
+    ensures { λ r. ⌜ HitsWritten (found (keep (onPiece sh) (points all)) budget) (now (hx .entry)) (now (hy .entry)) (now (hx .exit)) (now (hy .exit)) r ⌝ }
 {
     match all {
         Crossings::Zero => Hits::Found(0, budget),
@@ -100,7 +100,7 @@ pub(crate) fn shape_hits<'a>(
     budget: usize,
 ) -> Hits
     requires { ⌜ (28 ≤ length (now hx)) × (28 ≤ length (now hy)) ⌝ }
-    ensures { λ r. ⌜ Met (shapeHits a b sh budget) (now (hx .entry)) (now (hy .entry)) (now (hx .exit)) (now (hy .exit)) r ⌝ }
+    ensures { λ r. ⌜ HitsWritten (shapeHits a b sh budget) (now (hx .entry)) (now (hy .entry)) (now (hx .exit)) (now (hy .exit)) r ⌝ }
 {
     if overlaps(a, b, sh) {
         return Hits::Refused(15, budget);

@@ -1,4 +1,4 @@
-use Rattle.image.proofs.MessageTrips.{verdict-refused}
+use Rattle.image.proofs.MessageRoundTrips.{verdict-refused}
 use Rattle.probe.proofs.Answers.{read-number, not-copied, image-copied, message-copied}
 use mathlib.Core.Path.{_≡_, refl, sym, ap, _∙_}
 use native.Mathlib.Omega.{arith}

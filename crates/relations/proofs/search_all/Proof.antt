@@ -3,25 +3,25 @@ use native.Mathlib.Omega.{arith}
 use lib.ListN.{length-take}
 use borrow.Author.Needs.{needs}
 use Rattle.sketch.specs.Drawing.{view, pointIds}
-use Rattle.placed.proofs.Laid.{point-columns}
+use Rattle.sketch_geometry.proofs.Filled.{point-columns}
 use Rattle.sketch.proofs.Facts.{rising-ascends}
 use Rattle.relations.proofs.search_all.Statement.{statement}
 use Rattle.relations.proofs.search_all.Tie as tie
 
-slice-aggregate-lay-points : tie.Need-slice-aggregate-lay-points
-slice-aggregate-lay-points c = search needs
+slice-aggregate-fill-point-columns : tie.Need-slice-aggregate-fill-point-columns
+slice-aggregate-fill-point-columns c = search needs
 
-slice-aggregate-lay-points-2 : tie.Need-slice-aggregate-lay-points-2
-slice-aggregate-lay-points-2 c = search needs
+slice-aggregate-fill-point-columns-2 : tie.Need-slice-aggregate-fill-point-columns-2
+slice-aggregate-fill-point-columns-2 c = search needs
 
-slice-aggregate-lay-points-3 : tie.Need-slice-aggregate-lay-points-3
-slice-aggregate-lay-points-3 c = search needs
+slice-aggregate-fill-point-columns-3 : tie.Need-slice-aggregate-fill-point-columns-3
+slice-aggregate-fill-point-columns-3 c = search needs
 
-slice-aggregate-lay-points-4 : tie.Need-slice-aggregate-lay-points-4
-slice-aggregate-lay-points-4 c = search needs
+slice-aggregate-fill-point-columns-4 : tie.Need-slice-aggregate-fill-point-columns-4
+slice-aggregate-fill-point-columns-4 c = search needs
 
-lay-points-requires : tie.Need-lay-points-requires
-lay-points-requires c κs = search needs
+fill-point-columns-requires : tie.Need-fill-point-columns-requires
+fill-point-columns-requires c κs = search needs
 
 array-share-prefix-ids : tie.Need-array-share-prefix-ids
 array-share-prefix-ids c = search needs
@@ -55,18 +55,18 @@ returns c = λ v.
     let s = l .before .before .before .before .before .before in
     let k = s .args .sk in
     let z = s .pre .points in
-    let y = l .lay-points .ensures (omega arith) (omega arith) (omega arith) (omega arith) in
+    let y = l .fill-point-columns .ensures (omega arith) (omega arith) (omega arith) (omega arith) in
     c .search-from .ensures v (point-columns y (omega arith) (omega arith) (omega arith) (rising-ascends (k .next) 0 (pointIds (view k .points)) (v .points-rise)))
 
 pub search-all-spec : {M : Type 1} → statement M
 search-all-spec =
     tie.close
     (tie.spec
-    slice-aggregate-lay-points
-    slice-aggregate-lay-points-2
-    slice-aggregate-lay-points-3
-    slice-aggregate-lay-points-4
-    lay-points-requires
+    slice-aggregate-fill-point-columns
+    slice-aggregate-fill-point-columns-2
+    slice-aggregate-fill-point-columns-3
+    slice-aggregate-fill-point-columns-4
+    fill-point-columns-requires
     array-share-prefix-ids
     slice-aggregate-search-from
     slice-aggregate-search-from-2

@@ -3,30 +3,30 @@ use native.Mathlib.Omega.{arith}
 use lib.ListN.{length-take}
 use borrow.Author.Needs.{needs}
 use Rattle.sketch.specs.Drawing.{view}
-use Rattle.relations.proofs.Laid.{sketch-curves}
+use Rattle.relations.proofs.Filled.{sketch-curves}
 use Rattle.relations.proofs.search_from.Statement.{statement}
 use Rattle.relations.proofs.search_from.Tie as tie
 
-slice-aggregate-lay-curves : tie.Need-slice-aggregate-lay-curves
-slice-aggregate-lay-curves c = search needs
+slice-aggregate-fill-curve-columns : tie.Need-slice-aggregate-fill-curve-columns
+slice-aggregate-fill-curve-columns c = search needs
 
-slice-aggregate-lay-curves-2 : tie.Need-slice-aggregate-lay-curves-2
-slice-aggregate-lay-curves-2 c = search needs
+slice-aggregate-fill-curve-columns-2 : tie.Need-slice-aggregate-fill-curve-columns-2
+slice-aggregate-fill-curve-columns-2 c = search needs
 
-slice-aggregate-lay-curves-3 : tie.Need-slice-aggregate-lay-curves-3
-slice-aggregate-lay-curves-3 c = search needs
+slice-aggregate-fill-curve-columns-3 : tie.Need-slice-aggregate-fill-curve-columns-3
+slice-aggregate-fill-curve-columns-3 c = search needs
 
-slice-aggregate-lay-curves-4 : tie.Need-slice-aggregate-lay-curves-4
-slice-aggregate-lay-curves-4 c = search needs
+slice-aggregate-fill-curve-columns-4 : tie.Need-slice-aggregate-fill-curve-columns-4
+slice-aggregate-fill-curve-columns-4 c = search needs
 
-slice-aggregate-lay-curves-5 : tie.Need-slice-aggregate-lay-curves-5
-slice-aggregate-lay-curves-5 c = search needs
+slice-aggregate-fill-curve-columns-5 : tie.Need-slice-aggregate-fill-curve-columns-5
+slice-aggregate-fill-curve-columns-5 c = search needs
 
-slice-aggregate-lay-curves-6 : tie.Need-slice-aggregate-lay-curves-6
-slice-aggregate-lay-curves-6 c = search needs
+slice-aggregate-fill-curve-columns-6 : tie.Need-slice-aggregate-fill-curve-columns-6
+slice-aggregate-fill-curve-columns-6 c = search needs
 
-lay-curves-requires : tie.Need-lay-curves-requires
-lay-curves-requires c κs = search needs
+fill-curve-columns-requires : tie.Need-fill-curve-columns-requires
+fill-curve-columns-requires c κs = search needs
 
 array-share-prefix-ids : tie.Need-array-share-prefix-ids
 array-share-prefix-ids c = search needs
@@ -70,20 +70,20 @@ returns c = λ v w.
     let s = l .before .before .before .before .before .before .before .before .before .before .before .before in
     let k = s .args .sk in
     let z = s .pre .0 .curves in
-    let y = l .lay-curves .ensures (omega arith) (s .pre .1) (omega arith) (omega arith) (omega arith) (omega arith) (omega arith) in
+    let y = l .fill-curve-columns .ensures (omega arith) (s .pre .1) (omega arith) (omega arith) (omega arith) (omega arith) (omega arith) in
     c .first-unmet .ensures (view k .points) (view k .curves) w (sketch-curves k y (omega arith) (omega arith) (omega arith) (omega arith) (omega arith) v w)
 
 pub search-from-spec : {M : Type 1} → statement M
 search-from-spec =
     tie.close
     (tie.spec
-    slice-aggregate-lay-curves
-    slice-aggregate-lay-curves-2
-    slice-aggregate-lay-curves-3
-    slice-aggregate-lay-curves-4
-    slice-aggregate-lay-curves-5
-    slice-aggregate-lay-curves-6
-    lay-curves-requires
+    slice-aggregate-fill-curve-columns
+    slice-aggregate-fill-curve-columns-2
+    slice-aggregate-fill-curve-columns-3
+    slice-aggregate-fill-curve-columns-4
+    slice-aggregate-fill-curve-columns-5
+    slice-aggregate-fill-curve-columns-6
+    fill-curve-columns-requires
     array-share-prefix-ids
     slice-aggregate-first-unmet
     slice-aggregate-first-unmet-2

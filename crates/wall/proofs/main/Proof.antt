@@ -6,7 +6,7 @@ use Rattle.wall.proofs.main.Statement.{statement}
 use Rattle.wall.proofs.main.Tie as tie
 use Rattle.wall.proofs.main.Reads as reads
 use Rattle.wall.proofs.main.Lts as lts
-use Rattle.exhibit.proofs.play.Reads as play-reads
+use Rattle.replication.proofs.run_program.Reads as run-program-reads
 use Rattle.io.proofs.read_full.Reads as read-full-reads
 use Rattle.io.proofs.write_all.Reads as write-all-reads
 
@@ -23,16 +23,16 @@ array-share-prefix-input : tie.Need-array-share-prefix-input
 array-share-prefix-input c = search needs
 
 -- src/main.rt:15:30
-slice-aggregate-play : tie.Need-slice-aggregate-play
-slice-aggregate-play c = search needs
+slice-aggregate-run-program : tie.Need-slice-aggregate-run-program
+slice-aggregate-run-program c = search needs
 
 -- src/main.rt:15:43
-slice-aggregate-play-2 : tie.Need-slice-aggregate-play-2
-slice-aggregate-play-2 c = search needs
+slice-aggregate-run-program-2 : tie.Need-slice-aggregate-run-program-2
+slice-aggregate-run-program-2 c = search needs
 
 -- src/main.rt:15:9
-play-requires : tie.Need-play-requires
-play-requires c κs = search needs
+run-program-requires : tie.Need-run-program-requires
+run-program-requires c κs = search needs
 
 -- src/main.rt:16:34
 array-share-prefix-out : tie.Need-array-share-prefix-out
@@ -42,7 +42,7 @@ array-share-prefix-out c = search needs
 slice-aggregate-write-all : tie.Need-slice-aggregate-write-all
 slice-aggregate-write-all c =
     let h = c .before .out2 .given in
-    sym (length-take-le (c .before .before .play .result) (c .before .before .play .last .1 .0) (omega (arith, c .before .before .play .ensures .within)))
+    sym (length-take-le (c .before .before .run-program .result) (c .before .before .run-program .last .1 .0) (omega (arith, c .before .before .run-program .ensures .within)))
 
 -- src/main.rt:16:5
 write-all-requires : tie.Need-write-all-requires
@@ -59,9 +59,9 @@ main-spec =
     slice-aggregate-read-full
     read-full-requires
     array-share-prefix-input
-    slice-aggregate-play
-    slice-aggregate-play-2
-    play-requires
+    slice-aggregate-run-program
+    slice-aggregate-run-program-2
+    run-program-requires
     array-share-prefix-out
     slice-aggregate-write-all
     write-all-requires

@@ -5,7 +5,7 @@ use mathlib.Core.List.{List, [], _++_}
 use lib.ListN.{length, take, drop}
 use lib.Ieee.{Float}
 use Rattle.float.specs.Numbers.{_⊗_, 2e-13, 1e-10}
-use Rattle.bernstein.specs.Roots.{Outcome, found, refused, sortOnto, dedupOf, knotsOf, brackets, gathered, settled, levelOf}
+use Rattle.bernstein.specs.Roots.{RootsResult, found, refused, sortOnto, dedupOf, knotsOf, brackets, gathered, sortedDedup, levelOf}
 use Rattle.bernstein.specs.declared.Roots.the-variants.{Found, Refused}
 use Rattle.bernstein.proofs.Levels.{refuses, finds, part-length, knots-are, knots-fit, knots-counted, knots-few, level-is, level-refused, level-found, q-counted, q-fits, level-few}
 use native.Mathlib.Omega.{arith}
@@ -14,7 +14,7 @@ use Rattle.bernstein.proofs.level.roots_between.Statement.{statement}
 use Rattle.bernstein.proofs.level.roots_between.Tie as tie
 
 -- the knots are tidied
-module _ (c : tie.After-tidy) where
+module _ (c : tie.After-sort-dedup) where
   abbrev ts : List Float
   ts = c .before .before .before .before .before .before .before .args .ts .now
 
@@ -22,19 +22,19 @@ module _ (c : tie.After-tidy) where
   few = c .before .before .before .before .before .before .before .pre .0
 
   abbrev knots : List Float
-  knots = take (c .tidy .result) (c .tidy .last .0 ++ drop (length ts + 2) (c .before .before .join .result))
+  knots = take (c .sort-dedup .result) (c .sort-dedup .last .0 ++ drop (length ts + 2) (c .before .before .join .result))
 
   are : knots ≡ knotsOf ts
-  are = knots-are ts (c .before .before .join .result) (c .tidy .last .0) (c .tidy .result) (c .before .before .join .ensures .0) (c .tidy .ensures .0) (c .tidy .ensures .1) (c .tidy .kept .0)
+  are = knots-are ts (c .before .before .join .result) (c .sort-dedup .last .0) (c .sort-dedup .result) (c .before .before .join .ensures .0) (c .sort-dedup .ensures .0) (c .sort-dedup .ensures .1) (c .sort-dedup .kept .0)
 
-  fit : c .tidy .result ≤ length (c .tidy .last .0 ++ drop (length ts + 2) (c .before .before .join .result))
-  fit = knots-fit ts (c .before .before .join .result) (c .tidy .last .0) (c .tidy .result) (c .before .before .join .ensures .0) (c .tidy .ensures .0) (c .tidy .ensures .1) (c .tidy .kept .0)
+  fit : c .sort-dedup .result ≤ length (c .sort-dedup .last .0 ++ drop (length ts + 2) (c .before .before .join .result))
+  fit = knots-fit ts (c .before .before .join .result) (c .sort-dedup .last .0) (c .sort-dedup .result) (c .before .before .join .ensures .0) (c .sort-dedup .ensures .0) (c .sort-dedup .ensures .1) (c .sort-dedup .kept .0)
 
-  counted : c .tidy .result ≡ length knots
-  counted = knots-counted ts (c .before .before .join .result) (c .tidy .last .0) (c .tidy .result) (c .before .before .join .ensures .0) (c .tidy .ensures .0) (c .tidy .ensures .1) (c .tidy .kept .0)
+  counted : c .sort-dedup .result ≡ length knots
+  counted = knots-counted ts (c .before .before .join .result) (c .sort-dedup .last .0) (c .sort-dedup .result) (c .before .before .join .ensures .0) (c .sort-dedup .ensures .0) (c .sort-dedup .ensures .1) (c .sort-dedup .kept .0)
 
   at-most : length knots ≤ length ts + 2
-  at-most = knots-few ts (c .before .before .join .result) (c .tidy .last .0) (c .tidy .result) (c .before .before .join .ensures .0) (c .tidy .ensures .0) (c .tidy .ensures .1) (c .tidy .kept .0)
+  at-most = knots-few ts (c .before .before .join .result) (c .sort-dedup .last .0) (c .sort-dedup .result) (c .before .before .join .ensures .0) (c .sort-dedup .ensures .0) (c .sort-dedup .ensures .1) (c .sort-dedup .kept .0)
 
 -- the search between them is done
 module _ (c : tie.After-between) where
@@ -44,7 +44,7 @@ module _ (c : tie.After-between) where
   abbrev budget : ℕ
   budget = c .before .before .before .before .before .before .before .before .before .before .before .before .before .before .before .args .budget
 
-  abbrev tidied : tie.After-tidy
+  abbrev tidied : tie.After-sort-dedup
   tidied = c .before .before .before .before .before .before .before .before
 
   abbrev zeros : List Float
@@ -53,10 +53,10 @@ module _ (c : tie.After-between) where
   abbrev largest : Float
   largest = c .before .before .before .before .before .before .before .before .before .before .before .largest .result
 
-  abbrev gathering : Outcome
+  abbrev gathering : RootsResult
   gathering = gathered zeros (brackets cs (largest ⊗ 2e-13) (knots tidied) budget)
 
-  is-level : levelOf cs (ts tidied) budget ≡ settled gathering
+  is-level : levelOf cs (ts tidied) budget ≡ sortedDedup gathering
   is-level = level-is cs (ts tidied) (knots tidied) zeros budget largest (are tidied) (c .before .before .before .before .before .before .before .before .before .before .before .largest .ensures) (c .before .before .before .before .zeros .ensures .0)
 
   refusal : (w left : ℕ) → c .between .result ≡ Refused w left → levelOf cs (ts tidied) budget ≡ refused w left
@@ -87,11 +87,11 @@ join-requires c κs = search needs
 array-borrow-prefix-k : tie.Need-array-borrow-prefix-k
 array-borrow-prefix-k c = search needs
 
-slice-aggregate-tidy : tie.Need-slice-aggregate-tidy
-slice-aggregate-tidy c = part-length (c .before .before .before .before .before .before .args .ts .now) (c .before .join .result) [] 0 (c .before .join .ensures .0)
+slice-aggregate-sort-dedup : tie.Need-slice-aggregate-sort-dedup
+slice-aggregate-sort-dedup c = part-length (c .before .before .before .before .before .before .args .ts .now) (c .before .join .result) [] 0 (c .before .join .ensures .0)
 
-tidy-requires : tie.Need-tidy-requires
-tidy-requires c κs = search needs
+sort-dedup-requires : tie.Need-sort-dedup-requires
+sort-dedup-requires c κs = search needs
 
 array-share-prefix-k : tie.Need-array-share-prefix-k
 array-share-prefix-k c = fit (c .before)
@@ -151,8 +151,8 @@ roots-between-spec =
     add-n
     join-requires
     array-borrow-prefix-k
-    slice-aggregate-tidy
-    tidy-requires
+    slice-aggregate-sort-dedup
+    sort-dedup-requires
     array-share-prefix-k
     slice-aggregate-zeros
     slice-aggregate-zeros-2

@@ -11,7 +11,7 @@ use Rattle.bernstein.proofs.value.evaluate.Statement.{statement}
 use Rattle.bernstein.proofs.value.evaluate.Tie as tie
 
 -- four steps are done
-module _ (c : tie.After-lower-four) where
+module _ (c : tie.After-casteljau-four) where
   abbrev t : Float
   t = c .before .before .before .before .before .args .t
 
@@ -22,50 +22,50 @@ module _ (c : tie.After-lower-four) where
   more = c .before .before .before .if1 .left
 
   abbrev a : List Float
-  a = take (length xs - 4) (c .lower-four .last .1 .0)
+  a = take (length xs - 4) (c .casteljau-four .last .1 .0)
 
   a-count : length xs - 4 ≡ length a
-  a-count = front-length t xs (c .lower-four .last .1 .0) _ _ more (c .lower-four .ensures) (omega (arith, more))
+  a-count = front-length t xs (c .casteljau-four .last .1 .0) _ _ more (c .casteljau-four .ensures) (omega (arith, more))
 
   a-value : valueOf a t ≡ evaluateOf xs t
   a-value =
-      front-value t xs (c .lower-four .last .1 .0) _ (length xs - 4) more (c .lower-four .ensures) (omega (arith, more))
+      front-value t xs (c .casteljau-four .last .1 .0) _ (length xs - 4) more (c .casteljau-four .ensures) (omega (arith, more))
       ∙ few t xs (c .before .before .if2 .left)
 
 -- eight
-module _ (c : tie.After-lower-four2) where
-  abbrev first : tie.After-lower-four
+module _ (c : tie.After-casteljau-four2) where
+  abbrev first : tie.After-casteljau-four
   first = c .before .before .before .before .before
 
   abbrev b : List Float
-  b = take (length (xs first) - 8) (c .lower-four2 .last .1 .0)
+  b = take (length (xs first) - 8) (c .casteljau-four2 .last .1 .0)
 
   more-a : 4 < length (a first)
   more-a = omega (arith, a-count first, c .before .before .before .if3 .left)
 
   b-count : length (xs first) - 8 ≡ length b
-  b-count = front-length (t first) (a first) (c .lower-four2 .last .1 .0) _ _ more-a (c .lower-four2 .ensures) (omega (arith, a-count first, more-a))
+  b-count = front-length (t first) (a first) (c .casteljau-four2 .last .1 .0) _ _ more-a (c .casteljau-four2 .ensures) (omega (arith, a-count first, more-a))
 
   b-value : valueOf b (t first) ≡ evaluateOf (xs first) (t first)
-  b-value = front-value (t first) (a first) (c .lower-four2 .last .1 .0) _ (length (xs first) - 8) more-a (c .lower-four2 .ensures) (omega (arith, a-count first, more-a)) ∙ a-value first
+  b-value = front-value (t first) (a first) (c .casteljau-four2 .last .1 .0) _ (length (xs first) - 8) more-a (c .casteljau-four2 .ensures) (omega (arith, a-count first, more-a)) ∙ a-value first
 
 -- twelve
-module _ (c : tie.After-lower-four3) where
-  abbrev second : tie.After-lower-four2
+module _ (c : tie.After-casteljau-four3) where
+  abbrev second : tie.After-casteljau-four2
   second = c .before .before .before .before .before
 
   abbrev d : List Float
-  d = take (length (xs (first second)) - 12) (c .lower-four3 .last .1 .0)
+  d = take (length (xs (first second)) - 12) (c .casteljau-four3 .last .1 .0)
 
   more-b : 4 < length (b second)
   more-b = omega (arith, b-count second, c .before .before .before .if4 .left)
 
   d-count : length (xs (first second)) - 12 ≡ length d
-  d-count = front-length (t (first second)) (b second) (c .lower-four3 .last .1 .0) _ _ more-b (c .lower-four3 .ensures) (omega (arith, b-count second, more-b))
+  d-count = front-length (t (first second)) (b second) (c .casteljau-four3 .last .1 .0) _ _ more-b (c .casteljau-four3 .ensures) (omega (arith, b-count second, more-b))
 
   d-value : valueOf d (t (first second)) ≡ evaluateOf (xs (first second)) (t (first second))
   d-value =
-      front-value (t (first second)) (b second) (c .lower-four3 .last .1 .0) _ (length (xs (first second)) - 12) more-b (c .lower-four3 .ensures) (omega (arith, b-count second, more-b)) ∙ b-value second
+      front-value (t (first second)) (b second) (c .casteljau-four3 .last .1 .0) _ (length (xs (first second)) - 12) more-b (c .casteljau-four3 .ensures) (omega (arith, b-count second, more-b)) ∙ b-value second
 
 short-value-requires : tie.Need-short-value-requires
 short-value-requires c κs = search needs
@@ -76,11 +76,11 @@ returns c = c .short-value .ensures ∙ few (c .before .before .before .args .t)
 returns-2 : tie.Need-returns-2
 returns-2 c = many (c .before .before .before .args .t) (c .before .before .before .args .c .now) (c .if2 .taken)
 
-slice-aggregate-lower-four : tie.Need-slice-aggregate-lower-four
-slice-aggregate-lower-four c = search needs
+slice-aggregate-casteljau-four : tie.Need-slice-aggregate-casteljau-four
+slice-aggregate-casteljau-four c = search needs
 
-lower-four-requires : tie.Need-lower-four-requires
-lower-four-requires c κs = search needs
+casteljau-four-requires : tie.Need-casteljau-four-requires
+casteljau-four-requires c κs = search needs
 
 sub-a : tie.Need-sub-a
 sub-a c = search needs
@@ -103,14 +103,14 @@ sub-a-2 c = search needs
 array-share-prefix-a-2 : tie.Need-array-share-prefix-a-2
 array-share-prefix-a-2 c = search needs
 
-slice-aggregate-lower-four-2 : tie.Need-slice-aggregate-lower-four-2
-slice-aggregate-lower-four-2 c = a-count (c .before .before .before)
+slice-aggregate-casteljau-four-2 : tie.Need-slice-aggregate-casteljau-four-2
+slice-aggregate-casteljau-four-2 c = a-count (c .before .before .before)
 
-slice-aggregate-lower-four-3 : tie.Need-slice-aggregate-lower-four-3
-slice-aggregate-lower-four-3 c = search needs
+slice-aggregate-casteljau-four-3 : tie.Need-slice-aggregate-casteljau-four-3
+slice-aggregate-casteljau-four-3 c = search needs
 
-lower-four-requires-2 : tie.Need-lower-four-requires-2
-lower-four-requires-2 c κs = (omega (arith, a-count (c .before .before .before .before)), omega (arith, a-count (c .before .before .before .before)))
+casteljau-four-requires-2 : tie.Need-casteljau-four-requires-2
+casteljau-four-requires-2 c κs = (omega (arith, a-count (c .before .before .before .before)), omega (arith, a-count (c .before .before .before .before)))
 
 sub-b : tie.Need-sub-b
 sub-b c = search needs
@@ -133,14 +133,14 @@ sub-b-2 c = search needs
 array-share-prefix-b-2 : tie.Need-array-share-prefix-b-2
 array-share-prefix-b-2 c = search needs
 
-slice-aggregate-lower-four-4 : tie.Need-slice-aggregate-lower-four-4
-slice-aggregate-lower-four-4 c = b-count (c .before .before .before)
+slice-aggregate-casteljau-four-4 : tie.Need-slice-aggregate-casteljau-four-4
+slice-aggregate-casteljau-four-4 c = b-count (c .before .before .before)
 
-slice-aggregate-lower-four-5 : tie.Need-slice-aggregate-lower-four-5
-slice-aggregate-lower-four-5 c = search needs
+slice-aggregate-casteljau-four-5 : tie.Need-slice-aggregate-casteljau-four-5
+slice-aggregate-casteljau-four-5 c = search needs
 
-lower-four-requires-3 : tie.Need-lower-four-requires-3
-lower-four-requires-3 c κs = (omega (arith, b-count (c .before .before .before .before)), omega (arith, b-count (c .before .before .before .before)))
+casteljau-four-requires-3 : tie.Need-casteljau-four-requires-3
+casteljau-four-requires-3 c κs = (omega (arith, b-count (c .before .before .before .before)), omega (arith, b-count (c .before .before .before .before)))
 
 sub-d : tie.Need-sub-d
 sub-d c = search needs
@@ -164,8 +164,8 @@ evaluate-spec =
     short-value-requires
     returns
     returns-2
-    slice-aggregate-lower-four
-    lower-four-requires
+    slice-aggregate-casteljau-four
+    casteljau-four-requires
     sub-a
     array-share-prefix-a
     slice-aggregate-short-value
@@ -173,9 +173,9 @@ evaluate-spec =
     returns-3
     sub-a-2
     array-share-prefix-a-2
-    slice-aggregate-lower-four-2
-    slice-aggregate-lower-four-3
-    lower-four-requires-2
+    slice-aggregate-casteljau-four-2
+    slice-aggregate-casteljau-four-3
+    casteljau-four-requires-2
     sub-b
     array-share-prefix-b
     slice-aggregate-short-value-2
@@ -183,9 +183,9 @@ evaluate-spec =
     returns-4
     sub-b-2
     array-share-prefix-b-2
-    slice-aggregate-lower-four-4
-    slice-aggregate-lower-four-5
-    lower-four-requires-3
+    slice-aggregate-casteljau-four-4
+    slice-aggregate-casteljau-four-5
+    casteljau-four-requires-3
     sub-d
     array-share-prefix-d
     slice-aggregate-short-value-3

@@ -6,7 +6,7 @@ use Rattle.big_endian.proofs.load.load8.Statement.{statement}
 use Rattle.big_endian.proofs.load.load8.Tie as tie
 use Rattle.big_endian.proofs.load.load8.Reads as reads
 use Rattle.big_endian.proofs.load.load8.Lts as lts
-use Rattle.big_endian.proofs.load.turned.Reads as turned-reads
+use Rattle.big_endian.proofs.load.swap_bytes.Reads as swap-bytes-reads
 use Rattle.big_endian.proofs.load.wide8.Reads as wide8-reads
 
 -- src/load.rt:60:19
@@ -130,36 +130,36 @@ mul-h : tie.Need-mul-h
 mul-h c = search needs
 
 -- src/load.rt:68:14
-add-turned : tie.Need-add-turned
-add-turned c = search needs
+add-swap-bytes : tie.Need-add-swap-bytes
+add-swap-bytes c = search needs
 
 -- src/load.rt:68:24
-add-turned-2 : tie.Need-add-turned-2
-add-turned-2 c = search needs
+add-swap-bytes-2 : tie.Need-add-swap-bytes-2
+add-swap-bytes-2 c = search needs
 
 -- src/load.rt:68:13
-add-turned-3 : tie.Need-add-turned-3
-add-turned-3 c = search needs
+add-swap-bytes-3 : tie.Need-add-swap-bytes-3
+add-swap-bytes-3 c = search needs
 
 -- src/load.rt:68:36
-add-turned-4 : tie.Need-add-turned-4
-add-turned-4 c = search needs
+add-swap-bytes-4 : tie.Need-add-swap-bytes-4
+add-swap-bytes-4 c = search needs
 
 -- src/load.rt:68:46
-add-turned-5 : tie.Need-add-turned-5
-add-turned-5 c = search needs
+add-swap-bytes-5 : tie.Need-add-swap-bytes-5
+add-swap-bytes-5 c = search needs
 
 -- src/load.rt:68:35
-add-turned-6 : tie.Need-add-turned-6
-add-turned-6 c = search needs
+add-swap-bytes-6 : tie.Need-add-swap-bytes-6
+add-swap-bytes-6 c = search needs
 
 -- src/load.rt:68:12
-add-turned-7 : tie.Need-add-turned-7
-add-turned-7 c = search needs
+add-swap-bytes-7 : tie.Need-add-swap-bytes-7
+add-swap-bytes-7 c = search needs
 
 -- src/load.rt:68:5
-turned-requires : tie.Need-turned-requires
-turned-requires c κs = search needs
+swap-bytes-requires : tie.Need-swap-bytes-requires
+swap-bytes-requires c κs = search needs
 
 -- src/load.rt:56:1
 returns : tie.Need-returns
@@ -173,7 +173,7 @@ returns c =
     let b5 = c .before .before .before .before .before .wide86 .ensures in
     let b6 = c .before .before .before .wide87 .ensures in
     let b7 = c .before .wide88 .ensures in
-    c .turned .ensures _ _ _ _ _ _ _ _ (b0 .1) (b1 .1) (b2 .1) (b3 .1) (b4 .1) (b5 .1) (b6 .1) (b7 .1) refl
+    c .swap-bytes .ensures _ _ _ _ _ _ _ _ (b0 .1) (b1 .1) (b2 .1) (b3 .1) (b4 .1) (b5 .1) (b6 .1) (b7 .1) refl
     ∙ field-flat (z .s .now) (z .at) _ _ _ _ _ _ _ _ (b0 .0) (b1 .0) (b2 .0) (b3 .0) (b4 .0) (b5 .0) (b6 .0) (b7 .0)
 
 pub load8-spec : {M : Type 1} → statement M
@@ -210,12 +210,12 @@ load8-spec =
     shared-slice-read-wide8-8
     wide8-requires-8
     mul-h
-    add-turned
-    add-turned-2
-    add-turned-3
-    add-turned-4
-    add-turned-5
-    add-turned-6
-    add-turned-7
-    turned-requires
+    add-swap-bytes
+    add-swap-bytes-2
+    add-swap-bytes-3
+    add-swap-bytes-4
+    add-swap-bytes-5
+    add-swap-bytes-6
+    add-swap-bytes-7
+    swap-bytes-requires
     returns)

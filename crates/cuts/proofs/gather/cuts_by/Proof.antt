@@ -23,8 +23,8 @@ abbrev μ-loop : tie.MeasureT-loop
 intersections-requires : tie.Need-intersections-requires Inv-loop μ-loop
 intersections-requires c κs = search needs
 
-tips-requires : tie.Need-tips-requires Inv-loop μ-loop
-tips-requires c κs = search needs
+end-points-requires : tie.Need-end-points-requires Inv-loop μ-loop
+end-points-requires c κs = search needs
 
 count-requires : tie.Need-count-requires Inv-loop μ-loop
 count-requires c κs = search needs
@@ -33,13 +33,13 @@ count-requires-2 : tie.Need-count-requires-2 Inv-loop μ-loop
 count-requires-2 c κs = search needs
 
 add-all : tie.Need-add-all Inv-loop μ-loop
-add-all c = let u = few (c .before .before .before .intersections .result) in let v = few (c .before .before .tips .result) in omega arith
+add-all c = let u = few (c .before .before .before .intersections .result) in let v = few (c .before .before .end-points .result) in omega arith
 
 loop-holds : tie.Need-loop-holds Inv-loop μ-loop
-loop-holds c = let u = few (c .before .before .before .intersections .result) in let v = few (c .before .before .tips .result) in (omega arith, omega arith, omega arith, omega arith, c .before .before .before .before .before .before .before .before .pre .0, c .before .before .before .before .before .before .before .before .pre .1, refl, refl, refl, refl, stops-start (c .before .before .before .before .before .before .before .before .args .sh) (c .before .before .before .before .before .before .before .before .args .o) _ (c .before .before .before .intersections .result) (c .before .before .tips .result))
+loop-holds c = let u = few (c .before .before .before .intersections .result) in let v = few (c .before .before .end-points .result) in (omega arith, omega arith, omega arith, omega arith, c .before .before .before .before .before .before .before .before .pre .0, c .before .before .before .before .before .before .before .before .pre .1, refl, refl, refl, refl, stops-start (c .before .before .before .before .before .before .before .before .args .sh) (c .before .before .before .before .before .before .before .before .args .o) _ (c .before .before .before .intersections .result) (c .before .before .end-points .result))
 
-stop-requires : tie.Need-stop-requires Inv-loop μ-loop
-stop-requires c κs = search needs
+candidate-at-requires : tie.Need-candidate-at-requires Inv-loop μ-loop
+candidate-at-requires c κs = search needs
 
 candidate-requires : tie.Need-candidate-requires Inv-loop μ-loop
 candidate-requires c κs = (c .before .before .before .before .before .before .loop .inv .4, record { for-t = omega arith; for-x = omega arith; for-y = omega arith; for-by = omega arith })
@@ -63,7 +63,7 @@ loop-again c =
       search needs,
       search needs,
       search needs,
-      stops-step (c .before .before .before .before .before .before .before .before .before .before .before .before .before .before .before .before .before .before .before .before .before .before .before .before .args .sh) (c .before .before .before .before .before .before .before .before .before .before .before .before .before .before .before .before .before .before .before .before .before .before .before .before .args .o) _ (c .before .before .before .before .before .before .before .before .before .before .before .before .before .before .before .before .before .before .before .intersections .result) (c .before .before .before .before .before .before .before .before .before .before .before .before .before .before .before .before .before .before .tips .result) (c .before .before .before .before .before .before .before .before .before .before .before .before .before .before .before .loop .k) _ _ _ (omega arith) (c .before .before .before .before .before .before .before .before .before .before .before .before .before .stop .ensures) (v .10) (c .before .before .before .before .before .before .before .before .candidate .ensures .0),
+      stops-step (c .before .before .before .before .before .before .before .before .before .before .before .before .before .before .before .before .before .before .before .before .before .before .before .before .args .sh) (c .before .before .before .before .before .before .before .before .before .before .before .before .before .before .before .before .before .before .before .before .before .before .before .before .args .o) _ (c .before .before .before .before .before .before .before .before .before .before .before .before .before .before .before .before .before .before .before .intersections .result) (c .before .before .before .before .before .before .before .before .before .before .before .before .before .before .before .before .before .before .end-points .result) (c .before .before .before .before .before .before .before .before .before .before .before .before .before .before .before .loop .k) _ _ _ (omega arith) (c .before .before .before .before .before .before .before .before .before .before .before .before .before .candidate-at .ensures) (v .10) (c .before .before .before .before .before .before .before .before .candidate .ensures .0),
     )
 
 same-length : tie.Need-same-length Inv-loop μ-loop
@@ -79,7 +79,7 @@ same-length-4 : tie.Need-same-length-4 Inv-loop μ-loop
 same-length-4 c = search needs
 
 returns : tie.Need-returns Inv-loop μ-loop
-returns c = (stops-end (c .before .before .before .before .before .before .before .before .before .before .args .sh) (c .before .before .before .before .before .before .before .before .before .before .args .o) _ (c .before .before .before .before .before .intersections .result) (c .before .before .before .before .tips .result) (c .before .loop .k) _ (omega arith) (c .before .before .before .before .before .intersections .ensures) (c .before .before .before .before .tips .ensures) (c .before .loop .inv .10), omega arith)
+returns c = (stops-end (c .before .before .before .before .before .before .before .before .before .before .args .sh) (c .before .before .before .before .before .before .before .before .before .before .args .o) _ (c .before .before .before .before .before .intersections .result) (c .before .before .before .before .end-points .result) (c .before .loop .k) _ (omega arith) (c .before .before .before .before .before .intersections .ensures) (c .before .before .before .before .end-points .ensures) (c .before .loop .inv .10), omega arith)
 
 pub cuts-by-spec : {M : Type 1} → statement M
 cuts-by-spec =
@@ -88,12 +88,12 @@ cuts-by-spec =
     Inv-loop
     μ-loop
     intersections-requires
-    tips-requires
+    end-points-requires
     count-requires
     count-requires-2
     add-all
     loop-holds
-    stop-requires
+    candidate-at-requires
     candidate-requires
     add-k
     loop-less

@@ -1,4 +1,4 @@
-use Rattle.cuts.specs.Columns.{pointAt}
+use Rattle.cuts.specs.Columns.{crossingAt}
 use Rattle.cuts.proofs.Among.{first-of-two, second-of-two}
 use borrow.Author.Needs.{needs}
 use Rattle.cuts.proofs.gather.nth.Statement.{statement}
@@ -20,11 +20,11 @@ returns : tie.Need-returns
 returns c = first-of-two _ _ _ _ (c .before .before .c2 .given .1) (c .if1 .taken)
 
 returns-2 : tie.Need-returns-2
-unfolding pointAt
+unfolding crossingAt
 returns-2 c = simp (c .new .ensures, c .before .enum-told .given .1)
 
 returns-3 : tie.Need-returns-3
-unfolding pointAt
+unfolding crossingAt
 returns-3 c = simp (c .before .c .given .1)
 
 returns-4 : tie.Need-returns-4

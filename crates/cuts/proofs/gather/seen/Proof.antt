@@ -2,14 +2,14 @@ use native.Mathlib.Omega.{arith}
 use Prim.Native.Nat.{_≤_, _-_}
 use mathlib.Core.Bool.{false}
 use mathlib.Core.Path.{_≡_, sym}
-use Rattle.cuts.specs.Columns.{Places, placesIn, crowded}
+use Rattle.cuts.specs.Columns.{Places, placesIn, foundAmong}
 use Rattle.cuts.proofs.Steps.{crowded-start, crowded-none, crowded-hit, crowded-end}
 use borrow.Author.Needs.{needs}
 use Rattle.cuts.proofs.gather.seen.Statement.{statement}
 use Rattle.cuts.proofs.gather.seen.Tie as tie
 
 abbrev Inv-loop : tie.InvT-loop
-Inv-loop px py n q i₀ i = (i ≤ n) × Places n px py × (crowded (placesIn i px py) q ≡ false)
+Inv-loop px py n q i₀ i = (i ≤ n) × Places n px py × (foundAmong (placesIn i px py) q ≡ false)
 
 abbrev μ-loop : tie.MeasureT-loop
 μ-loop px py n q i₀ i = n - i

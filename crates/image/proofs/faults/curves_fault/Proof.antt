@@ -10,7 +10,7 @@ use Rattle.sketch.specs.Valid.{soundCurve}
 use Rattle.sketch.proofs.Walks.{Column}
 use Rattle.image.specs.Records.{curveOf}
 use Rattle.image.specs.Image.{rowsAt}
-use Rattle.image.specs.Tested.{goodCurve, rowSort}
+use Rattle.image.specs.Contracts.{goodCurve, rowSort}
 use Rattle.image.proofs.Tables.{length-rows, row-part}
 use Rattle.image.proofs.Walked.{RowsWalk, rows-start, rows-four, rows-five, rows-on, rows-end, sorts-start, sorts-on, sorts-end, sorts-stop}
 use borrow.Author.Needs.{needs}
@@ -20,9 +20,9 @@ use Rattle.image.proofs.faults.curves_fault.Tie as tie
 use Rattle.image.proofs.faults.curves_fault.Reads as reads
 use Rattle.image.proofs.faults.curves_fault.Lts as lts
 use Rattle.big_endian.proofs.get4.Reads as get4-reads
-use Rattle.image.proofs.tests.curve_good.Reads as curve-good-reads
-use Rattle.image.proofs.tests.curve_sort.Reads as curve-sort-reads
-use Rattle.image.proofs.tests.curve_sound.Reads as curve-sound-reads
+use Rattle.image.proofs.checks.curve_good.Reads as curve-good-reads
+use Rattle.image.proofs.checks.curve_sort.Reads as curve-sort-reads
+use Rattle.image.proofs.checks.curve_sound.Reads as curve-sound-reads
 use Rattle.sketch.proofs.note.Reads as note-reads
 
 abbrev Inv-loop : tie.InvT-loop

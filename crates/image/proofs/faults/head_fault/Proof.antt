@@ -1,5 +1,5 @@
 use Rattle.image.specs.Image.{headFault}
-use Rattle.sketch.specs.Lists.{rule}
+use Rattle.sketch.specs.Lists.{guardNumber}
 use borrow.Author.Tests.{lt-leb, le-leb, lt-ltb, le-ltb, eq-eqb, ne-eqb}
 use native.Mathlib.Omega.{arith}
 use borrow.Author.Needs.{needs}
@@ -13,7 +13,7 @@ use Rattle.big_endian.proofs.get4.Reads as get4-reads
 
 -- src/reader.rt:55:9
 returns : tie.Need-returns
-unfolding headFault rule
+unfolding headFault guardNumber
 returns c = simp (lt-leb _ _ (c .if1 .taken))
 
 -- src/reader.rt:57:8
@@ -22,12 +22,12 @@ get1-requires c κs = search needs
 
 -- src/reader.rt:58:9
 returns-2 : tie.Need-returns-2
-unfolding headFault rule
+unfolding headFault guardNumber
 returns-2 c = simp (ne-eqb _ _ (c .if2 .taken), ← c .before .get1 .ensures, le-leb _ _ (c .before .before .if1 .left))
 
 -- src/reader.rt:61:9
 returns-3 : tie.Need-returns-3
-unfolding headFault rule
+unfolding headFault guardNumber
 returns-3 c = simp (lt-leb _ _ (c .if3 .taken), eq-eqb _ _ (c .before .if2 .left), ← c .before .before .get1 .ensures, le-leb _ _ (c .before .before .before .if1 .left))
 
 -- src/reader.rt:63:8
@@ -44,7 +44,7 @@ add-if4 c = search needs
 
 -- src/reader.rt:64:9
 returns-4 : tie.Need-returns-4
-unfolding headFault rule
+unfolding headFault guardNumber
 returns-4 c = simp (ne-eqb _ _ (c .if4 .taken), ← c .before .get4 .ensures, le-leb _ _ (c .before .before .if3 .left), eq-eqb _ _ (c .before .before .before .if2 .left), ← c .before .before .before .before .get1 .ensures, le-leb _ _ (c .before .before .before .before .before .if1 .left))
 
 -- src/reader.rt:66:14
@@ -57,7 +57,7 @@ cast-np c = search needs
 
 -- src/reader.rt:68:9
 returns-5 : tie.Need-returns-5
-unfolding headFault rule
+unfolding headFault guardNumber
 returns-5 c = simp (lt-leb _ _ (c .if5 .taken), ← c .before .get2 .ensures, eq-eqb _ _ (c .before .before .if4 .left), ← c .before .before .before .get4 .ensures, le-leb _ _ (c .before .before .before .before .if3 .left), eq-eqb _ _ (c .before .before .before .before .before .if2 .left), ← c .before .before .before .before .before .before .get1 .ensures, le-leb _ _ (c .before .before .before .before .before .before .before .if1 .left))
 
 -- src/reader.rt:70:14
@@ -70,7 +70,7 @@ cast-nc c = search needs
 
 -- src/reader.rt:72:9
 returns-6 : tie.Need-returns-6
-unfolding headFault rule
+unfolding headFault guardNumber
 returns-6 c = simp (lt-leb _ _ (c .if6 .taken), ← c .before .get22 .ensures, le-leb _ _ (c .before .before .if5 .left), ← c .before .before .before .get2 .ensures, eq-eqb _ _ (c .before .before .before .before .if4 .left), ← c .before .before .before .before .before .get4 .ensures, le-leb _ _ (c .before .before .before .before .before .before .if3 .left), eq-eqb _ _ (c .before .before .before .before .before .before .before .if2 .left), ← c .before .before .before .before .before .before .before .before .get1 .ensures, le-leb _ _ (c .before .before .before .before .before .before .before .before .before .if1 .left))
 
 -- src/reader.rt:74:14
@@ -83,7 +83,7 @@ cast-nr c = search needs
 
 -- src/reader.rt:76:9
 returns-7 : tie.Need-returns-7
-unfolding headFault rule
+unfolding headFault guardNumber
 returns-7 c = simp (lt-leb _ _ (c .if7 .taken), ← c .before .get23 .ensures, le-leb _ _ (c .before .before .if6 .left), ← c .before .before .before .get22 .ensures, le-leb _ _ (c .before .before .before .before .if5 .left), ← c .before .before .before .before .before .get2 .ensures, eq-eqb _ _ (c .before .before .before .before .before .before .if4 .left), ← c .before .before .before .before .before .before .before .get4 .ensures, le-leb _ _ (c .before .before .before .before .before .before .before .before .if3 .left), eq-eqb _ _ (c .before .before .before .before .before .before .before .before .before .if2 .left), ← c .before .before .before .before .before .before .before .before .before .before .get1 .ensures, le-leb _ _ (c .before .before .before .before .before .before .before .before .before .before .before .if1 .left))
 
 -- src/reader.rt:78:13
@@ -112,7 +112,7 @@ add-if8-3 c = search needs
 
 -- src/reader.rt:79:9
 returns-8 : tie.Need-returns-8
-unfolding headFault rule
+unfolding headFault guardNumber
 returns-8 c = simp (ne-eqb _ _ (c .if8 .taken), le-leb _ _ (c .before .if7 .left), ← c .before .before .get23 .ensures, le-leb _ _ (c .before .before .before .if6 .left), ← c .before .before .before .before .get22 .ensures, le-leb _ _ (c .before .before .before .before .before .if5 .left), ← c .before .before .before .before .before .before .get2 .ensures, eq-eqb _ _ (c .before .before .before .before .before .before .before .if4 .left), ← c .before .before .before .before .before .before .before .before .get4 .ensures, le-leb _ _ (c .before .before .before .before .before .before .before .before .before .if3 .left), eq-eqb _ _ (c .before .before .before .before .before .before .before .before .before .before .if2 .left), ← c .before .before .before .before .before .before .before .before .before .before .before .get1 .ensures, le-leb _ _ (c .before .before .before .before .before .before .before .before .before .before .before .before .if1 .left))
 
 -- src/reader.rt:81:8
@@ -121,12 +121,12 @@ get4-requires-2 c κs = search needs
 
 -- src/reader.rt:82:9
 returns-9 : tie.Need-returns-9
-unfolding headFault rule
+unfolding headFault guardNumber
 returns-9 c = simp (lt-leb _ _ (c .if9 .taken), ← c .before .get42 .ensures, eq-eqb _ _ (c .before .before .if8 .left), le-leb _ _ (c .before .before .before .if7 .left), ← c .before .before .before .before .get23 .ensures, le-leb _ _ (c .before .before .before .before .before .if6 .left), ← c .before .before .before .before .before .before .get22 .ensures, le-leb _ _ (c .before .before .before .before .before .before .before .if5 .left), ← c .before .before .before .before .before .before .before .before .get2 .ensures, eq-eqb _ _ (c .before .before .before .before .before .before .before .before .before .if4 .left), ← c .before .before .before .before .before .before .before .before .before .before .get4 .ensures, le-leb _ _ (c .before .before .before .before .before .before .before .before .before .before .before .if3 .left), eq-eqb _ _ (c .before .before .before .before .before .before .before .before .before .before .before .before .if2 .left), ← c .before .before .before .before .before .before .before .before .before .before .before .before .before .get1 .ensures, le-leb _ _ (c .before .before .before .before .before .before .before .before .before .before .before .before .before .before .if1 .left))
 
 -- src/reader.rt:50:1
 returns-10 : tie.Need-returns-10
-unfolding headFault rule
+unfolding headFault guardNumber
 returns-10 c = simp (le-leb _ _ (c .if9 .left), ← c .before .get42 .ensures, eq-eqb _ _ (c .before .before .if8 .left), le-leb _ _ (c .before .before .before .if7 .left), ← c .before .before .before .before .get23 .ensures, le-leb _ _ (c .before .before .before .before .before .if6 .left), ← c .before .before .before .before .before .before .get22 .ensures, le-leb _ _ (c .before .before .before .before .before .before .before .if5 .left), ← c .before .before .before .before .before .before .before .before .get2 .ensures, eq-eqb _ _ (c .before .before .before .before .before .before .before .before .before .if4 .left), ← c .before .before .before .before .before .before .before .before .before .before .get4 .ensures, le-leb _ _ (c .before .before .before .before .before .before .before .before .before .before .before .if3 .left), eq-eqb _ _ (c .before .before .before .before .before .before .before .before .before .before .before .before .if2 .left), ← c .before .before .before .before .before .before .before .before .before .before .before .before .before .get1 .ensures, le-leb _ _ (c .before .before .before .before .before .before .before .before .before .before .before .before .before .before .if1 .left))
 
 pub head-fault-spec : {M : Type 1} → statement M

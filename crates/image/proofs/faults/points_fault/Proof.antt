@@ -5,7 +5,7 @@ use Prim.Native.Nat.{_-_}
 use lib.ListN.{length}
 use borrow.Author.Tests.{not-true, not-false}
 use Rattle.image.specs.Image.{rowsAt}
-use Rattle.image.specs.Tested.{goodPoint}
+use Rattle.image.specs.Contracts.{goodPoint}
 use Rattle.image.proofs.Tables.{length-rows, row-part}
 use Rattle.image.proofs.Walked.{RowsWalk, alone, rows-start, rows-four, rows-five, rows-on, rows-end}
 use borrow.Author.Needs.{needs}
@@ -15,7 +15,7 @@ use Rattle.image.proofs.faults.points_fault.Tie as tie
 use Rattle.image.proofs.faults.points_fault.Reads as reads
 use Rattle.image.proofs.faults.points_fault.Lts as lts
 use Rattle.big_endian.proofs.get4.Reads as get4-reads
-use Rattle.image.proofs.tests.point_good.Reads as point-good-reads
+use Rattle.image.proofs.checks.point_good.Reads as point-good-reads
 use Rattle.sketch.proofs.note.Reads as note-reads
 
 abbrev Inv-loop : tie.InvT-loop

@@ -9,7 +9,7 @@ use Rattle.sketch.specs.Lookup.{among, Ascends, sortAmong}
 use Rattle.sketch.specs.Valid.{soundRelation}
 use Rattle.image.specs.Records.{relationOf}
 use Rattle.image.specs.Image.{rowsAt}
-use Rattle.image.specs.Tested.{goodRelation}
+use Rattle.image.specs.Contracts.{goodRelation}
 use Rattle.image.proofs.Tables.{length-rows, row-part}
 use Rattle.image.proofs.Walked.{ListWalk, list-start, list-four, list-five, list-on, list-end}
 use borrow.Author.Needs.{needs}
@@ -18,8 +18,8 @@ use Rattle.image.proofs.faults.relations_fault.Statement.{statement}
 use Rattle.image.proofs.faults.relations_fault.Tie as tie
 use Rattle.image.proofs.faults.relations_fault.Reads as reads
 use Rattle.image.proofs.faults.relations_fault.Lts as lts
-use Rattle.image.proofs.tests.relation_good.Reads as relation-good-reads
-use Rattle.image.proofs.tests.relation_sound.Reads as relation-sound-reads
+use Rattle.image.proofs.checks.relation_good.Reads as relation-good-reads
+use Rattle.image.proofs.checks.relation_sound.Reads as relation-sound-reads
 
 abbrev Inv-loop : tie.InvT-loop
 Inv-loop s from n points near-points curves near-curves sorts i₀ i = ListWalk goodRelation (λ r. soundRelation (λ p. among p points) (λ j. sortAmong j curves sorts) (relationOf r)) (rowsAt 17 n s from) i × (length (rowsAt 17 n s from) ≡ n) × (length curves ≡ length sorts) × Ascends points × Ascends curves

@@ -1,5 +1,5 @@
-use Rattle.image.specs.Message.{encode, Written}
-use Rattle.sketch.specs.Lists.{rule}
+use Rattle.image.specs.Message.{encode, MessageWritten}
+use Rattle.sketch.specs.Lists.{guardNumber}
 use borrow.Author.Tests.{lt-leb, le-leb}
 use Rattle.big_endian.specs.Laws.{run-starts, run-puts, run-over}
 use mathlib.Core.List.{append-assoc}
@@ -20,12 +20,12 @@ use Rattle.image.proofs.messages.operation_byte.Reads as operation-byte
 
 -- src/messages.rt:79:9
 returns : tie.Need-returns
-unfolding rule
+unfolding guardNumber
 returns c = let t = lt-leb _ _ (c .if1 .taken) in record { number = rw t; buffer = rw t }
 
 -- src/messages.rt:82:9
 returns-2 : tie.Need-returns-2
-unfolding rule
+unfolding guardNumber
 returns-2 c = let t1 = le-leb _ _ (c .before .if1 .left) in let t2 = lt-leb _ _ (c .if2 .taken) in record { number = rw (t1, t2); buffer = rw (t1, t2) }
 
 -- src/messages.rt:85:5
@@ -78,7 +78,7 @@ same-length c = search needs
 
 -- src/messages.rt:75:1
 returns-3 : tie.Need-returns-3
-unfolding rule encode
+unfolding guardNumber encode
 returns-3 c =
     let a = c .before .before .before .before .before .before .before .before .before .before .before .before .before .before .before .before .before .before .before .before .before .before .before .before .before .before .before .before .before .before .before .before .before .before .before .args in
     let h : 30 ≤ length (a .buf .now) = c .before .before .before .before .before .before .before .before .before .before .before .before .before .before .before .before .before .before .before .before .before .before .before .before .before .before .before .before .before .before .before .if2 .left in

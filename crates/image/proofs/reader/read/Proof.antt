@@ -8,7 +8,7 @@ use Rattle.image.proofs.reader.read.Reads as reads
 use Rattle.image.proofs.reader.read.Lts as lts
 use Rattle.image.proofs.faults.image_fault.Reads as image-fault-reads
 use Rattle.image.proofs.reader.refuse.Reads as refuse-reads
-use Rattle.image.proofs.reader.spell.Reads as spell-reads
+use Rattle.image.proofs.reader.decode_sketch.Reads as decode-sketch-reads
 
 -- src/reader.rt:162:9
 image-fault-requires : tie.Need-image-fault-requires
@@ -23,13 +23,13 @@ returns : tie.Need-returns
 returns c = record { told = refused-by (c .before .before .before .before .args .s .now) (c .before .before .image-fault .ensures) (c .before .if1 .taken) (c .refuse .result) (c .refuse .ensures .0); sound = c .refuse .ensures .1 }
 
 -- src/reader.rt:166:9
-spell-requires : tie.Need-spell-requires
-spell-requires c κs = sym (c .before .image-fault .ensures) ∙ c .if1 .left
+decode-sketch-requires : tie.Need-decode-sketch-requires
+decode-sketch-requires c κs = sym (c .before .image-fault .ensures) ∙ c .if1 .left
 
 -- src/reader.rt:159:1
 returns-2 : tie.Need-returns-2
-returns-2 c = record { told = accepted-as (c .before .before .before .before .args .s .now) (c .before .before .image-fault .ensures) (c .before .if1 .left) (record { sketch = c .spell .result; refusal = 0 }) refl (c .spell .ensures .0); sound = c .spell .ensures .1 }
+returns-2 c = record { told = accepted-as (c .before .before .before .before .args .s .now) (c .before .before .image-fault .ensures) (c .before .if1 .left) (record { sketch = c .decode-sketch .result; refusal = 0 }) refl (c .decode-sketch .ensures .0); sound = c .decode-sketch .ensures .1 }
 
 pub read-spec : {M : Type 1} → statement M
 read-spec =
-    tie.close (tie.spec image-fault-requires refuse-requires returns spell-requires returns-2)
+    tie.close (tie.spec image-fault-requires refuse-requires returns decode-sketch-requires returns-2)

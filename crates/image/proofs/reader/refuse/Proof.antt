@@ -1,5 +1,5 @@
 use mathlib.Core.Path.{refl}
-use Rattle.sketch.specs.Lists.{rule}
+use Rattle.sketch.specs.Lists.{guardNumber}
 use native.Mathlib.Omega.{arith}
 use borrow.Author.Needs.{needs}
 use Rattle.image.proofs.reader.refuse.Statement.{statement}
@@ -24,7 +24,7 @@ no-relations-requires c κs = search needs
 
 -- src/reader.rt:220:1
 returns : tie.Need-returns
-unfolding rule
+unfolding guardNumber
 returns c = (refl, refl)
 
 pub refuse-spec : {M : Type 1} → statement M

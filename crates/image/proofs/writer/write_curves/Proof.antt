@@ -1,4 +1,4 @@
-use Rattle.sketch.specs.Lists.{spread}
+use Rattle.sketch.specs.Lists.{concatMap}
 use Rattle.big_endian.specs.Fields.{over}
 use Rattle.image.specs.Encode.{encodeCurve}
 use Rattle.sketch.specs.Valid.{okCurve}
@@ -72,8 +72,8 @@ returns c =
     let a = c .before .before .before .args in
     let l = c .before .loop in
     let e : l .i ≡ a .n = omega arith in (
-      l .inv .2 .written ∙ ap (λ k. over (a .buf .now) (a .from) (spread encodeCurve (take k (a .t3)))) e,
-      ap (λ k. length (spread encodeCurve (take k (a .t3)))) (sym e) ∙ l .inv .2 .so-long ∙ ap (λ k. k * 47) e,
+      l .inv .2 .written ∙ ap (λ k. over (a .buf .now) (a .from) (concatMap encodeCurve (take k (a .t3)))) e,
+      ap (λ k. length (concatMap encodeCurve (take k (a .t3)))) (sym e) ∙ l .inv .2 .so-long ∙ ap (λ k. k * 47) e,
     )
 
 pub write-curves-spec : {M : Type 1} → statement M

@@ -1,4 +1,4 @@
-use Rattle.sketch.specs.Lists.{spread}
+use Rattle.sketch.specs.Lists.{concatMap}
 use Rattle.big_endian.specs.Fields.{over}
 use Rattle.image.proofs.Relations.{length-relation}
 use Rattle.image.specs.Encode.{encodeRelation}
@@ -73,7 +73,7 @@ returns c =
     let a = c .before .before .before .args in
     let l = c .before .loop in
     let e : l .i ≡ a .n = omega arith in
-    l .inv .2 .written ∙ ap (λ k. over (a .buf .now) (a .from) (spread encodeRelation (map (λ t. t .relation) (take k (a .t3))))) e
+    l .inv .2 .written ∙ ap (λ k. over (a .buf .now) (a .from) (concatMap encodeRelation (map (λ t. t .relation) (take k (a .t3))))) e
 
 pub write-relations-spec : {M : Type 1} → statement M
 write-relations-spec =

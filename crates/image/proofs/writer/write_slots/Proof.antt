@@ -1,4 +1,4 @@
-use Rattle.sketch.specs.Lists.{spread}
+use Rattle.sketch.specs.Lists.{concatMap}
 use Rattle.big_endian.specs.Laws.{length-bytes, placed-fits}
 use Rattle.big_endian.specs.Fields.{over, bytes}
 use Prim.Native.Nat.{ℕ}
@@ -75,7 +75,7 @@ same-length c = c .before .loop .inv .2 .same-long
 returns : tie.Need-returns Inv-loop μ-loop
 returns c =
     let l = c .before .loop in
-    l .inv .2 .written ∙ ap (λ k. over (c .before .before .before .args .buf .now) (c .before .before .before .args .at) (spread (bytes 4) k)) (take-all (l .i) (c .before .before .before .args .t3) (omega arith))
+    l .inv .2 .written ∙ ap (λ k. over (c .before .before .before .args .buf .now) (c .before .before .before .args .at) (concatMap (bytes 4) k)) (take-all (l .i) (c .before .before .before .args .t3) (omega arith))
 
 pub write-slots-spec : {M : Type 1} → statement M
 write-slots-spec =

@@ -6,11 +6,11 @@ use Rattle.image.specs.declared.Operation.the-variants.{Trim, Split, Extend}
 use Rattle.sketch.specs.Drawing.{view, pointIds}
 use Rattle.sketch.proofs.Facts.{rising-ascends}
 use Rattle.sketch.proofs.Sketches.{sketch-valid}
-use Rattle.placed.proofs.Laid.{point-columns}
-use Rattle.modify.specs.Edits.{Answered}
-use Rattle.modify.specs.Told.{Begun}
+use Rattle.sketch_geometry.proofs.Filled.{point-columns}
+use Rattle.modify.specs.Edits.{EditAnswer}
+use Rattle.modify.specs.Contracts.{TargetFound}
 use Rattle.modify.proofs.Refusing.{fault-low}
-use Rattle.modify.proofs.Answers.{turned-fault, answered-refused, extend-is, cut-is, begun-found, begun-answered, edit-turned, edit-suited, edit-carried}
+use Rattle.modify.proofs.Answers.{turned-fault, answered-refused, extend-is, cut-is, begun-found, begun-answered, edit-turned, edit-suited, edit-applied}
 use native.Mathlib.Omega.{arith}
 use borrow.Author.Needs.{needs}
 use Rattle.modify.proofs.edits.edit.Statement.{statement}
@@ -28,8 +28,8 @@ returns c =
     let n = c .before .before .fault .ensures in
     answered-refused (a .operation) _ _ _ (λ z. omega (arith, fault-low (a .sk), n)) (c .answer .ensures .0) (c .answer .ensures .1) (c .before .if1 .taken) (turned-fault (a .sk) (a .curve) (a .at) n (c .before .if1 .taken) (a .operation))
 
-picked-requires : tie.Need-picked-requires
-picked-requires c κs =
+find-target-requires : tie.Need-find-target-requires
+find-target-requires c κs =
     let v = sym (c .before .fault .ensures) ∙ c .if1 .left in
     (v, sketch-valid _ v .0)
 
@@ -39,30 +39,30 @@ answer-requires-2 c κs = search needs
 returns-2 : tie.Need-returns-2
 returns-2 c =
     let a = c .before .before .before .before .before .before .args in
-    let w = c .before .before .before .picked .ensures in
+    let w = c .before .before .before .find-target .ensures in
     answered-refused (a .operation) _ _ _ (λ z. omega (arith, w .1)) (c .answer2 .ensures .0) (c .answer2 .ensures .1) (c .before .if2 .taken) (w .0 .turned (c .before .if2 .taken) (a .operation))
 
-slice-aggregate-lay-points : tie.Need-slice-aggregate-lay-points
-slice-aggregate-lay-points c = search needs
+slice-aggregate-fill-point-columns : tie.Need-slice-aggregate-fill-point-columns
+slice-aggregate-fill-point-columns c = search needs
 
-slice-aggregate-lay-points-2 : tie.Need-slice-aggregate-lay-points-2
-slice-aggregate-lay-points-2 c = search needs
+slice-aggregate-fill-point-columns-2 : tie.Need-slice-aggregate-fill-point-columns-2
+slice-aggregate-fill-point-columns-2 c = search needs
 
-slice-aggregate-lay-points-3 : tie.Need-slice-aggregate-lay-points-3
-slice-aggregate-lay-points-3 c = search needs
+slice-aggregate-fill-point-columns-3 : tie.Need-slice-aggregate-fill-point-columns-3
+slice-aggregate-fill-point-columns-3 c = search needs
 
-slice-aggregate-lay-points-4 : tie.Need-slice-aggregate-lay-points-4
-slice-aggregate-lay-points-4 c = search needs
+slice-aggregate-fill-point-columns-4 : tie.Need-slice-aggregate-fill-point-columns-4
+slice-aggregate-fill-point-columns-4 c = search needs
 
-lay-points-requires : tie.Need-lay-points-requires
-lay-points-requires c κs = search needs
+fill-point-columns-requires : tie.Need-fill-point-columns-requires
+fill-point-columns-requires c κs = search needs
 
 is-extend-requires : tie.Need-is-extend-requires
 is-extend-requires c κs = search needs
 
 -- what is known once the columns are laid
-started : (c : tie.After-ys2) → Begun (c .before .before .before .before .before .before .before .before .before .before .before .before .before .before .before .args .sk) (c .before .before .before .before .before .before .before .before .before .before .before .before .before .before .before .args .curve) (c .before .before .before .before .before .before .before .before .before .before .before .before .before .before .before .args .at) (c .before .before .before .before .before .before .before .before .before .before .before .before .picked .result)
-started c = c .before .before .before .before .before .before .before .before .before .before .before .before .picked .ensures .0 .passed (c .before .before .before .before .before .before .before .before .before .before .if2 .left)
+started : (c : tie.After-ys2) → TargetFound (c .before .before .before .before .before .before .before .before .before .before .before .before .before .before .before .args .sk) (c .before .before .before .before .before .before .before .before .before .before .before .before .before .before .before .args .curve) (c .before .before .before .before .before .before .before .before .before .before .before .before .before .before .before .args .at) (c .before .before .before .before .before .before .before .before .before .before .before .before .find-target .result)
+started c = c .before .before .before .before .before .before .before .before .before .before .before .before .find-target .ensures .0 .passed (c .before .before .before .before .before .before .before .before .before .before .if2 .left)
 
 few : (c : tie.After-ys2) → c .before .before .before .before .before .before .before .before .before .before .before .before .before .before .before .args .sk .npoints ≤ 512
 few c = sketch-valid (c .before .before .before .before .before .before .before .before .before .before .before .before .before .before .before .args .sk) (started c .valid) .0 .points
@@ -71,62 +71,62 @@ array-share-prefix-ids : tie.Need-array-share-prefix-ids
 array-share-prefix-ids c =
     let l = c .before .before in
     let z = few l in
-    let y = l .before .before .before .before .lay-points .ensures (omega arith) (omega arith) (omega arith) (omega arith) in
+    let y = l .before .before .before .before .fill-point-columns .ensures (omega arith) (omega arith) (omega arith) (omega arith) in
     omega (arith, y .ids-long)
 
-slice-aggregate-extended : tie.Need-slice-aggregate-extended
-slice-aggregate-extended c =
+slice-aggregate-extend-curve : tie.Need-slice-aggregate-extend-curve
+slice-aggregate-extend-curve c =
     let l = c .before .before .before in
     let z = few l in
-    let y = l .before .before .before .before .lay-points .ensures (omega arith) (omega arith) (omega arith) (omega arith) in
+    let y = l .before .before .before .before .fill-point-columns .ensures (omega arith) (omega arith) (omega arith) (omega arith) in
     rw length-take (omega (arith, y .ids-long))
 
-slice-aggregate-extended-2 : tie.Need-slice-aggregate-extended-2
-slice-aggregate-extended-2 c = search needs
+slice-aggregate-extend-curve-2 : tie.Need-slice-aggregate-extend-curve-2
+slice-aggregate-extend-curve-2 c = search needs
 
 array-borrow-prefix-xs : tie.Need-array-borrow-prefix-xs
 array-borrow-prefix-xs c =
     let l = c .before .before .before .before in
     let z = few l in
-    let y = l .before .before .before .before .lay-points .ensures (omega arith) (omega arith) (omega arith) (omega arith) in
+    let y = l .before .before .before .before .fill-point-columns .ensures (omega arith) (omega arith) (omega arith) (omega arith) in
     omega (arith, y .xs-long)
 
-slice-aggregate-extended-3 : tie.Need-slice-aggregate-extended-3
-slice-aggregate-extended-3 c =
+slice-aggregate-extend-curve-3 : tie.Need-slice-aggregate-extend-curve-3
+slice-aggregate-extend-curve-3 c =
     let l = c .before .before .before .before .before in
     let z = few l in
-    let y = l .before .before .before .before .lay-points .ensures (omega arith) (omega arith) (omega arith) (omega arith) in
+    let y = l .before .before .before .before .fill-point-columns .ensures (omega arith) (omega arith) (omega arith) (omega arith) in
     rw length-take (omega (arith, y .xs-long))
 
 array-borrow-prefix-ys : tie.Need-array-borrow-prefix-ys
 array-borrow-prefix-ys c =
     let l = c .before .before .before .before .before in
     let z = few l in
-    let y = l .before .before .before .before .lay-points .ensures (omega arith) (omega arith) (omega arith) (omega arith) in
+    let y = l .before .before .before .before .fill-point-columns .ensures (omega arith) (omega arith) (omega arith) (omega arith) in
     omega (arith, y .ys-long)
 
-slice-aggregate-extended-4 : tie.Need-slice-aggregate-extended-4
-slice-aggregate-extended-4 c =
+slice-aggregate-extend-curve-4 : tie.Need-slice-aggregate-extend-curve-4
+slice-aggregate-extend-curve-4 c =
     let l = c .before .before .before .before .before .before in
     let z = few l in
-    let y = l .before .before .before .before .lay-points .ensures (omega arith) (omega arith) (omega arith) (omega arith) in
+    let y = l .before .before .before .before .fill-point-columns .ensures (omega arith) (omega arith) (omega arith) (omega arith) in
     rw length-take (omega (arith, y .ys-long))
 
-extended-requires : tie.Need-extended-requires
-extended-requires c κs =
+extend-curve-requires : tie.Need-extend-curve-requires
+extend-curve-requires c κs =
     let l = c .before .before .before .before .before .before in
     let b = started l in
     let w = sketch-valid (l .before .before .before .before .before .before .before .before .before .before .before .before .before .before .before .args .sk) (b .valid) in
     let k = l .before .before .before .before .before .before .before .before .before .before .before .before .before .before .before .args .sk in
     let z = w .0 .points in
-    let y = l .before .before .before .before .lay-points .ensures (omega arith) (omega arith) (omega arith) (omega arith) in
+    let y = l .before .before .before .before .fill-point-columns .ensures (omega arith) (omega arith) (omega arith) (omega arith) in
     let columns = point-columns y (omega arith) (omega arith) (omega arith) (rising-ascends (k .next) 0 (pointIds (view k .points)) (w .1 .points-rise)) in
     (b .valid, w .0, w .1, b .place, b .picked, columns)
 
 returns-3 : tie.Need-returns-3
 returns-3 c =
     let a = c .before .before .before .before .before .before .before .before .before .before .before .before .before .before .before .before .before .before .before .before .before .before .before .before .args in
-    subst (λ op. Answered op (a .sk) (a .curve) (a .at) (c .before .before .extended .result)) (sym (extend-is (a .operation) (sym (c .before .before .before .before .before .before .before .before .is-extend .ensures) ∙ c .before .before .before .before .before .before .before .if3 .taken))) (begun-answered (started (c .before .before .before .before .before .before .before .before .before)) Extend (c .before .before .extended .ensures))
+    subst (λ op. EditAnswer op (a .sk) (a .curve) (a .at) (c .before .before .extend-curve .result)) (sym (extend-is (a .operation) (sym (c .before .before .before .before .before .before .before .before .is-extend .ensures) ∙ c .before .before .before .before .before .before .before .if3 .taken))) (begun-answered (started (c .before .before .before .before .before .before .before .before .before)) Extend (c .before .before .extend-curve .ensures))
 
 is-split-requires : tie.Need-is-split-requires
 is-split-requires c κs = search needs
@@ -135,55 +135,55 @@ array-share-prefix-ids-2 : tie.Need-array-share-prefix-ids-2
 array-share-prefix-ids-2 c =
     let l = c .before .before .before in
     let z = few l in
-    let y = l .before .before .before .before .lay-points .ensures (omega arith) (omega arith) (omega arith) (omega arith) in
+    let y = l .before .before .before .before .fill-point-columns .ensures (omega arith) (omega arith) (omega arith) (omega arith) in
     omega (arith, y .ids-long)
 
-slice-aggregate-choose : tie.Need-slice-aggregate-choose
-slice-aggregate-choose c =
+slice-aggregate-plan-edit : tie.Need-slice-aggregate-plan-edit
+slice-aggregate-plan-edit c =
     let l = c .before .before .before .before in
     let z = few l in
-    let y = l .before .before .before .before .lay-points .ensures (omega arith) (omega arith) (omega arith) (omega arith) in
+    let y = l .before .before .before .before .fill-point-columns .ensures (omega arith) (omega arith) (omega arith) (omega arith) in
     rw length-take (omega (arith, y .ids-long))
 
-slice-aggregate-choose-2 : tie.Need-slice-aggregate-choose-2
-slice-aggregate-choose-2 c = search needs
+slice-aggregate-plan-edit-2 : tie.Need-slice-aggregate-plan-edit-2
+slice-aggregate-plan-edit-2 c = search needs
 
 array-share-prefix-xs : tie.Need-array-share-prefix-xs
 array-share-prefix-xs c =
     let l = c .before .before .before .before .before in
     let z = few l in
-    let y = l .before .before .before .before .lay-points .ensures (omega arith) (omega arith) (omega arith) (omega arith) in
+    let y = l .before .before .before .before .fill-point-columns .ensures (omega arith) (omega arith) (omega arith) (omega arith) in
     omega (arith, y .xs-long)
 
-slice-aggregate-choose-3 : tie.Need-slice-aggregate-choose-3
-slice-aggregate-choose-3 c =
+slice-aggregate-plan-edit-3 : tie.Need-slice-aggregate-plan-edit-3
+slice-aggregate-plan-edit-3 c =
     let l = c .before .before .before .before .before .before in
     let z = few l in
-    let y = l .before .before .before .before .lay-points .ensures (omega arith) (omega arith) (omega arith) (omega arith) in
+    let y = l .before .before .before .before .fill-point-columns .ensures (omega arith) (omega arith) (omega arith) (omega arith) in
     rw length-take (omega (arith, y .xs-long))
 
 array-share-prefix-ys : tie.Need-array-share-prefix-ys
 array-share-prefix-ys c =
     let l = c .before .before .before .before .before .before in
     let z = few l in
-    let y = l .before .before .before .before .lay-points .ensures (omega arith) (omega arith) (omega arith) (omega arith) in
+    let y = l .before .before .before .before .fill-point-columns .ensures (omega arith) (omega arith) (omega arith) (omega arith) in
     omega (arith, y .ys-long)
 
-slice-aggregate-choose-4 : tie.Need-slice-aggregate-choose-4
-slice-aggregate-choose-4 c =
+slice-aggregate-plan-edit-4 : tie.Need-slice-aggregate-plan-edit-4
+slice-aggregate-plan-edit-4 c =
     let l = c .before .before .before .before .before .before .before in
     let z = few l in
-    let y = l .before .before .before .before .lay-points .ensures (omega arith) (omega arith) (omega arith) (omega arith) in
+    let y = l .before .before .before .before .fill-point-columns .ensures (omega arith) (omega arith) (omega arith) (omega arith) in
     rw length-take (omega (arith, y .ys-long))
 
-choose-requires : tie.Need-choose-requires
-choose-requires c κs =
+plan-edit-requires : tie.Need-plan-edit-requires
+plan-edit-requires c κs =
     let l = c .before .before .before .before .before .before .before in
     let b = started l in
     let w = sketch-valid (l .before .before .before .before .before .before .before .before .before .before .before .before .before .before .before .args .sk) (b .valid) in
     let k = l .before .before .before .before .before .before .before .before .before .before .before .before .before .before .before .args .sk in
     let z = w .0 .points in
-    let y = l .before .before .before .before .lay-points .ensures (omega arith) (omega arith) (omega arith) (omega arith) in
+    let y = l .before .before .before .before .fill-point-columns .ensures (omega arith) (omega arith) (omega arith) (omega arith) in
     let columns = point-columns y (omega arith) (omega arith) (omega arith) (rising-ascends (k .next) 0 (pointIds (view k .points)) (w .1 .points-rise)) in
     (w .0, w .1, b .place, columns)
 
@@ -196,32 +196,32 @@ answer-requires-3 c κs = search needs
 enum-known-plan : tie.Need-enum-known-plan
 enum-known-plan c = search needs
 
-carry-out-requires : tie.Need-carry-out-requires
-carry-out-requires c κs = search needs
+apply-plan-requires : tie.Need-apply-plan-requires
+apply-plan-requires c κs = search needs
 
 returns-4 : tie.Need-returns-4
 returns-4 c =
     let a = c .before .before .before .before .before .before .before .before .before .before .before .before .before .before .before .before .before .before .before .before .before .before .before .before .before .before .before .args in
     let b = started (c .before .before .before .before .before .before .before .before .before .before .before .before) in
-    let k = c .before .before .before .before .before .before .before .before .before .before .before .before .before .before .before .before .before .before .before .before .before .before .before .before .picked .result .place in
+    let k = c .before .before .before .before .before .before .before .before .before .before .before .before .before .before .before .before .before .before .before .before .before .before .before .before .find-target .result .place in
     let it = c .before .before .before .before .before .before .before .before .before .is-split .result in
     let op = ap (λ x. cond x Split Trim) (c .before .before .before .before .before .before .before .before .before .is-split .ensures) ∙ cut-is (a .operation) (sym (c .before .before .before .before .before .before .before .before .before .before .before .is-extend .ensures) ∙ c .before .before .before .before .before .before .before .before .before .before .if3 .left) in
-    let chosen = c .before .before .before .before .choose .ensures in
-    subst (λ op. Answered op (a .sk) (a .curve) (a .at) (c .answer3 .result)) op
+    let chosen = c .before .before .before .before .plan-edit .ensures in
+    subst (λ op. EditAnswer op (a .sk) (a .curve) (a .at) (c .answer3 .result)) op
     (begun-answered b (cond it Split Trim) (edit-turned it (a .sk) k (a .at) (b .valid) (b .place) (b .picked) (begun-found b) chosen (c .before .before .number .given .1) (c .answer3 .ensures .0) (c .answer3 .ensures .1)))
 
 returns-5 : tie.Need-returns-5
 returns-5 c =
     let a = c .before .before .before .before .before .before .before .before .before .before .before .before .before .before .before .before .before .before .before .before .before .before .before .before .before .before .before .args in
     let b = started (c .before .before .before .before .before .before .before .before .before .before .before .before) in
-    let k = c .before .before .before .before .before .before .before .before .before .before .before .before .before .before .before .before .before .before .before .before .before .before .before .before .picked .result .place in
+    let k = c .before .before .before .before .before .before .before .before .before .before .before .before .before .before .before .before .before .before .before .before .before .before .before .before .find-target .result .place in
     let it = c .before .before .before .before .before .before .before .before .before .is-split .result in
     let op = ap (λ x. cond x Split Trim) (c .before .before .before .before .before .before .before .before .before .is-split .ensures) ∙ cut-is (a .operation) (sym (c .before .before .before .before .before .before .before .before .before .before .before .is-extend .ensures) ∙ c .before .before .before .before .before .before .before .before .before .before .if3 .left) in
-    let chosen = c .before .before .before .before .choose .ensures in
+    let chosen = c .before .before .before .before .plan-edit .ensures in
     let plan = c .before .before .plan .given .1 in
     let suited = edit-suited it (a .sk) k (a .at) (b .valid) (b .place) (b .picked) (begun-found b) chosen plan in
-    subst (λ op. Answered op (a .sk) (a .curve) (a .at) (c .carry-out .result)) op
-    (begun-answered b (cond it Split Trim) (edit-carried it (a .sk) k (a .at) (b .valid) (b .place) (b .picked) (begun-found b) chosen plan (c .carry-out .ensures (b .valid) (b .place) suited)))
+    subst (λ op. EditAnswer op (a .sk) (a .curve) (a .at) (c .apply-plan .result)) op
+    (begun-answered b (cond it Split Trim) (edit-applied it (a .sk) k (a .at) (b .valid) (b .place) (b .picked) (begun-found b) chosen plan (c .apply-plan .ensures (b .valid) (b .place) suited)))
 
 pub edit-spec : {M : Type 1} → statement M
 edit-spec =
@@ -230,36 +230,36 @@ edit-spec =
     fault-requires
     answer-requires
     returns
-    picked-requires
+    find-target-requires
     answer-requires-2
     returns-2
-    slice-aggregate-lay-points
-    slice-aggregate-lay-points-2
-    slice-aggregate-lay-points-3
-    slice-aggregate-lay-points-4
-    lay-points-requires
+    slice-aggregate-fill-point-columns
+    slice-aggregate-fill-point-columns-2
+    slice-aggregate-fill-point-columns-3
+    slice-aggregate-fill-point-columns-4
+    fill-point-columns-requires
     is-extend-requires
     array-share-prefix-ids
-    slice-aggregate-extended
-    slice-aggregate-extended-2
+    slice-aggregate-extend-curve
+    slice-aggregate-extend-curve-2
     array-borrow-prefix-xs
-    slice-aggregate-extended-3
+    slice-aggregate-extend-curve-3
     array-borrow-prefix-ys
-    slice-aggregate-extended-4
-    extended-requires
+    slice-aggregate-extend-curve-4
+    extend-curve-requires
     returns-3
     is-split-requires
     array-share-prefix-ids-2
-    slice-aggregate-choose
-    slice-aggregate-choose-2
+    slice-aggregate-plan-edit
+    slice-aggregate-plan-edit-2
     array-share-prefix-xs
-    slice-aggregate-choose-3
+    slice-aggregate-plan-edit-3
     array-share-prefix-ys
-    slice-aggregate-choose-4
-    choose-requires
+    slice-aggregate-plan-edit-4
+    plan-edit-requires
     enum-known-number
     answer-requires-3
     enum-known-plan
-    carry-out-requires
+    apply-plan-requires
     returns-4
     returns-5)

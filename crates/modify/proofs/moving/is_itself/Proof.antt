@@ -1,6 +1,6 @@
 use mathlib.Core.Path.{sym, ap}
 use borrow.Author.Needs.{needs}
-use Rattle.modify.specs.Seek.{itself}
+use Rattle.modify.specs.ExtendContracts.{itself}
 use Rattle.modify.proofs.moving.is_itself.Statement.{statement}
 use Rattle.modify.proofs.moving.is_itself.Tie as tie
 

@@ -8,10 +8,10 @@ use Rattle.sketch.specs.declared.Relation.{Relation}
 use Rattle.sketch.specs.Blanks.{noPoint}
 use Rattle.sketch.specs.Drawing.{view}
 use Rattle.sketch.proofs.Bools.{joined}
-use Rattle.carry.specs.Once.{pinned}
-use Rattle.carry.specs.Tables.{movePoint}
-use Rattle.carry.proofs.Loops.{length-mapped}
-use Rattle.modify.specs.Seek.{AddedTo}
+use Rattle.edit_plan.specs.Changes.{pinned}
+use Rattle.edit_plan.specs.Tables.{movePoint}
+use Rattle.edit_plan.proofs.Loops.{length-mapped}
+use Rattle.modify.specs.ExtendContracts.{AddedTo}
 use Rattle.modify.proofs.Shifts.{shifted-is, full-is, added-is, moved-out, moved-held, moved-itself}
 use Rattle.modify.proofs.moving.move_end.Statement.{statement}
 use Rattle.modify.proofs.moving.move_end.Tie as tie

@@ -1,12 +1,12 @@
 use mathlib.Core.Path.{_≡_, refl, sym, ap, _∙_}
-use Rattle.modify.proofs.Choices.{ends-line, ends-arc, ends-none, pin-found, pin-nowhere, pin-bare}
+use Rattle.modify.proofs.TrimSplitPlans.{ends-line, ends-arc, ends-none, pin-found, pin-nowhere, pin-bare}
 use native.Mathlib.Omega.{arith}
 use borrow.Author.Needs.{needs}
 use Rattle.modify.proofs.pins.pin_at.Statement.{statement}
 use Rattle.modify.proofs.pins.pin_at.Tie as tie
 use Rattle.modify.proofs.pins.pin_at.Reads as reads
 use Rattle.modify.proofs.pins.pin_at.Lts as lts
-use Rattle.modify.proofs.gathering.curve_place.Reads as curve-place-reads
+use Rattle.modify.proofs.cutter_list.curve_place.Reads as curve-place-reads
 use Rattle.modify.proofs.pins.pin_to.Reads as pin-to-reads
 
 -- src/pins.rt:48:9

@@ -1,4 +1,4 @@
-use Rattle.modify.proofs.Choices.{near-end, pin-first, pin-second, pin-curve}
+use Rattle.modify.proofs.TrimSplitPlans.{near-end, pin-first, pin-second, pin-curve}
 use mathlib.Core.Path.{_≡_, refl, sym, ap, _∙_}
 use native.Mathlib.Omega.{arith}
 use borrow.Author.Needs.{needs}
@@ -7,7 +7,7 @@ use Rattle.modify.proofs.pins.pin_to.Tie as tie
 use Rattle.modify.proofs.pins.pin_to.Reads as reads
 use Rattle.modify.proofs.pins.pin_to.Lts as lts
 use Rattle.geom.proofs.Vec2.dist2.Reads as dist2-reads
-use Rattle.placed.proofs.point_at.Reads as point-at-reads
+use Rattle.sketch_geometry.proofs.point_at.Reads as point-at-reads
 
 -- src/pins.rt:26:8
 point-at-requires : tie.Need-point-at-requires

@@ -1,4 +1,4 @@
-use Rattle.probe.proofs.ToldRoots.{told-found, told-refused}
+use Rattle.probe.proofs.RootsAnswer.{told-found, told-refused}
 use borrow.Author.Needs.{needs}
 use Rattle.probe.proofs.polynomials.mulkefi_roots.Statement.{statement}
 use Rattle.probe.proofs.polynomials.mulkefi_roots.Tie as tie

@@ -3,11 +3,11 @@ use borrow.Author.Needs.{needs}
 use Rattle.probe.proofs.shapes.mulkefi_crossings.Statement.{statement}
 use Rattle.probe.proofs.shapes.mulkefi_crossings.Tie as tie
 
-shape-of-requires : tie.Need-shape-of-requires
-shape-of-requires c κs = search needs
+shape-from-numbers-requires : tie.Need-shape-from-numbers-requires
+shape-from-numbers-requires c κs = search needs
 
-shape-of-requires-2 : tie.Need-shape-of-requires-2
-shape-of-requires-2 c κs = search needs
+shape-from-numbers-requires-2 : tie.Need-shape-from-numbers-requires-2
+shape-from-numbers-requires-2 c κs = search needs
 
 intersections-requires : tie.Need-intersections-requires
 intersections-requires c κs = search needs
@@ -52,8 +52,8 @@ pub mulkefi-crossings-spec : {M : Type 1} → statement M
 mulkefi-crossings-spec =
     tie.close
     (tie.spec
-    shape-of-requires
-    shape-of-requires-2
+    shape-from-numbers-requires
+    shape-from-numbers-requires-2
     intersections-requires
     enum-told
     enum-known-p

@@ -2,8 +2,8 @@ use borrow.Author.Needs.{needs}
 use Rattle.probe.proofs.shapes.mulkefi_dist.Statement.{statement}
 use Rattle.probe.proofs.shapes.mulkefi_dist.Tie as tie
 
-shape-of-requires : tie.Need-shape-of-requires
-shape-of-requires c κs = search needs
+shape-from-numbers-requires : tie.Need-shape-from-numbers-requires
+shape-from-numbers-requires c κs = search needs
 
 new-requires : tie.Need-new-requires
 new-requires c κs = search needs
@@ -12,7 +12,7 @@ dist-requires : tie.Need-dist-requires
 dist-requires c κs = search needs
 
 returns : tie.Need-returns
-returns c = simp (c .dist .ensures, c .before .new .ensures, c .before .before .shape-of .ensures)
+returns c = simp (c .dist .ensures, c .before .new .ensures, c .before .before .shape-from-numbers .ensures)
 
 pub mulkefi-dist-spec : {M : Type 1} → statement M
-mulkefi-dist-spec = tie.close (tie.spec shape-of-requires new-requires dist-requires returns)
+mulkefi-dist-spec = tie.close (tie.spec shape-from-numbers-requires new-requires dist-requires returns)

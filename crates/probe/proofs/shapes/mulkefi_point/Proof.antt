@@ -2,8 +2,8 @@ use borrow.Author.Needs.{needs}
 use Rattle.probe.proofs.shapes.mulkefi_point.Statement.{statement}
 use Rattle.probe.proofs.shapes.mulkefi_point.Tie as tie
 
-shape-of-requires : tie.Need-shape-of-requires
-shape-of-requires c κs = search needs
+shape-from-numbers-requires : tie.Need-shape-from-numbers-requires
+shape-from-numbers-requires c κs = search needs
 
 point-requires : tie.Need-point-requires
 point-requires c κs = search needs
@@ -15,9 +15,9 @@ element-write-out-2 : tie.Need-element-write-out-2
 element-write-out-2 c = search needs
 
 returns : tie.Need-returns
-returns c = simp (c .point .ensures, c .before .shape-of .ensures)
+returns c = simp (c .point .ensures, c .before .shape-from-numbers .ensures)
 
 pub mulkefi-point-spec : {M : Type 1} → statement M
 mulkefi-point-spec =
     tie.close
-    (tie.spec shape-of-requires point-requires element-write-out element-write-out-2 returns)
+    (tie.spec shape-from-numbers-requires point-requires element-write-out element-write-out-2 returns)

@@ -8,7 +8,7 @@ use Rattle.probe.specs.Probe.{altered}
 use Rattle.probe.specs.Relations.{numbered, unread, tested, RelationsTested}
 use Rattle.relations.proofs.Verdicts.{place-below}
 use Rattle.relations.specs.declared.Verdict.{Verdict}
-use Rattle.relations.specs.Answer.{Told}
+use Rattle.relations.specs.Answer.{UnmetAnswer}
 use Rattle.probe.proofs.verdicts.mulkefi_relations_test.Statement.{statement}
 use Rattle.probe.proofs.verdicts.mulkefi_relations_test.Tie as tie
 
@@ -27,11 +27,11 @@ judged u v e f =
     let r = u .before .before .before .before .read in
     let z = u .before .before .if1 .left in
     let s = start u .args .bytes .now in
-    tested (r .result .sketch) v (sym (read-number (r .result) s (r .ensures .told)) ∙ z) (read-drawing (r .result) s (r .ensures .told) z) (subst (Told (held u)) e (u .unmet .ensures)) f
+    tested (r .result .sketch) v (sym (read-number (r .result) s (r .ensures .told)) ∙ z) (read-drawing (r .result) s (r .ensures .told) z) (subst (UnmetAnswer (held u)) e (u .unmet .ensures)) f
 
 -- a place is small
 below : (c : tie.After-place) → c .place .given .0 .0 < 256
-below c = let u = c .before .before in place-below (held u) _ (subst (Told (held u)) (c .place .given .1) (u .unmet .ensures))
+below c = let u = c .before .before in place-below (held u) _ (subst (UnmetAnswer (held u)) (c .place .given .1) (u .unmet .ensures))
 
 read-requires : tie.Need-read-requires
 read-requires c κs = search needs

@@ -1,7 +1,7 @@
 -- `relations::parts_of` meets its contract.
 use mathlib.Core.Path.{sym, ap}
 use borrow.Author.Needs.{needs}
-use Rattle.relations.proofs.Laid.{freeform-parts}
+use Rattle.relations.proofs.Filled.{freeform-parts}
 use Rattle.relations.specs.Filled.{partsOf}
 use Rattle.relations.proofs.columns.parts_of.Statement.{statement}
 use Rattle.relations.proofs.columns.parts_of.Tie as tie

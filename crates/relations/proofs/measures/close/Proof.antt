@@ -1,6 +1,6 @@
 -- `relations::close` meets its contract.
 use borrow.Author.Needs.{needs}
-use Rattle.relations.proofs.Pieces.{close-by-square}
+use Rattle.relations.proofs.CurveMeasures.{close-by-square}
 use Rattle.relations.proofs.measures.close.Statement.{statement}
 use Rattle.relations.proofs.measures.close.Tie as tie
 

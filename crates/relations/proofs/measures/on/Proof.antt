@@ -1,6 +1,6 @@
 -- `relations::on` meets its contract.
 use borrow.Author.Needs.{needs}
-use Rattle.relations.proofs.Pieces.{on-by-square, whole-line, whole-arc, whole-circle, whole-none}
+use Rattle.relations.proofs.CurveMeasures.{on-by-square, whole-line, whole-arc, whole-circle, whole-none}
 use Rattle.relations.specs.Met.{on}
 use Rattle.relations.proofs.measures.on.Statement.{statement}
 use Rattle.relations.proofs.measures.on.Tie as tie

@@ -1,6 +1,6 @@
 -- `relations::on_circle` meets its contract.
 use borrow.Author.Needs.{needs}
-use Rattle.relations.proofs.Pieces.{on-by-square}
+use Rattle.relations.proofs.CurveMeasures.{on-by-square}
 use Rattle.relations.proofs.measures.on_circle.Statement.{statement}
 use Rattle.relations.proofs.measures.on_circle.Tie as tie
 

@@ -10,20 +10,20 @@ place-near-requires c κs = search needs
 place-at-requires : tie.Need-place-at-requires
 place-at-requires c κs = search needs
 
-cast-spot-at : tie.Need-cast-spot-at
-cast-spot-at c = search needs
+cast-position-at : tie.Need-cast-position-at
+cast-position-at c = search needs
 
-spot-at-requires : tie.Need-spot-at-requires
-spot-at-requires c κs = search needs
+position-at-requires : tie.Need-position-at-requires
+position-at-requires c κs = search needs
 
 place-at-requires-2 : tie.Need-place-at-requires-2
 place-at-requires-2 c κs = search needs
 
-cast-spot-at-2 : tie.Need-cast-spot-at-2
-cast-spot-at-2 c = search needs
+cast-position-at-2 : tie.Need-cast-position-at-2
+cast-position-at-2 c = search needs
 
-spot-at-requires-2 : tie.Need-spot-at-requires-2
-spot-at-requires-2 c κs = search needs
+position-at-requires-2 : tie.Need-position-at-requires-2
+position-at-requires-2 c κs = search needs
 
 number-at-requires : tie.Need-number-at-requires
 number-at-requires c κs = search needs
@@ -37,7 +37,7 @@ returns c =
     let b = d .before .before in
     λ points ps cs p w.
     piece-found p w _ _ _ (b .before .before .place-near .ensures) (b .before .place-at .ensures) (d .before .place-at2 .ensures)
-    (b .spot-at .ensures) (d .spot-at2 .ensures) (c .before .number-at .ensures) (c .kind-at .ensures)
+    (b .position-at .ensures) (d .position-at2 .ensures) (c .before .number-at .ensures) (c .kind-at .ensures)
 
 pub piece-at-spec : {M : Type 1} → statement M
 piece-at-spec =
@@ -45,11 +45,11 @@ piece-at-spec =
     (tie.spec
     place-near-requires
     place-at-requires
-    cast-spot-at
-    spot-at-requires
+    cast-position-at
+    position-at-requires
     place-at-requires-2
-    cast-spot-at-2
-    spot-at-requires-2
+    cast-position-at-2
+    position-at-requires-2
     number-at-requires
     kind-at-requires
     returns)

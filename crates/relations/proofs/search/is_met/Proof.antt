@@ -39,8 +39,8 @@ piece-at-requires-2 c κs = search needs
 piece-at-requires-3 : tie.Need-piece-at-requires-3
 piece-at-requires-3 c κs = search needs
 
-along-requires : tie.Need-along-requires
-along-requires c κs = search needs
+is-collinear-requires : tie.Need-is-collinear-requires
+is-collinear-requires c κs = search needs
 
 enum-known-relation-4 : tie.Need-enum-known-relation-4
 enum-known-relation-4 c = search needs
@@ -51,11 +51,11 @@ piece-at-requires-4 c κs = search needs
 piece-at-requires-5 : tie.Need-piece-at-requires-5
 piece-at-requires-5 c κs = search needs
 
-extent-requires : tie.Need-extent-requires
-extent-requires c κs = search needs
+length-or-radius-requires : tie.Need-length-or-radius-requires
+length-or-radius-requires c κs = search needs
 
-extent-requires-2 : tie.Need-extent-requires-2
-extent-requires-2 c κs = search needs
+length-or-radius-requires-2 : tie.Need-length-or-radius-requires-2
+length-or-radius-requires-2 c κs = search needs
 
 same-requires : tie.Need-same-requires
 same-requires c κs = search needs
@@ -66,8 +66,8 @@ enum-known-relation-5 c = search needs
 piece-at-requires-6 : tie.Need-piece-at-requires-6
 piece-at-requires-6 c κs = search needs
 
-extent-requires-3 : tie.Need-extent-requires-3
-extent-requires-3 c κs = search needs
+length-or-radius-requires-3 : tie.Need-length-or-radius-requires-3
+length-or-radius-requires-3 c κs = search needs
 
 same-requires-2 : tie.Need-same-requires-2
 same-requires-2 c κs = search needs
@@ -96,8 +96,8 @@ point-at-requires-6 c κs = search needs
 piece-at-requires-7 : tie.Need-piece-at-requires-7
 piece-at-requires-7 c κs = search needs
 
-halves-requires : tie.Need-halves-requires
-halves-requires c κs = search needs
+is-midpoint-requires : tie.Need-is-midpoint-requires
+is-midpoint-requires c κs = search needs
 
 enum-told : tie.Need-enum-told
 enum-told c = search needs
@@ -118,18 +118,18 @@ returns-2 c =
 returns-3 : tie.Need-returns-3
 returns-3 c =
     let d = c .before .before in
-    λ ps cs p w. c .along .ensures ∙ met-collinear ps cs _ _ _ (d .before .before .relation3 .given .1) (d .piece-at2 .ensures _ ps cs p w) (c .before .piece-at3 .ensures _ ps cs p w)
+    λ ps cs p w. c .is-collinear .ensures ∙ met-collinear ps cs _ _ _ (d .before .before .relation3 .given .1) (d .piece-at2 .ensures _ ps cs p w) (c .before .piece-at3 .ensures _ ps cs p w)
 
 returns-4 : tie.Need-returns-4
 returns-4 c =
     let d = c .before .before .before .before in
-    λ ps cs p w. c .same .ensures ∙ rw (c .before .extent2 .ensures, c .before .before .extent .ensures)
+    λ ps cs p w. c .same .ensures ∙ rw (c .before .length-or-radius2 .ensures, c .before .before .length-or-radius .ensures)
     (met-equal ps cs _ _ _ (d .before .before .relation4 .given .1) (d .piece-at4 .ensures _ ps cs p w) (c .before .before .before .piece-at5 .ensures _ ps cs p w))
 
 returns-5 : tie.Need-returns-5
 returns-5 c =
     let d = c .before .before in
-    λ ps cs p w. c .same2 .ensures ∙ rw (c .before .extent3 .ensures) (met-length ps cs _ _ (d .before .before .relation5 .given .1) (d .piece-at6 .ensures _ ps cs p w))
+    λ ps cs p w. c .same2 .ensures ∙ rw (c .before .length-or-radius3 .ensures) (met-length ps cs _ _ (d .before .before .relation5 .given .1) (d .piece-at6 .ensures _ ps cs p w))
 
 returns-6 : tie.Need-returns-6
 returns-6 c =
@@ -140,7 +140,7 @@ returns-6 c =
 returns-7 : tie.Need-returns-7
 returns-7 c =
     let d = c .before .before in
-    λ ps cs p w. c .halves .ensures ∙ met-midpoint ps cs _ _ (d .before .before .relation7 .given .1) (d .point-at6 .ensures ps p) (c .before .piece-at7 .ensures _ ps cs p w)
+    λ ps cs p w. c .is-midpoint .ensures ∙ met-midpoint ps cs _ _ (d .before .before .relation7 .given .1) (d .point-at6 .ensures ps p) (c .before .piece-at7 .ensures _ ps cs p w)
 
 returns-8 : tie.Need-returns-8
 returns-8 c = λ ps cs p w. met-arc-length ps cs _ (c .enum-told .given .1)
@@ -163,16 +163,16 @@ is-met-spec =
     enum-known-relation-3
     piece-at-requires-2
     piece-at-requires-3
-    along-requires
+    is-collinear-requires
     enum-known-relation-4
     piece-at-requires-4
     piece-at-requires-5
-    extent-requires
-    extent-requires-2
+    length-or-radius-requires
+    length-or-radius-requires-2
     same-requires
     enum-known-relation-5
     piece-at-requires-6
-    extent-requires-3
+    length-or-radius-requires-3
     same-requires-2
     enum-known-relation-6
     point-at-requires-4
@@ -182,7 +182,7 @@ is-met-spec =
     enum-known-relation-7
     point-at-requires-6
     piece-at-requires-7
-    halves-requires
+    is-midpoint-requires
     enum-told
     enum-told-2
     returns

@@ -8,7 +8,7 @@ use borrow.Author.Needs.{needs}
 use borrow.Author.Tests.{not-true, not-false}
 use Rattle.sketch.specs.Valid.{okCurve}
 use Rattle.sketch.specs.Blanks.{noCurve}
-use Rattle.sketch.proofs.Told.{CurvesWalk, curves-start, curves-four, curves-five, curves-on, curves-end}
+use Rattle.sketch.proofs.Checked.{CurvesWalk, curves-start, curves-four, curves-five, curves-on, curves-end}
 use Rattle.sketch.proofs.validity.curves_fault.Statement.{statement}
 use Rattle.sketch.proofs.validity.curves_fault.Tie as tie
 

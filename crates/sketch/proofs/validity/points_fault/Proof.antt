@@ -9,7 +9,7 @@ use borrow.Author.Tests.{not-true, not-false}
 use Rattle.sketch.specs.Valid.{okPoint}
 use Rattle.sketch.specs.Blanks.{noPoint}
 use Rattle.sketch.proofs.Bools.{joined}
-use Rattle.sketch.proofs.Told.{PointsWalk, points-start, points-four, points-five, points-on, points-end}
+use Rattle.sketch.proofs.Checked.{PointsWalk, points-start, points-four, points-five, points-on, points-end}
 use Rattle.sketch.proofs.validity.points_fault.Statement.{statement}
 use Rattle.sketch.proofs.validity.points_fault.Tie as tie
 

@@ -8,7 +8,7 @@ use borrow.Author.Needs.{needs}
 use borrow.Author.Tests.{not-true, not-false}
 use Rattle.sketch.specs.Valid.{okRelation}
 use Rattle.sketch.specs.Blanks.{noSlot}
-use Rattle.sketch.proofs.Told.{RelationsWalk, relations-start, relations-four, relations-five, relations-on, relations-end}
+use Rattle.sketch.proofs.Checked.{RelationsWalk, relations-start, relations-four, relations-five, relations-on, relations-end}
 use Rattle.sketch.proofs.validity.relations_fault.Statement.{statement}
 use Rattle.sketch.proofs.validity.relations_fault.Tie as tie
 

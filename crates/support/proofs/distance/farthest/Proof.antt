@@ -1,15 +1,15 @@
 use Prim.Native.Nat.{_-_, _≤_}
 use mathlib.Core.Path.{_≡_, sym, _∙_}
 use lib.ListN.{length}
-use Rattle.support.specs.Pieces.{pointsOf}
-use Rattle.support.specs.Handed.{farthestOf}
+use Rattle.support.specs.Pieces.{zipPoints}
+use Rattle.support.specs.Contracts.{farthestOf}
 use Rattle.support.proofs.Offsets.{farthestFrom, farthest-start, farther, farthest-so-far}
 use borrow.Author.Needs.{needs}
 use Rattle.support.proofs.distance.farthest.Statement.{statement}
 use Rattle.support.proofs.distance.farthest.Tie as tie
 
 abbrev Inv-loop : tie.InvT-loop
-Inv-loop o xs ys m₀ i₀ m i = (i ≤ length xs) × (farthestFrom o xs ys i m ≡ farthestOf o (pointsOf xs ys))
+Inv-loop o xs ys m₀ i₀ m i = (i ≤ length xs) × (farthestFrom o xs ys i m ≡ farthestOf o (zipPoints xs ys))
 
 abbrev μ-loop : tie.MeasureT-loop
 μ-loop o xs ys m₀ i₀ m i = length xs - i

@@ -1,4 +1,4 @@
-use Rattle.support.specs.Handed.{weightsOf}
+use Rattle.support.specs.Contracts.{weightsOf}
 use borrow.Author.Needs.{needs}
 use Rattle.support.proofs.distance.weights.Statement.{statement}
 use Rattle.support.proofs.distance.weights.Tie as tie

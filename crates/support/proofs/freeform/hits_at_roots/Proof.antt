@@ -1,6 +1,6 @@
 use Rattle.support.proofs.Answers.{as-outcome, met-nothing, met-all, laid-countX, laid-countY, laid-fitsX, laid-fitsY, laid-roomX, laid-roomY}
 use Rattle.support.proofs.RootsFound.{none-resolved, roots-fit, roots-counted, roots-few, roots-resolved}
-use Rattle.support.specs.Handed.{curveOf}
+use Rattle.support.specs.Contracts.{freeformOf}
 use borrow.Author.Needs.{needs}
 use Rattle.support.proofs.freeform.hits_at_roots.Statement.{statement}
 use Rattle.support.proofs.freeform.hits_at_roots.Tie as tie
@@ -17,17 +17,17 @@ enum-known-roots c = search needs
 enum-told : tie.Need-enum-told
 enum-told c = search needs
 
-passed-up-requires : tie.Need-passed-up-requires
-passed-up-requires c κs = search needs
+hits-of-roots-requires : tie.Need-hits-of-roots-requires
+hits-of-roots-requires c κs = search needs
 
 returns : tie.Need-returns
-returns c = none-resolved _ _ _ _ _ _ _ (c .before .before .before .before .roots .ensures) (search needs) _ _ (c .before .enum-told .given .1) _ (c .passed-up .ensures) _ _
+returns c = none-resolved _ _ _ _ _ _ _ (c .before .before .before .before .roots .ensures) (search needs) _ _ (c .before .enum-told .given .1) _ (c .hits-of-roots .ensures) _ _
 
 array-share-prefix-ts : tie.Need-array-share-prefix-ts
-array-share-prefix-ts c = roots-fit (c .before .before .before .before .before .before .before .before .before .before .before .args .line) (curveOf (c .before .before .before .before .before .before .before .before .before .before .before .args .curve) (c .before .before .before .before .before .before .before .before .before .before .before .args .xs .now) (c .before .before .before .before .before .before .before .before .before .before .before .args .ys .now)) _ _ _ _ _ (c .before .before .before .before .roots .ensures) (search needs) _ _ (c .before .roots2 .given .1)
+array-share-prefix-ts c = roots-fit (c .before .before .before .before .before .before .before .before .before .before .before .args .line) (freeformOf (c .before .before .before .before .before .before .before .before .before .before .before .args .curve) (c .before .before .before .before .before .before .before .before .before .before .before .args .xs .now) (c .before .before .before .before .before .before .before .before .before .before .before .args .ys .now)) _ _ _ _ _ (c .before .before .before .before .roots .ensures) (search needs) _ _ (c .before .roots2 .given .1)
 
 slice-aggregate-resolve : tie.Need-slice-aggregate-resolve
-slice-aggregate-resolve c = roots-counted (c .before .before .before .before .before .before .before .before .before .before .before .before .args .line) (curveOf (c .before .before .before .before .before .before .before .before .before .before .before .before .args .curve) (c .before .before .before .before .before .before .before .before .before .before .before .before .args .xs .now) (c .before .before .before .before .before .before .before .before .before .before .before .before .args .ys .now)) _ _ _ _ _ (c .before .before .before .before .before .roots .ensures) (search needs) _ _ (c .before .before .roots2 .given .1)
+slice-aggregate-resolve c = roots-counted (c .before .before .before .before .before .before .before .before .before .before .before .before .args .line) (freeformOf (c .before .before .before .before .before .before .before .before .before .before .before .before .args .curve) (c .before .before .before .before .before .before .before .before .before .before .before .before .args .xs .now) (c .before .before .before .before .before .before .before .before .before .before .before .before .args .ys .now)) _ _ _ _ _ (c .before .before .before .before .before .roots .ensures) (search needs) _ _ (c .before .before .roots2 .given .1)
 
 slice-aggregate-resolve-2 : tie.Need-slice-aggregate-resolve-2
 slice-aggregate-resolve-2 c = search needs
@@ -36,7 +36,7 @@ slice-aggregate-resolve-3 : tie.Need-slice-aggregate-resolve-3
 slice-aggregate-resolve-3 c = search needs
 
 resolve-requires : tie.Need-resolve-requires
-resolve-requires c κs = let h = roots-few (c .before .before .before .before .before .before .before .before .before .before .before .before .before .before .args .line) (curveOf (c .before .before .before .before .before .before .before .before .before .before .before .before .before .before .args .curve) (c .before .before .before .before .before .before .before .before .before .before .before .before .before .before .args .xs .now) (c .before .before .before .before .before .before .before .before .before .before .before .before .before .before .args .ys .now)) _ _ _ _ _ (c .before .before .before .before .before .before .before .roots .ensures) (search needs) _ _ (c .before .before .before .before .roots2 .given .1) _ (c .before .before .before .before .before .before .before .roots .kept .1 .0) in (c .before .before .before .before .before .before .before .before .before .before .before .before .before .before .pre .0, h, h)
+resolve-requires c κs = let h = roots-few (c .before .before .before .before .before .before .before .before .before .before .before .before .before .before .args .line) (freeformOf (c .before .before .before .before .before .before .before .before .before .before .before .before .before .before .args .curve) (c .before .before .before .before .before .before .before .before .before .before .before .before .before .before .args .xs .now) (c .before .before .before .before .before .before .before .before .before .before .before .before .before .before .args .ys .now)) _ _ _ _ _ (c .before .before .before .before .before .before .before .roots .ensures) (search needs) _ _ (c .before .before .before .before .roots2 .given .1) _ (c .before .before .before .before .before .before .before .roots .kept .1 .0) in (c .before .before .before .before .before .before .before .before .before .before .before .before .before .before .pre .0, h, h)
 
 enum-known-hits : tie.Need-enum-known-hits
 enum-known-hits c = search needs
@@ -82,7 +82,7 @@ hits-at-roots-spec =
     roots-requires
     enum-known-roots
     enum-told
-    passed-up-requires
+    hits-of-roots-requires
     returns
     array-share-prefix-ts
     slice-aggregate-resolve

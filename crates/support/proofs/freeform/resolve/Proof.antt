@@ -3,13 +3,13 @@ use Prim.Native.Nat.{_-_}
 use mathlib.Core.Path.{sym, _∙_}
 use borrow.Author.Tests.{not-true, not-false}
 use lib.ListN.{length}
-use Rattle.support.specs.Handed.{curveOf}
+use Rattle.support.specs.Contracts.{freeformOf}
 use borrow.Author.Needs.{needs}
 use Rattle.support.proofs.freeform.resolve.Statement.{statement}
 use Rattle.support.proofs.freeform.resolve.Tie as tie
 
 abbrev Inv-loop : tie.InvT-loop
-Inv-loop line curve xs ys ts qx₀ qy₀ budget k₀ i₀ qx qy k i = Walk line (curveOf curve xs ys) ts budget qx₀ qy₀ k i qx qy
+Inv-loop line curve xs ys ts qx₀ qy₀ budget k₀ i₀ qx qy k i = Walk line (freeformOf curve xs ys) ts budget qx₀ qy₀ k i qx qy
 
 abbrev μ-loop : tie.MeasureT-loop
 μ-loop line curve xs ys ts qx₀ qy₀ budget k₀ i₀ qx qy k i = length ts - i

@@ -1,5 +1,5 @@
 use borrow.Author.Tests.{le-leb, lt-leb}
-use Rattle.support.specs.Handed.{atMost8}
+use Rattle.support.specs.Contracts.{atMost8}
 use native.Mathlib.Omega.{arith}
 use Rattle.support.proofs.points.at_most_8.Statement.{statement}
 use Rattle.support.proofs.points.at_most_8.Tie as tie

@@ -1,0 +1,135 @@
+// A plan is what an edit decided to do with a curve; applying it changes the tables of a sketch.
+mod apply;
+mod changes;
+mod pieces;
+mod removal;
+mod room;
+mod unused_points;
+
+pub use apply::apply_plan;
+use geom::Vec2;
+pub use pieces::pin_of;
+use sketch::Curve;
+use sketch::Id;
+use sketch::Point;
+use sketch::Relation;
+use sketch::Sketch;
+pub use unused_points::curve_uses;
+
+// The constraint on a new end: on the curve that cut there, or at an end of it, which is a point.
+pub enum Pin {
+    On(Id),
+    At(Id),
+}
+
+// A point where a curve is cut, and the new end's pin.
+pub struct PinnedPoint {
+    pub at: Vec2,
+    pub pin: Pin,
+}
+
+// What an edit does to a curve.
+// Whole: it goes. Cut: it is cut, and a piece goes: the first of two (true) or else the second. CutTwo: the same at
+// two cuts. Divide, DivideTwo: it is cut, and every piece stays. Move: its start or (true) its end moves.
+pub enum Plan {
+    Whole,
+    Cut(PinnedPoint, bool),
+    CutTwo(PinnedPoint, PinnedPoint, bool),
+    Divide(Vec2),
+    DivideTwo(Vec2, Vec2),
+    Move(bool, Vec2, Pin),
+}
+
+// The curve that went, with its two ends; zeros where it had none, and three where nothing went.
+pub struct Removed {
+    pub curve: Id,
+    pub from: Id,
+    pub to: Id,
+}
+
+// What an edit leaves. Where it is refused, by a number other than 0, that is the sketch it was given. A place comes with the
+// numbers 13 and 19: that of a relation that is not met.
+pub struct Edited {
+    pub sketch: Sketch,
+    pub refusal: u8,
+    pub place: usize,
+    pub removed: Removed,
+}
+
+// The curve that is cut, or goes (`whole`), with the ends of a line (`line`) or an arc; zeros where there are none.
+struct Extent {
+    id: Id,
+    line: bool,
+    whole: bool,
+    from: Id,
+    to: Id,
+}
+
+// Up to three points, each with whether it goes.
+struct Orphans {
+    p: Id,
+    q: Id,
+    r: Id,
+    pgoes: bool,
+    qgoes: bool,
+    rgoes: bool,
+}
+
+// Points that are left, and how many.
+struct PointTable {
+    slots: [Point; 512],
+    count: usize,
+}
+
+// Curves that are left, and how many.
+struct CurveTable {
+    slots: [Curve; 128],
+    count: usize,
+}
+
+// What is left of a relation.
+enum Kept {
+    Keep(Relation),
+    Dropped,
+}
+
+// What a cut or a division adds: a point, a curve and a relation, and how many more of each. Where no second point is
+// added, its place is that of the first.
+struct Additions {
+    first: Vec2,
+    second: Vec2,
+    points: u32,
+    curves: u32,
+    relations: usize,
+}
+
+// A curve in two: the new points, the way through the last of them, the id of its second half and the next id then.
+struct Halves {
+    p: Point,
+    q: Point,
+    points: usize,
+    from: Id,
+    at: Id,
+    to: Id,
+    half: Id,
+    next: Id,
+}
+
+// What a cut or a division writes. A second point comes `points` places after the first: where there is none, that is
+// the same again at the same place; and so for a new piece, which comes to lie at `place`, and for the relations.
+struct Change {
+    next: Id,
+    p: Point,
+    q: Point,
+    points: usize,
+    kept: Curve,
+    added: Curve,
+    place: usize,
+    curves: usize,
+    r: Relation,
+    s: Relation,
+    t: Relation,
+    second: usize,
+    third: usize,
+    removed: Removed,
+}

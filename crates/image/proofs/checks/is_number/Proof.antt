@@ -1,0 +1,14 @@
+use Rattle.image.proofs.Floats.{number-test}
+use borrow.Author.Needs.{needs}
+use native.Mathlib.Omega.{arith}
+use Rattle.image.proofs.checks.is_number.Statement.{statement}
+use Rattle.image.proofs.checks.is_number.Tie as tie
+use Rattle.image.proofs.checks.is_number.Reads as reads
+use Rattle.image.proofs.checks.is_number.Lts as lts
+
+-- src/records.rt:18:1
+returns : tie.Need-returns
+returns c = number-test (c .args .bits)
+
+pub is-number-spec : {M : Type 1} → statement M
+is-number-spec = tie.close (tie.spec returns)

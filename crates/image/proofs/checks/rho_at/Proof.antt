@@ -1,0 +1,51 @@
+use mathlib.Core.Path.{refl, sym, ap, _∙_}
+use Prim.Native.Nat.{ℕ}
+use lib.Ieee.{ofBits, binary64}
+use borrow.Author.Tests.{not-true, not-false}
+use Rattle.sketch.specs.Valid.{okRho}
+use Rattle.image.proofs.Floats.{number-bits, rho-rejects}
+use Rattle.image.proofs.RecordChecks.{out-of-range}
+use native.Mathlib.Omega.{arith}
+use borrow.Author.Needs.{needs}
+use Rattle.image.proofs.checks.rho_at.Statement.{statement}
+use Rattle.image.proofs.checks.rho_at.Tie as tie
+use Rattle.image.proofs.checks.rho_at.Reads as reads
+use Rattle.image.proofs.checks.rho_at.Lts as lts
+use Rattle.big_endian.proofs.get8.Reads as get8-reads
+use Rattle.image.proofs.checks.is_number.Reads as is-number-reads
+use Rattle.sketch.proofs.rho_ok.Reads as rho-ok-reads
+
+-- src/checks.rt:53:9
+get8-requires : tie.Need-get8-requires
+get8-requires c κs = search needs
+
+-- src/checks.rt:54:9
+is-number-requires : tie.Need-is-number-requires
+is-number-requires c κs = search needs
+
+-- src/checks.rt:55:9
+returns : tie.Need-returns
+returns c = out-of-range okRho rho-rejects _ _ (c .before .before .get8 .ensures) (c .before .is-number .ensures) (not-true _ (c .if1 .taken))
+
+-- src/checks.rt:57:12
+float-from-bits-rho-ok : tie.Need-float-from-bits-rho-ok
+float-from-bits-rho-ok c = number-bits _ refl (sym (c .before .is-number .ensures) ∙ not-false _ (c .if1 .left))
+
+-- src/checks.rt:57:5
+rho-ok-requires : tie.Need-rho-ok-requires
+rho-ok-requires c κs = search needs
+
+-- src/checks.rt:50:1
+returns-2 : tie.Need-returns-2
+returns-2 c = c .rho-ok .ensures ∙ ap (λ (n : ℕ). okRho (ofBits binary64 n)) (c .before .before .before .get8 .ensures)
+
+pub rho-at-spec : {M : Type 1} → statement M
+rho-at-spec =
+    tie.close
+    (tie.spec
+    get8-requires
+    is-number-requires
+    returns
+    float-from-bits-rho-ok
+    rho-ok-requires
+    returns-2)

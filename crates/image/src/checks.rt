@@ -1,0 +1,275 @@
+// The tests of one record by its bytes: what it spells and its values, and its references among given ids. No value is
+// made for them.
+use big_endian::get1;
+use big_endian::get4;
+use big_endian::get8;
+use sketch::coordinate_ok;
+use sketch::has;
+use sketch::measure_ok;
+use sketch::radius_ok;
+use sketch::rho_ok;
+use sketch::sort_at;
+ghost use mathlib.Core.Path.{_≡_};
+ghost use mathlib.Core.Bool.{not, _&&_};
+ghost use lib.Dec.{eqb};
+ghost use lib.Ieee.{nanBits, binary64};
+ghost use lib.ListN.{length, take, drop};
+ghost use Rattle.sketch.specs.Lists.{every};
+ghost use Rattle.sketch.specs.Lookup.{among, Ascends, sortAmong};
+ghost use Rattle.sketch.specs.Valid.{okCoordinate, okRadius, okRho, okMeasure, soundCurve, soundRelation};
+ghost use Rattle.image.specs.Records.{floatAt, slotsOf, curveOf, relationOf};
+ghost use Rattle.image.specs.Contracts.{goodPoint, goodCurve, goodRelation, goodAs, rowSort};
+
+// Whether bits are no NaN's: only such may become a float.
+fn is_number(bits: u64) -> bool
+    ensures { λ r. ⌜ r ≡ not (nanBits binary64 bits) ⌝ }
+{
+    bits % 0x8000_0000_0000_0000 <= 0x7ff0_0000_0000_0000
+}
+
+fn coordinate_at(r: &[u8], at: usize) -> bool
+    ensures { λ v. ⌜ v ≡ okCoordinate (floatAt (now (r .entry)) at) ⌝ }
+{
+    let bits = get8(r, at);
+    if !is_number(bits) {
+        return false;
+    }
+    coordinate_ok(f64::from_bits(bits))
+}
+
+fn radius_at(r: &[u8]) -> bool
+    ensures { λ v. ⌜ v ≡ okRadius (floatAt (now (r .entry)) 39) ⌝ }
+{
+    let bits = get8(r, 39);
+    if !is_number(bits) {
+        return false;
+    }
+    radius_ok(f64::from_bits(bits))
+}
+
+fn rho_at(r: &[u8]) -> bool
+    ensures { λ v. ⌜ v ≡ okRho (floatAt (now (r .entry)) 39) ⌝ }
+{
+    let bits = get8(r, 39);
+    if !is_number(bits) {
+        return false;
+    }
+    rho_ok(f64::from_bits(bits))
+}
+
+fn measure_at(r: &[u8]) -> bool
+    ensures { λ v. ⌜ v ≡ okMeasure (floatAt (now (r .entry)) 9) ⌝ }
+{
+    let bits = get8(r, 9);
+    if !is_number(bits) {
+        return false;
+    }
+    measure_ok(f64::from_bits(bits))
+}
+
+pub(crate) fn point_good(r: &[u8]) -> bool
+    ensures { λ v. ⌜ v ≡ goodPoint (now (r .entry)) ⌝ }
+{
+    (get1(r, 20) <= 1) & (coordinate_at(r, 4) & coordinate_at(r, 12))
+}
+
+// Of curves each kind has a test of its own. Slots that it leaves free are read two at a time.
+fn line_good(r: &[u8]) -> bool
+    ensures { λ v. ⌜ v ≡ goodAs 1 (now (r .entry)) ⌝ }
+{
+    (get1(r, 5) <= 7)
+        & (get1(r, 6) == 0)
+        & (get8(r, 39) == 0)
+        & (get8(r, 15) == 0)
+        & (get8(r, 23) == 0)
+        & (get8(r, 31) == 0)
+}
+
+fn arc_good(r: &[u8]) -> bool
+    ensures { λ v. ⌜ v ≡ goodAs 2 (now (r .entry)) ⌝ }
+{
+    let flags = get1(r, 5);
+    (flags <= 7)
+        & (get1(r, 6) == 0)
+        & (get8(r, 39) == 0)
+        & (get4(r, 19) == 0)
+        & (get8(r, 23) == 0)
+        & (get8(r, 31) == 0)
+        & (flags / 4 % 2 != 1)
+}
+
+fn circle_good(r: &[u8]) -> bool
+    ensures { λ v. ⌜ v ≡ goodAs 3 (now (r .entry)) ⌝ }
+{
+    let flags = get1(r, 5);
+    (flags <= 7)
+        & (get1(r, 6) == 0)
+        & (get4(r, 11) == 0)
+        & (get8(r, 15) == 0)
+        & (get8(r, 23) == 0)
+        & (get8(r, 31) == 0)
+        & (flags / 4 % 2 != 1)
+        & radius_at(r)
+}
+
+// Whether the slots from the n-th on hold 0.
+fn clear_past(r: &[u8], n: usize) -> bool
+    ensures { λ v. ⌜ v ≡ every (λ i. eqb i 0) (drop n (slotsOf (now (r .entry)))) ⌝ }
+{
+    let mut i: usize = n;
+    while i < 8 {
+        if get4(r, 7 + i * 4) != 0 {
+            return false;
+        }
+        i += 1;
+    }
+    true
+}
+
+fn bezier_good(r: &[u8]) -> bool
+    ensures { λ v. ⌜ v ≡ goodAs 4 (now (r .entry)) ⌝ }
+{
+    let flags = get1(r, 5);
+    let degree = get1(r, 6);
+    (flags <= 7)
+        & (get8(r, 39) == 0)
+        & (flags / 4 % 2 != 1)
+        & (1 <= degree)
+        & (degree <= 7)
+        & clear_past(r, degree as usize + 1)
+}
+
+fn conic_good(r: &[u8]) -> bool
+    ensures { λ v. ⌜ v ≡ goodAs 5 (now (r .entry)) ⌝ }
+{
+    let flags = get1(r, 5);
+    (flags <= 7)
+        & (get1(r, 6) == 0)
+        & (get4(r, 19) == 0)
+        & (get8(r, 23) == 0)
+        & (get8(r, 31) == 0)
+        & (flags / 4 % 2 != 1)
+        & rho_at(r)
+}
+
+pub(crate) fn curve_good(r: &[u8]) -> bool
+    ensures { λ v. ⌜ v ≡ goodCurve (now (r .entry)) ⌝ }
+{
+    let kind = get1(r, 4);
+    match kind {
+        1 => line_good(r),
+        2 => arc_good(r),
+        3 => circle_good(r),
+        4 => bezier_good(r),
+        5 => conic_good(r),
+        _ => false,
+    }
+}
+
+// Whether the first n slots name points, whose ids rise.
+fn slots_in<'a>(r: &'a [u8], n: usize, ids: &'a [u32], near: &'a [u16]) -> bool
+    requires { ⌜ Ascends (now ids) ⌝ }
+    ensures { λ v. ⌜ v ≡ every (λ p. among p (now (ids .entry))) (take n (slotsOf (now (r .entry)))) ⌝ }
+{
+    let mut i: usize = 0;
+    while i < 8 {
+        if n <= i {
+            return true;
+        }
+        if !has(ids, near, get4(r, 7 + i * 4)) {
+            return false;
+        }
+        i += 1;
+    }
+    true
+}
+
+pub(crate) fn curve_sound<'a>(r: &'a [u8], ids: &'a [u32], near: &'a [u16]) -> bool
+    requires { ⌜ Ascends (now ids) ⌝ }
+    ensures { λ v. ⌜ v ≡ soundCurve (λ p. among p (now (ids .entry))) (curveOf (now (r .entry))) ⌝ }
+{
+    let kind = get1(r, 4);
+    let degree = get1(r, 6);
+    let a = get4(r, 7);
+    let b = get4(r, 11);
+    let c = get4(r, 15);
+    match kind {
+        1 => has(ids, near, a) & has(ids, near, b) & (a != b),
+        2 => has(ids, near, a)
+            & has(ids, near, b)
+            & has(ids, near, c)
+            & (a != b)
+            & (a != c)
+            & (b != c),
+        3 => has(ids, near, a),
+        4 => slots_in(r, degree as usize + 1, ids, near),
+        _ => has(ids, near, a) & has(ids, near, b) & has(ids, near, c),
+    }
+}
+
+// A line 1, a round 2, a freeform curve 3.
+pub(crate) fn curve_sort(r: &[u8]) -> u8
+    ensures { λ v. ⌜ v ≡ rowSort (now (r .entry)) ⌝ }
+{
+    let kind = get1(r, 4);
+    match kind {
+        1 => 1,
+        2 => 2,
+        3 => 2,
+        4 => 3,
+        _ => 3,
+    }
+}
+
+pub(crate) fn relation_good(r: &[u8]) -> bool
+    ensures { λ v. ⌜ v ≡ goodRelation (now (r .entry)) ⌝ }
+{
+    let kind = get1(r, 0);
+    let second = get4(r, 5);
+    let value = get8(r, 9);
+    match kind {
+        1 => value == 0,
+        2 => value == 0,
+        3 => value == 0,
+        4 => value == 0,
+        5 => (second == 0) & measure_at(r),
+        6 => measure_at(r),
+        7 => value == 0,
+        8 => (second == 0) & measure_at(r),
+        9 => (second == 0) & measure_at(r),
+        _ => false,
+    }
+}
+
+pub(crate) fn relation_sound<'a>(
+    r: &'a [u8],
+    points: &'a [u32],
+    near_points: &'a [u16],
+    curves: &'a [u32],
+    near_curves: &'a [u16],
+    sorts: &'a [u8],
+) -> bool
+    requires { ⌜ (length (now curves) ≡ length (now sorts)) × Ascends (now points) × Ascends (now curves) ⌝ }
+    ensures { λ v. ⌜ v ≡ soundRelation (λ p. among p (now (points .entry))) (λ i. sortAmong i (now (curves .entry)) (now (sorts .entry))) (relationOf (now (r .entry))) ⌝ }
+{
+    let kind = get1(r, 0);
+    let a = get4(r, 1);
+    let b = get4(r, 5);
+    match kind {
+        1 => has(points, near_points, a) & has(points, near_points, b) & (a != b),
+        2 => has(points, near_points, a) & (0 < sort_at(curves, near_curves, sorts, b)),
+        3 => (sort_at(curves, near_curves, sorts, a) == 1)
+            & (sort_at(curves, near_curves, sorts, b) == 1)
+            & (a != b),
+        4 => {
+            let s = sort_at(curves, near_curves, sorts, a);
+            let t = sort_at(curves, near_curves, sorts, b);
+            (((s == 1) & (t == 1)) | ((s == 2) & (t == 2))) & (a != b)
+        }
+        5 => sort_at(curves, near_curves, sorts, a) == 1,
+        6 => has(points, near_points, a) & has(points, near_points, b) & (a != b),
+        7 => has(points, near_points, a) & (sort_at(curves, near_curves, sorts, b) == 1),
+        8 => sort_at(curves, near_curves, sorts, a) == 2,
+        _ => sort_at(curves, near_curves, sorts, a) == 2,
+    }
+}

@@ -1,3 +1,0 @@
-pub mod Verdicts
-pub mod Served
-pub mod Polynomials

@@ -1,0 +1,71 @@
+-- `modify::extending::plan_extend` meets its contract.
+use mathlib.Core.Path.{_≡_}
+use lib.Ieee.{le}
+use lib.ListN.{length}
+use borrow.Author.Needs.{needs}
+use Rattle.sketch.specs.Drawing.{view}
+use Rattle.edit_plan.specs.Suited.{targetOf}
+use Rattle.edit_plan.proofs.Loops.{length-mapped}
+use Rattle.modify.proofs.ExtendPlans.{not-line, line-at, stands-at, line-end}
+use Rattle.modify.proofs.extending.plan_extend.Statement.{statement}
+use Rattle.modify.proofs.extending.plan_extend.Tie as tie
+
+long : (c : tie.Start) → length (c .args .sk .curves) ≡ 128
+long c = search (needs, length-mapped)
+
+mul-c : tie.Need-mul-c
+mul-c c = search needs
+
+array-copy-out-c : tie.Need-array-copy-out-c
+array-copy-out-c c = search needs
+
+enum-known-kind : tie.Need-enum-known-kind
+enum-known-kind c = search needs
+
+returns : tie.Need-returns
+returns c = (not-line _ _ _ _ (c .match .keys2), tt)
+
+point-at-requires : tie.Need-point-at-requires
+point-at-requires c κs = search needs
+
+point-at-requires-2 : tie.Need-point-at-requires-2
+point-at-requires-2 c κs = search needs
+
+dist-requires : tie.Need-dist-requires
+dist-requires c κs = search needs
+
+dist-requires-2 : tie.Need-dist-requires-2
+dist-requires-2 c κs = search needs
+
+moving-end-requires : tie.Need-moving-end-requires
+moving-end-requires c κs = search needs
+
+plan-end-requires : tie.Need-plan-end-requires
+plan-end-requires c κs = search needs
+
+returns-2 : tie.Need-returns-2
+returns-2 c =
+    let st = c .before .before .before .before .before .before .before .before .before .before .before .before .before .before .before .before in
+    let a = st .args in
+    let k = a .sk in
+    let e = c .before .before .before .before .before .before .before .kind .given .1 in
+    let two = c .before .moving-end .ensures in
+    let atb = le (c .before .before .before .dist .result) (c .before .before .dist2 .result) in
+    let r = c .plan-end .ensures (k .next) (k .npoints) (k .nrelations) (k .relations) (st .pre .0 .points) (st .pre .4) (line-end k (a .place) e (st .pre .0) (st .pre .1) (st .pre .2) (long st) atb two) in
+    (line-at (view k) (a .at) (targetOf k (a .place)) e (st .pre .3) (c .before .before .before .before .before .point-at .ensures _ (st .pre .4)) (c .before .before .before .before .point-at2 .ensures _ (st .pre .4)) (c .before .before .before .dist .ensures) (c .before .before .dist2 .ensures) two (r .choice), stands-at k (a .place) e atb two (c .plan-end .result) (r .place))
+
+pub plan-extend-spec : {M : Type 1} → statement M
+plan-extend-spec =
+    tie.close
+    (tie.spec
+    mul-c
+    array-copy-out-c
+    enum-known-kind
+    returns
+    point-at-requires
+    point-at-requires-2
+    dist-requires
+    dist-requires-2
+    moving-end-requires
+    plan-end-requires
+    returns-2)

@@ -1,0 +1,29 @@
+use mathlib.Core.Path.{_≡_, refl, sym, ap, _∙_}
+use Rattle.modify.proofs.NearestHit.{weigh-in, weigh-out}
+use native.Mathlib.Omega.{arith}
+use borrow.Author.Needs.{needs}
+use Rattle.modify.proofs.nearest_hit.consider.Statement.{statement}
+use Rattle.modify.proofs.nearest_hit.consider.Tie as tie
+use Rattle.modify.proofs.nearest_hit.consider.Reads as reads
+use Rattle.modify.proofs.nearest_hit.consider.Lts as lts
+use Rattle.modify.proofs.nearest_hit.better.Reads as better-reads
+use Rattle.modify.proofs.nearest_hit.gap_of.Reads as gap-of-reads
+
+-- src/nearest_hit.rt:85:9
+gap-of-requires : tie.Need-gap-of-requires
+gap-of-requires c κs = search needs
+
+-- src/nearest_hit.rt:87:9
+better-requires : tie.Need-better-requires
+better-requires c κs = search needs
+
+-- src/nearest_hit.rt:87:9
+returns : tie.Need-returns
+returns c = weigh-in _ _ _ (c .before .before .gap-of .ensures) _ (c .before .if1 .taken) (c .better .ensures)
+
+-- src/nearest_hit.rt:81:1
+returns-2 : tie.Need-returns-2
+returns-2 c = weigh-out _ _ _ (c .before .gap-of .ensures) _ (c .if1 .left)
+
+pub consider-spec : {M : Type 1} → statement M
+consider-spec = tie.close (tie.spec gap-of-requires better-requires returns returns-2)

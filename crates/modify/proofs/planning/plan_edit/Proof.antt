@@ -1,0 +1,23 @@
+use mathlib.Core.Path.{refl}
+use Rattle.sketch.specs.Drawing.{view}
+use native.Mathlib.Omega.{arith}
+use borrow.Author.Needs.{needs}
+use Rattle.modify.proofs.planning.plan_edit.Statement.{statement}
+use Rattle.modify.proofs.planning.plan_edit.Tie as tie
+
+mul-c : tie.Need-mul-c
+mul-c c = search needs
+
+array-copy-out-c : tie.Need-array-copy-out-c
+array-copy-out-c c = search needs
+
+plan-from-requires : tie.Need-plan-from-requires
+plan-from-requires c κs = c .before .before .before .before .before .before .pre .0 .curves
+
+returns : tie.Need-returns
+returns c =
+    let s = c .before .before .before .before .before .before .before in
+    c .plan-from .ensures (view (s .args .sk)) (record { points = s .pre .3; curves = refl })
+
+pub plan-edit-spec : {M : Type 1} → statement M
+plan-edit-spec = tie.close (tie.spec mul-c array-copy-out-c plan-from-requires returns)

@@ -1,0 +1,165 @@
+-- The desk on a screen: one law for each way out.
+use mathlib.Core.Path.{_≡_, refl, sym, ap, _∙_, subst}
+use mathlib.Core.Bool.{Bool, true, false, not, _&&_}
+use mathlib.Core.List.{List}
+use Prim.Native.Nat.{ℕ, _+_, _<_, _≤_, _/_, _%_}
+use native.Mathlib.Omega.{arith}
+use lib.ListN.{length, take}
+use lib.Dec.{T, leb, ltb}
+use lib.Ieee.{isNan}
+use borrow.Author.Tests.{le-leb, lt-leb}
+use Rattle.big_endian.specs.Fields.{over}
+use Rattle.sketch.specs.Lists.{ite, guardNumber}
+use Rattle.sketch.specs.Drawing.{Drawing, view, limits, curveIn}
+use Rattle.sketch.specs.Valid.{okCoordinate, sketchFault}
+use Rattle.sketch.proofs.Sketches.{sketch-valid}
+use Rattle.image.specs.Encode.{drawingSize}
+use Rattle.image.specs.Message.{encode, MessageWritten}
+use Rattle.relations.specs.Met.{allMet}
+use Rattle.edit_plan.specs.declared.Removed.{Removed}
+use Rattle.edit_plan.specs.Outcome as O
+use Rattle.edit_plan.specs.Outcome.{guard}
+use Rattle.edit_plan.specs.Tables.{okPosition}
+use Rattle.modify.specs.declared.PlanResult.{PlanResult}
+use Rattle.modify.specs.Planning.{guardPlan}
+use Rattle.modify.specs.Edits.{planOnFound, applyPlanned}
+use Rattle.agreement.specs.Machines as M
+use Rattle.agreement.specs.Machines.{State, callOutcome, withCount, stateAfter, maxNumber}
+use Rattle.replication.specs.declared.Replica.{Replica}
+use Rattle.replication.specs.declared.DeskReply.{DeskReply}
+use Rattle.replication.specs.declared.DeskReply.the-variants as Desk
+use Rattle.replication.specs.declared.DeskTransition.{DeskTransition}
+use Rattle.replication.specs.Protocol.{Edit, messageFor, protocol}
+use Rattle.replication.specs.Transitions as A
+use Rattle.replication.specs.Transitions.{stateOf, UnmetPlace, NoPlace, DeskPlace, DeskNoPlace, DeskEdits}
+use Rattle.replication.proofs.Decoding.{need-accepted, literal}
+use Rattle.replication.proofs.Outcomes.{is-number}
+use Rattle.mulkefi.specs.Outcomes.{CallOutcome, refused, updated, ifImageFits, deskOutcome}
+use Rattle.mulkefi.specs.Calls.{numberOf, bufferAfter, messageAfter, answerAfter, ResultWritten, deskEditOutcome, DeskEditWritten}
+use Rattle.mulkefi.proofs.Places.{unmet-whole, unmet-none}
+
+-- ---- what the machine's call came to, from what was told of it
+
+declined-is : (e : Edit) (k : ℕ) (o : O.Outcome (State Drawing) Removed) → M.deskRefused k ≡ M.replyTo protocol e o → o ≡ O.refused k
+declined-is e k (O.refused n) h = cc
+declined-is e k (O.accepted t r) h = let z : _≡_ {A = ℕ} 0 1 = cc in absurd (omega arith)
+
+done-is : (e : Edit) (s t : State Drawing) (q : Removed) (l : List ℕ) (o : O.Outcome (State Drawing) Removed) → M.deskAccepted q l ≡ M.replyTo protocol e o → t ≡ stateAfter s o → o ≡ O.accepted t q
+done-is e s t q l (O.refused n) h g = let z : _≡_ {A = ℕ} 0 1 = cc in absurd (omega arith)
+done-is e s t q l (O.accepted u r) h g = cc
+
+-- an accepted call counts one more, and its edit was accepted
+counted-is : (n : ℕ) (o : O.Outcome Drawing Removed) (t : State Drawing) (q : Removed) → withCount n o ≡ O.accepted t q → (t .count ≡ n) × (o ≡ O.accepted (t .drawing) q)
+counted-is n (O.refused k) t q h = let z : _≡_ {A = ℕ} 0 1 = cc in absurd (omega arith)
+counted-is n (O.accepted d r) t q h =
+    let u = ap (stateAfter t) h in
+    let drawing : d ≡ t .drawing = ap (λ (x : State Drawing). x .drawing) u in
+    let reply : r ≡ q = cc in
+    (sym (ap (λ (x : State Drawing). x .count) u), λ i. O.accepted (drawing i) (reply i))
+
+decided-place : (b : Bool) (c : PlanResult) (d : Drawing) (t : ℕ) (d′ : Drawing) (r : Removed) → applyPlanned allMet limits d t (guardPlan b 9 c) ≡ O.accepted d′ r → b ≡ true
+unfolding applyPlanned guardPlan
+decided-place true c d t d′ r e = refl
+decided-place false c d t d′ r e = let z : _≡_ {A = ℕ} 0 1 = cc in absurd (omega arith)
+
+both-true : (a b : Bool) → (a && b) ≡ true → (a ≡ true) × (b ≡ true)
+both-true true true e = (refl, refl)
+both-true true false e = let z : _≡_ {A = ℕ} 0 1 = cc in absurd (omega arith)
+both-true false b e = let z : _≡_ {A = ℕ} 0 1 = cc in absurd (omega arith)
+
+-- ---- what a verdict leaves
+
+module _ (s : Replica) (e : Edit) (b m a : List ℕ) where
+  abbrev verdict : CallOutcome
+  verdict = deskEditOutcome s e (length b) (length m)
+
+  -- a refusal leaves all
+  turned : (k r : ℕ) → verdict ≡ refused k → r % 65536 ≡ k → NoPlace k (r / 65536) → UnmetPlace e (view (s .sketch)) k (r / 65536) → DeskEditWritten s e b b m m a a r
+  turned k r h n q u =
+      record {
+        served = record {
+          number = n ∙ sym (ap numberOf h);
+          no-place = subst (λ (v : CallOutcome). NoPlace (numberOf v) (r / 65536)) (sym h) q;
+          image = sym (ap (λ (v : CallOutcome). bufferAfter v b) h);
+          numbers = sym (ap (λ (v : CallOutcome). answerAfter v a) h);
+        };
+        written = sym (ap (λ (v : CallOutcome). messageAfter v e m) h);
+        place = subst (λ (k : ℕ). UnmetPlace e (view (s .sketch)) k (r / 65536)) (sym n) u;
+      }
+
+  -- too short for a message
+  pub draw-short : length m < 30 → DeskEditWritten s e b b m m a a 25
+  unfolding guard
+  draw-short h = turned 25 25 (rw (lt-leb 30 (length m) h)) refl (λ x y. refl) (unmet-none e (view (s .sketch)) 25 0 (λ z. omega arith) (λ z. omega arith))
+
+  module _ (v : sketchFault (s .sketch) ≡ 0) (room : 30 ≤ length m) (d d′ : List ℕ) (x : DeskTransition) (h : DeskEdits s (record { edit = e; before = d; after = d′; answer = x }))
+      (long : length d ≡ 30) where
+    -- the draft's room is as good as the message's
+    abbrev came : O.Outcome (State Drawing) Removed
+    came = callOutcome protocol (stateOf s) (record { edit = e; room = length m })
+
+    came-is : callOutcome protocol (stateOf s) (record { edit = e; room = length d }) ≡ came
+    came-is = rw (long, le-leb 30 (length m) room)
+
+    -- ---- declined
+
+    pub draw-declined : (k place r : ℕ) → x .reply ≡ Desk.Refused k place → r % 65536 ≡ k → r / 65536 ≡ place % 65536 → DeskEditWritten s e b b m m a a r
+    draw-declined k place r t n p =
+        let o : came ≡ O.refused k = sym came-is ∙ declined-is e k _ (ap (λ (u : DeskReply). A.deskReply u (take 30 d′)) (sym t) ∙ h .step v .reply) in
+        let q : NoPlace k place = subst DeskNoPlace t (h .no-place) in
+        let u : UnmetPlace e (view (s .sketch)) k place = subst (λ (u : DeskReply). DeskPlace u e (view (s .sketch))) t (h .place v) in
+        turned k r (ap (deskOutcome (length b)) o) n (λ y z. let g = q y z in omega arith)
+        (subst (UnmetPlace e (view (s .sketch)) k) (sym p) (unmet-whole e (view (s .sketch)) k place (sketch-valid (s .sketch) v .1) u))
+
+    -- ---- done
+
+    module _ (q : Removed) (t : x .reply ≡ Desk.Accepted q) where
+      accepted-is : came ≡ O.accepted (stateOf (x .replica)) q
+      accepted-is = sym came-is ∙ done-is e (stateOf s) (stateOf (x .replica)) q (take 30 d′) _ (ap (λ (u : DeskReply). A.deskReply u (take 30 d′)) (sym t) ∙ h .step v .reply) (h .step v .state)
+
+      verdict-is : verdict ≡ ifImageFits (length b) (stateOf (x .replica)) q
+      verdict-is = ap (deskOutcome (length b)) accepted-is
+
+      made-is : (x .replica .count ≡ s .count + 1) × (protocol .edit (view (s .sketch)) e ≡ O.accepted (view (x .replica .sketch)) q)
+      made-is =
+          let n = need-accepted (leb 30 (length m)) 25 _ (stateOf (x .replica)) q accepted-is .1 in
+          counted-is (s .count + 1) _ (stateOf (x .replica)) q (need-accepted (ltb (s .count) maxNumber) 23 _ (stateOf (x .replica)) q n .1)
+
+      -- a pick that was accepted is one of numbers
+      pub draw-numbers : T (not (isNan (e .at .x))) × T (not (isNan (e .at .y)))
+      draw-numbers =
+          let p = decided-place (okPosition (e .at)) (planOnFound (e .operation) (view (s .sketch)) (e .at) (curveIn (view (s .sketch) .curves) (e .curve))) (view (s .sketch)) (e .curve) _ _ (literal (view (s .sketch)) e _ _ (made-is .1)) in
+          let (p, q) = both-true (okCoordinate (e .at .x)) (okCoordinate (e .at .y)) p in
+          (is-number (e .at .x) p, is-number (e .at .y) q)
+
+      module _ (b′ a′ : List ℕ) (n : ℕ) (w : ResultWritten (ifImageFits (length b) (stateOf (x .replica)) q) b b′ a a′ n) where
+        -- too short for the image
+        pub draw-unhoused : (n ≡ 0 → ⊥) → DeskEditWritten s e b b′ m m a a′ 25
+        draw-unhoused z = go (leb (drawingSize (view (x .replica .sketch))) (length b)) verdict-is w
+          where
+            go : (f : Bool) → verdict ≡ ite f (updated (stateOf (x .replica)) q) (refused 25) → ResultWritten (ite f (updated (stateOf (x .replica)) q) (refused 25)) b b′ a a′ n → DeskEditWritten s e b b′ m m a a′ 25
+            go true g w = absurd (z (w .number))
+            go false g w =
+                let all = turned 25 25 g refl (λ x y. refl) (unmet-none e (view (s .sketch)) 25 0 (λ z. omega arith) (λ z. omega arith)) in
+                subst (λ (b″ : List ℕ). DeskEditWritten s e b b″ m m a a′ 25) (sym (w .image)) (subst (λ (a″ : List ℕ). DeskEditWritten s e b b m m a a″ 25) (sym (w .numbers)) all)
+
+        pub draw-done : n ≡ 0 → (m′ : List ℕ) (k : ℕ) → MessageWritten (messageFor (x .replica .count) e) m m′ k → DeskEditWritten s e b b′ m m′ a a′ 0
+        unfolding guardNumber
+        draw-done z m′ k y = go (leb (drawingSize (view (x .replica .sketch))) (length b)) verdict-is w
+          where
+            message-is : m′ ≡ over m 0 (encode (messageFor (x .replica .count) e))
+            message-is = y .buffer ∙ rw (le-leb 1 (x .replica .count) (omega (arith, made-is .0)), le-leb 30 (length m) room)
+
+            go : (f : Bool) → verdict ≡ ite f (updated (stateOf (x .replica)) q) (refused 25) → ResultWritten (ite f (updated (stateOf (x .replica)) q) (refused 25)) b b′ a a′ n → DeskEditWritten s e b b′ m m′ a a′ 0
+            go false g w = absurd (omega (arith, w .number))
+            go true g w =
+                record {
+                  served = record {
+                    number = sym (ap numberOf g);
+                    no-place = λ x y. refl;
+                    image = w .image ∙ sym (ap (λ (v : CallOutcome). bufferAfter v b) g);
+                    numbers = w .numbers ∙ sym (ap (λ (v : CallOutcome). answerAfter v a) g);
+                  };
+                  written = message-is ∙ sym (ap (λ (v : CallOutcome). messageAfter v e m) g);
+                  place = unmet-none e (view (s .sketch)) 0 0 (λ z. omega arith) (λ z. omega arith);
+                }

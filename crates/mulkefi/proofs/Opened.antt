@@ -1,0 +1,153 @@
+-- What was read from the buffer's front: the ways out that desk and wall share, and what a call on the screen means for the whole.
+use mathlib.Core.Path.{_≡_, refl, sym, ap, _∙_, subst}
+use mathlib.Core.Bool.{Bool, true, false}
+use mathlib.Core.List.{List}
+use Prim.Native.Nat.{ℕ, zero, suc, _<_, _≤_, _/_, _%_}
+use native.Mathlib.Omega.{arith}
+use lib.ListN.{length, take}
+use lib.Seq.{take-all}
+use lib.Dec.{leb}
+use lib.Ieee.{Float}
+use borrow.Author.Tests.{le-leb, lt-leb, leb-false}
+use Rattle.sketch.specs.Lists.{ite}
+use Rattle.sketch.specs.Drawing.{Drawing, view}
+use Rattle.image.specs.declared.ImageRead.{ImageRead}
+use Rattle.image.specs.declared.Operation.{Operation}
+use Rattle.image.specs.Image as I
+use Rattle.image.specs.Decode.{outcome, ReadAnswer}
+use Rattle.image.specs.Message.{operationOf}
+use Rattle.replication.specs.declared.Replica.{Replica}
+use Rattle.replication.specs.Protocol.{Edit}
+use Rattle.replication.specs.Transitions.{stateOf, UnmetPlace}
+use Rattle.mulkefi.specs.Outcomes.{CallOutcome, refused, onImage, isOperation, deskOn, wallOn}
+use Rattle.mulkefi.specs.Calls.{numberOf, bufferAfter, messageAfter, answerAfter, CallWritten, mkEdit, mkEditByNumber, deskCallOutcome, deskEditOutcome, DeskEditWritten, DeskCallWritten, wallCallOutcome, WallDeliveryWritten, WallCallWritten}
+use Rattle.mulkefi.proofs.Places.{unmet-none}
+
+-- ---- the reader's answer
+
+verdict-number : (m n : ℕ) (d e : Drawing) → I.resultOf m d ≡ I.resultOf n e → m ≡ n
+unfolding I.resultOf
+verdict-number zero zero d e h = refl
+verdict-number zero (suc n) d e h = let z : _≡_ {A = ℕ} 0 1 = cc in absurd (omega arith)
+verdict-number (suc m) zero d e h = let z : _≡_ {A = ℕ} 0 1 = cc in absurd (omega arith)
+verdict-number (suc m) (suc n) d e h = cc
+
+pub read-number : (r : ImageRead) (s : List ℕ) → outcome r ≡ I.parse s → r .refusal ≡ I.imageFault s
+read-number r s e = verdict-number (r .refusal) (I.imageFault s) (view (r .sketch)) (I.drawingOf s) e
+
+verdict-refused : (n : ℕ) (d : Drawing) → (n ≡ 0 → ⊥) → I.resultOf n d ≡ I.refused n
+unfolding I.resultOf
+verdict-refused zero d h = absurd (h refl)
+verdict-refused (suc n) d h = refl
+
+verdict-accepted : (n : ℕ) (d : Drawing) → n ≡ 0 → I.resultOf n d ≡ I.accepted d
+unfolding I.resultOf
+verdict-accepted zero d h = refl
+verdict-accepted (suc n) d h = absurd (omega arith)
+
+-- ---- the operation's number
+
+pub known-low : (n : ℕ) → n < 1 → isOperation n ≡ false
+known-low n h = rw (lt-leb 1 n h)
+
+pub known-high : (n : ℕ) → 3 < n → isOperation n ≡ false
+known-high n h = let low : 1 ≤ n = omega arith in rw (le-leb 1 n low, lt-leb n 3 h)
+
+pub known-is : (n : ℕ) → 1 ≤ n → n ≤ 3 → isOperation n ≡ true
+known-is n l h = rw (le-leb 1 n l, le-leb n 3 h)
+
+-- ---- the image at the buffer's front
+
+take-least : (n : ℕ) (l : List ℕ) → take (ite (leb n (length l)) n (length l)) l ≡ take n l
+take-least n l = go (leb n (length l)) refl
+  where
+    go : (t : Bool) → leb n (length l) ≡ t → take (ite t n (length l)) l ≡ take n l
+    go true e = refl
+    go false e = let h : length l ≤ n = omega (arith, leb-false n (length l) e) in take-all (length l) l (omega arith) ∙ sym (take-all n l h)
+
+module _ (b : List ℕ) (len size : ℕ) (f : size ≡ ite (leb len (length b)) len (length b)) (i : ImageRead) (h : ReadAnswer (take size b) i) where
+  parsed : I.parse (take len b) ≡ outcome i
+  parsed = ap I.parse (sym (ap (λ (n : ℕ). take n b) f ∙ take-least len b)) ∙ sym (h .told)
+
+  module _ (z : i .refusal ≡ 0 → ⊥) (r : ℕ) (n : r % 65536 ≡ i .refusal) (p : r / 65536 ≡ 0) where
+    unread : I.parse (take len b) ≡ I.refused (i .refusal)
+    unread = parsed ∙ verdict-refused (i .refusal) (view (i .sketch)) z
+
+    not-read : (d : Drawing) → I.parse (take len b) ≡ I.accepted d → ⊥
+    not-read d e =
+        let w : _≡_ {A = I.ParseResult} (I.refused (i .refusal)) (I.accepted d) = sym unread ∙ e in
+        let z : _≡_ {A = ℕ} 0 1 = cc in
+        omega arith
+
+    -- an image's refusal comes before all else, whatever the call would be
+    image-refused : (v : CallOutcome) (a : List ℕ) → v ≡ refused (i .refusal) → CallWritten v b b a a r
+    image-refused v a g =
+        record {
+          number = n ∙ sym (ap numberOf g);
+          no-place = λ x y. p;
+          image = sym (ap (λ (v : CallOutcome). bufferAfter v b) g);
+          numbers = sym (ap (λ (v : CallOutcome). answerAfter v a) g);
+        }
+
+    pub desk-unread : (count operation : ℕ) (e : Edit) (m a : List ℕ) → DeskCallWritten len count operation e b b m m a a r
+    desk-unread count operation e m a =
+        let g : deskCallOutcome b len count operation e (length m) ≡ refused (i .refusal) = ap (λ (o : I.ParseResult). onImage o count (deskOn (length b) operation (record { edit = e; room = length m }))) unread in
+        record {
+          served = image-refused _ a g;
+          written = sym (ap (λ (v : CallOutcome). messageAfter v e m) g);
+          place = λ d q. absurd (not-read d q);
+        }
+
+    pub wall-unread : (count : ℕ) (bytes a : List ℕ) → WallCallWritten len count bytes b b a a r
+    wall-unread count bytes a =
+        let g : wallCallOutcome b len count bytes ≡ refused (i .refusal) = ap (λ (o : I.ParseResult). onImage o count (wallOn (length b) bytes)) unread in
+        record { served = image-refused _ a g; place = λ d q. absurd (not-read d q) }
+
+  module _ (z : i .refusal ≡ 0) (count : ℕ) where
+    abbrev replica : Replica
+    replica = record { sketch = i .sketch; count = count }
+
+    read : I.parse (take len b) ≡ I.accepted (view (i .sketch))
+    read = parsed ∙ verdict-accepted (i .refusal) (view (i .sketch)) z
+
+    same : (d : Drawing) → I.parse (take len b) ≡ I.accepted d → view (i .sketch) ≡ d
+    same d e = let w : _≡_ {A = I.ParseResult} (I.accepted (view (i .sketch))) (I.accepted d) = sym read ∙ e in cc
+
+    module _ (operation : ℕ) where
+      desk-read : (e : Edit) (room : ℕ) → deskCallOutcome b len count operation e room ≡ deskOn (length b) operation (record { edit = e; room = room }) (stateOf replica)
+      desk-read e room = ap (λ (o : I.ParseResult). onImage o count (deskOn (length b) operation (record { edit = e; room = room }))) read
+
+      pub desk-unknown : isOperation operation ≡ false → (e : Edit) (m a : List ℕ) → DeskCallWritten len count operation e b b m m a a 6
+      desk-unknown k e m a =
+          let g : deskCallOutcome b len count operation e (length m) ≡ refused 6 = desk-read e (length m) ∙ rw k in
+          record {
+            served = record {
+              number = sym (ap numberOf g);
+              no-place = λ x y. refl;
+              image = sym (ap (λ (v : CallOutcome). bufferAfter v b) g);
+              numbers = sym (ap (λ (v : CallOutcome). answerAfter v a) g);
+            };
+            written = sym (ap (λ (v : CallOutcome). messageAfter v e m) g);
+            place = λ d q. unmet-none e d 6 0 (λ z. omega arith) (λ z. omega arith);
+          }
+
+      pub desk-served :
+          isOperation operation ≡ true → (o : Operation) → o ≡ operationOf operation → (curve : ℕ) (x y : Float) (b′ m m′ a a′ : List ℕ) (r : ℕ)
+          → DeskEditWritten replica (mkEdit o curve x y) b b′ m m′ a a′ r → DeskCallWritten len count operation (mkEditByNumber operation curve x y) b b′ m m′ a a′ r
+      desk-served k o q curve x y b′ m m′ a a′ r w =
+          let e = mkEditByNumber operation curve x y in
+          let w2 : DeskEditWritten replica e b b′ m m′ a a′ r = subst (λ (o : Operation). DeskEditWritten replica (mkEdit o curve x y) b b′ m m′ a a′ r) q w in
+          let g : deskCallOutcome b len count operation e (length m) ≡ deskEditOutcome replica e (length b) (length m) = desk-read e (length m) ∙ rw k in
+          record {
+            served = subst (λ (v : CallOutcome). CallWritten v b b′ a a′ r) (sym g) (w2 .served);
+            written = w2 .written ∙ sym (ap (λ (v : CallOutcome). messageAfter v e m) g);
+            place = λ d p. subst (λ (d : Drawing). UnmetPlace e d (r % 65536) (r / 65536)) (same d p) (w2 .place);
+          }
+
+    pub wall-served : (bytes b′ a a′ : List ℕ) (r : ℕ) → WallDeliveryWritten replica bytes b b′ a a′ r → WallCallWritten len count bytes b b′ a a′ r
+    wall-served bytes b′ a a′ r w =
+        let g : wallCallOutcome b len count bytes ≡ wallOn (length b) bytes (stateOf replica) = ap (λ (o : I.ParseResult). onImage o count (wallOn (length b) bytes)) read in
+        record {
+          served = subst (λ (v : CallOutcome). CallWritten v b b′ a a′ r) (sym g) (w .served);
+          place = λ d p n e o. subst (λ (d : Drawing). UnmetPlace e d (r % 65536) (r / 65536)) (same d p) (w .place n e o);
+        }

@@ -1,0 +1,13 @@
+-- `mulkefi::lent::min` meets its contract.
+use Rattle.replication.proofs.Program.{least-first, least-second}
+use Rattle.mulkefi.proofs.buffers.min.Statement.{statement}
+use Rattle.mulkefi.proofs.buffers.min.Tie as tie
+
+returns : tie.Need-returns
+returns c = least-first _ _ (c .if1 .taken)
+
+returns-2 : tie.Need-returns-2
+returns-2 c = least-second _ _ (c .if1 .left)
+
+pub min-spec : {M : Type 1} → statement M
+min-spec = tie.close (tie.spec returns returns-2)

@@ -1,0 +1,107 @@
+-- What a call on lent memory answers and leaves there. Definitions only.
+use Prim.Native.Nat.{ℕ, _/_, _%_}
+use mathlib.Core.Path.{_≡_}
+use mathlib.Core.List.{List}
+use lib.ListN.{length, take, set}
+use lib.Ieee.{Float}
+use Rattle.big_endian.specs.Fields.{over}
+use Rattle.sketch.specs.Drawing.{Drawing, view}
+use Rattle.image.specs.declared.Operation.{Operation}
+use Rattle.image.specs.Image as I
+use Rattle.image.specs.Encode as E
+use Rattle.image.specs.Message as M
+use Rattle.image.specs.Message.{operationOf}
+use Rattle.edit_plan.specs.declared.Removed.{Removed}
+use Rattle.edit_plan.specs.Steps.{nothing}
+use Rattle.agreement.specs.Machines.{State, message, callOutcome}
+use Rattle.replication.specs.declared.Replica.{Replica}
+use Rattle.replication.specs.Protocol.{Edit, messageFor, protocol}
+use Rattle.replication.specs.Transitions.{stateOf, UnmetPlace, NoPlace}
+use Rattle.mulkefi.specs.Outcomes.{CallOutcome, refused, old, updated, onImage, deskOutcome, deskOn, wallOn}
+
+-- the refusal's number, or 0
+abbrev pub numberOf : CallOutcome → ℕ
+numberOf (refused k) = k
+numberOf (old s) = 0
+numberOf (updated s r) = 0
+
+-- the new image at the buffer's front, the rest as it was
+abbrev pub bufferAfter : CallOutcome → List ℕ → List ℕ
+bufferAfter (refused k) b = b
+bufferAfter (old s) b = b
+bufferAfter (updated s r) b = over b 0 (E.encode (s .drawing))
+
+-- the message of the edit and its number at the front, the rest as it was
+abbrev pub messageAfter : CallOutcome → Edit → List ℕ → List ℕ
+messageAfter (refused k) e m = m
+messageAfter (old s) e m = m
+messageAfter (updated s r) e m = over m 0 (M.encode (messageFor (s .count) e))
+
+-- a side's count, its image's size, and a report of a curve and its ends
+abbrev pub answerFor : List ℕ → State Drawing → Removed → List ℕ
+answerFor a s r = set (set (set (set (set a 0 (s .count)) 1 (E.drawingSize (s .drawing))) 2 (r .curve)) 3 (r .from)) 4 (r .to)
+
+-- an old message changes nothing: the answer tells what stands
+abbrev pub answerAfter : CallOutcome → List ℕ → List ℕ
+answerAfter (refused k) a = a
+answerAfter (old s) a = answerFor a s nothing
+answerAfter (updated s r) a = answerFor a s r
+
+-- a side shown: the number, what is left in the buffer, the answer
+pub record ResultWritten (v : CallOutcome) (buffer buffer′ answer answer′ : List ℕ) (r : ℕ) : Type 0 where
+  pub number : r ≡ numberOf v
+  pub image : buffer′ ≡ bufferAfter v buffer
+  pub numbers : answer′ ≡ answerAfter v answer
+
+-- what desk and wall answer alike: the low 16 bits are the number, those above a relation's place, 0 where the number comes with none
+pub record CallWritten (v : CallOutcome) (buffer buffer′ answer answer′ : List ℕ) (r : ℕ) : Type 0 where
+  pub number : r % 65536 ≡ numberOf v
+  pub no-place : NoPlace (numberOf v) (r / 65536)
+  pub image : buffer′ ≡ bufferAfter v buffer
+  pub numbers : answer′ ≡ answerAfter v answer
+
+-- ---- the desk
+
+-- an operation on a curve, picked at a place
+abbrev pub mkEdit : Operation → ℕ → Float → Float → Edit
+mkEdit operation curve x y = record { operation = operation; curve = curve; at = record { x = x; y = y } }
+
+-- the same, the operation by its number
+abbrev pub mkEditByNumber : ℕ → ℕ → Float → Float → Edit
+mkEditByNumber operation curve x y = mkEdit (operationOf operation) curve x y
+
+-- the image is the first `len` bytes of the buffer, all of it where it is shorter; `room` is lent for the message
+abbrev pub deskCallOutcome : List ℕ → ℕ → ℕ → ℕ → Edit → ℕ → CallOutcome
+deskCallOutcome buffer len count operation e room =
+    onImage (I.parse (take len buffer)) count (deskOn (length buffer) operation (record { edit = e; room = room }))
+
+-- the verdict's answer; the message; and the place that comes with 13 or 19
+pub record DeskCallWritten (len count operation : ℕ) (e : Edit) (buffer buffer′ message message′ answer answer′ : List ℕ) (r : ℕ) : Type 0 where
+  pub served : CallWritten (deskCallOutcome buffer len count operation e (length message)) buffer buffer′ answer answer′ r
+  pub written : message′ ≡ messageAfter (deskCallOutcome buffer len count operation e (length message)) e message
+  pub place : (d : Drawing) → I.parse (take len buffer) ≡ I.accepted d → UnmetPlace e d (r % 65536) (r / 65536)
+
+-- the same on a screen
+abbrev pub deskEditOutcome : Replica → Edit → ℕ → ℕ → CallOutcome
+deskEditOutcome s e buffer room = deskOutcome buffer (callOutcome protocol (stateOf s) (record { edit = e; room = room }))
+
+pub record DeskEditWritten (s : Replica) (e : Edit) (buffer buffer′ message message′ answer answer′ : List ℕ) (r : ℕ) : Type 0 where
+  pub served : CallWritten (deskEditOutcome s e (length buffer) (length message)) buffer buffer′ answer answer′ r
+  pub written : message′ ≡ messageAfter (deskEditOutcome s e (length buffer) (length message)) e message
+  pub place : UnmetPlace e (view (s .sketch)) (r % 65536) (r / 65536)
+
+-- ---- the wall
+
+-- the image as at the desk, and a message's bytes
+abbrev pub wallCallOutcome : List ℕ → ℕ → ℕ → List ℕ → CallOutcome
+wallCallOutcome buffer len count bytes = onImage (I.parse (take len buffer)) count (wallOn (length buffer) bytes)
+
+-- the verdict's answer, and the place that comes with 13 or 19
+pub record WallCallWritten (len count : ℕ) (bytes buffer buffer′ answer answer′ : List ℕ) (r : ℕ) : Type 0 where
+  pub served : CallWritten (wallCallOutcome buffer len count bytes) buffer buffer′ answer answer′ r
+  pub place : (d : Drawing) → I.parse (take len buffer) ≡ I.accepted d → (n : ℕ) (e : Edit) → protocol .decode bytes ≡ message n e → UnmetPlace e d (r % 65536) (r / 65536)
+
+-- the same on a screen
+pub record WallDeliveryWritten (s : Replica) (bytes buffer buffer′ answer answer′ : List ℕ) (r : ℕ) : Type 0 where
+  pub served : CallWritten (wallOn (length buffer) bytes (stateOf s)) buffer buffer′ answer answer′ r
+  pub place : (n : ℕ) (e : Edit) → protocol .decode bytes ≡ message n e → UnmetPlace e (view (s .sketch)) (r % 65536) (r / 65536)

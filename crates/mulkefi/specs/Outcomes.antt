@@ -1,0 +1,56 @@
+-- What a call on lent memory comes to: the image's refusal, then the desk's or the wall's own, then the room for the new image. Definitions only.
+use Prim.Native.Nat.{ℕ}
+use mathlib.Core.Bool.{Bool, _&&_}
+use mathlib.Core.List.{List}
+use lib.Dec.{leb}
+use Rattle.sketch.specs.Lists.{ite}
+use Rattle.sketch.specs.Drawing.{Drawing}
+use Rattle.image.specs.Image as I
+use Rattle.image.specs.Encode.{drawingSize}
+use Rattle.edit_plan.specs.declared.Removed.{Removed}
+use Rattle.edit_plan.specs.Outcome as O
+use Rattle.agreement.specs.Machines as M
+use Rattle.agreement.specs.Machines.{State, Call, callOutcome, WallReply, wallTransition}
+use Rattle.replication.specs.Protocol.{Edit, protocol}
+
+-- refused by a number; old, with the state unchanged; or updated to a state, with a report
+pub data CallOutcome : Type 0 where
+  refused : ℕ → CallOutcome
+  old : State Drawing → CallOutcome
+  updated : State Drawing → Removed → CallOutcome
+
+-- 25 where the new state's image does not fit into the buffer
+abbrev pub ifImageFits : ℕ → State Drawing → Removed → CallOutcome
+ifImageFits room s r = ite (leb (drawingSize (s .drawing)) room) (updated s r) (refused 25)
+
+-- a call on the image's drawing and the count that came with it; an image's refusal comes before all else
+abbrev pub onImage : I.ParseResult → ℕ → (State Drawing → CallOutcome) → CallOutcome
+onImage (I.refused k) count f = refused k
+onImage (I.accepted d) count f = f (record { drawing = d; count = count })
+
+-- ---- the desk
+
+-- trim, split and extend have the numbers 1 to 3
+abbrev pub isOperation : ℕ → Bool
+isOperation operation = leb 1 operation && leb operation 3
+
+-- what the desk's call came to, and then the room
+abbrev pub deskOutcome : ℕ → O.Outcome (State Drawing) Removed → CallOutcome
+deskOutcome room (O.refused k) = refused k
+deskOutcome room (O.accepted s r) = ifImageFits room s r
+
+-- 6 for an unknown operation, before what the desk refuses
+abbrev pub deskOn : ℕ → ℕ → Call Edit → State Drawing → CallOutcome
+deskOn room operation call s = ite (isOperation operation) (deskOutcome room (callOutcome protocol s call)) (refused 6)
+
+-- ---- the wall
+
+-- what the wall told, and then the room
+abbrev pub wallOutcome : ℕ → State Drawing → WallReply Removed → CallOutcome
+wallOutcome room s (M.wallRefused k) = refused k
+wallOutcome room s M.wallOld = old s
+wallOutcome room s (M.wallApplied r) = ifImageFits room s r
+
+-- the message's refusals, old, ahead, and the edit's, as the wall has them
+abbrev pub wallOn : ℕ → List ℕ → State Drawing → CallOutcome
+wallOn room message s = wallOutcome room (wallTransition protocol s (protocol .decode message) .0) (wallTransition protocol s (protocol .decode message) .1)

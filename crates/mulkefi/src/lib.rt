@@ -1,0 +1,28 @@
+// The engine for a host in C or Rust: calls in C's convention on memory that is lent for the call.
+mod buffers;
+mod desk;
+mod polynomials;
+mod wall;
+
+ghost use mathlib.Core.Path.{_≡_};
+ghost use Prim.Native.Nat.{_+_, _*_};
+ghost use Rattle.image.specs.Image as I;
+ghost use Rattle.image.specs.Message as M;
+
+// The image's version, times 256, and the message's.
+#[no_mangle]
+pub extern "C" fn mulkefi_versions() -> u32
+    ensures { λ r. ⌜ r ≡ I.version * 256 + M.version ⌝ }
+{
+    let v = image::versions();
+    v.image as u32 * 256 + v.message as u32
+}
+
+// The number that an image is refused by, or 0.
+#[no_mangle]
+pub extern "C" fn mulkefi_test(bytes: &[u8]) -> u32
+    ensures { λ r. ⌜ r ≡ I.imageFault (now (bytes .entry)) ⌝ }
+{
+    let r = image::read(bytes);
+    r.refusal as u32
+}

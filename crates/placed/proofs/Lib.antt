@@ -1,4 +1,0 @@
--- The laws of columns that other crates cite.
-pub mod Found
-pub mod Laid
-pub mod Shapes

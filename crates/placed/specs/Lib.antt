@@ -1,3 +1,0 @@
--- What the contracts of `placed` cite.
-pub mod Placed
-pub mod Columns

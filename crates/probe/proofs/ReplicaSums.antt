@@ -1,0 +1,104 @@
+-- What a desk's edit and a delivery add to a sum: one law for each thing told.
+use mathlib.Core.Path.{_≡_, refl, sym, ap, _∙_, subst}
+use mathlib.Core.List.{List}
+use Prim.Native.Nat.{ℕ, _+_, _%_, _^_, _≤_}
+use native.Mathlib.Omega.{arith}
+use lib.ListN.{length, take}
+use lib.Seq.{take-all}
+use lib.Ieee.{Float}
+use Rattle.sketch.specs.Drawing.{Drawing}
+use Rattle.image.specs.Image.{drawingOf}
+use Rattle.image.specs.Message.{operationOf}
+use Rattle.image.specs.declared.Operation.{Operation}
+use Rattle.edit_plan.specs.declared.Removed.{Removed}
+use Rattle.edit_plan.specs.Outcome.{Outcome, refused, accepted}
+use Rattle.agreement.specs.Machines as M
+use Rattle.agreement.specs.Machines.{State, stateAfter}
+use Rattle.replication.specs.declared.DeskReply.{DeskReply}
+use Rattle.replication.specs.declared.DeskReply.the-variants as Desk
+use Rattle.replication.specs.declared.WallReply.{WallReply}
+use Rattle.replication.specs.declared.WallReply.the-variants as Wall
+use Rattle.replication.specs.Protocol.{Edit, protocol}
+use Rattle.replication.specs.Transitions.{deskReply, wallReply}
+use Rattle.replication.specs.Program.{programOutcome, WritesOutcome}
+use Rattle.probe.specs.Edits.{repeated}
+use Rattle.probe.specs.Replicas.{imageState, deskTally, deskAdds, wallTally, wallAdds}
+
+module _ (e : Edit) (m : List ℕ) (reply : DeskReply) where
+  pub desk-declined : (o : Outcome (State Drawing) Removed) (n place : ℕ) → reply ≡ Desk.Refused n place → deskReply reply m ≡ M.replyTo protocol e o → n ≡ deskTally o
+  unfolding deskTally
+  desk-declined (refused k) n place q h =
+      let w : _≡_ {A = M.DeskReply Removed} (M.deskRefused n) (M.deskRefused k) = ap (λ x. deskReply x m) (sym q) ∙ h in
+      cc
+  desk-declined (accepted t r) n place q h =
+      let w : _≡_ {A = M.DeskReply Removed} (M.deskRefused n) (M.replyTo protocol e (accepted t r)) = ap (λ x. deskReply x m) (sym q) ∙ h in
+      let z : _≡_ {A = ℕ} 0 1 = cc in
+      absurd (omega arith)
+
+  pub desk-done :
+      (o : Outcome (State Drawing) Removed) (was now : State Drawing) (gone : Removed) → reply ≡ Desk.Accepted gone → deskReply reply m ≡ M.replyTo protocol e o → now ≡ stateAfter was o
+      → {k : ℕ} → k ≡ (now .count + 256) % 2 ^ 32 → k ≡ deskTally o
+  unfolding deskTally
+  desk-done (refused k) was now gone q h g f =
+      let w : _≡_ {A = M.DeskReply Removed} (M.deskAccepted gone m) (M.deskRefused k) = ap (λ x. deskReply x m) (sym q) ∙ h in
+      let z : _≡_ {A = ℕ} 0 1 = cc in
+      absurd (omega arith)
+  desk-done (accepted t r) was now gone q h g f = f ∙ ap (λ (x : State Drawing). (x .count + 256) % 2 ^ 32) g
+
+module _ (reply : WallReply) where
+  pub wall-rejected : (o : State Drawing × M.WallReply Removed) (n place : ℕ) → reply ≡ Wall.Refused n place → wallReply reply ≡ o .1 → n ≡ wallTally o
+  unfolding wallTally
+  wall-rejected (s, M.wallRefused k) n place q h =
+      let w : _≡_ {A = M.WallReply Removed} (M.wallRefused n) (M.wallRefused k) = ap wallReply (sym q) ∙ h in
+      cc
+  wall-rejected (s, M.wallOld) n place q h =
+      let w : _≡_ {A = M.WallReply Removed} (M.wallRefused n) M.wallOld = ap wallReply (sym q) ∙ h in
+      let z : _≡_ {A = ℕ} 0 1 = cc in
+      absurd (omega arith)
+  wall-rejected (s, M.wallApplied r) n place q h =
+      let w : _≡_ {A = M.WallReply Removed} (M.wallRefused n) (M.wallApplied r) = ap wallReply (sym q) ∙ h in
+      let z : _≡_ {A = ℕ} 0 1 = cc in
+      absurd (omega arith)
+
+  pub wall-old : (o : State Drawing × M.WallReply Removed) → reply ≡ Wall.Old → wallReply reply ≡ o .1 → 256 ≡ wallTally o
+  unfolding wallTally
+  wall-old (s, M.wallRefused k) q h =
+      let w : _≡_ {A = M.WallReply Removed} M.wallOld (M.wallRefused k) = ap wallReply (sym q) ∙ h in
+      let z : _≡_ {A = ℕ} 0 1 = cc in
+      absurd (omega arith)
+  wall-old (s, M.wallOld) q h = refl
+  wall-old (s, M.wallApplied r) q h =
+      let w : _≡_ {A = M.WallReply Removed} M.wallOld (M.wallApplied r) = ap wallReply (sym q) ∙ h in
+      let z : _≡_ {A = ℕ} 0 1 = cc in
+      absurd (omega arith)
+
+  pub wall-applied : (o : State Drawing × M.WallReply Removed) (now : State Drawing) (gone : Removed) → reply ≡ Wall.Applied gone → wallReply reply ≡ o .1 → now ≡ o .0 → {k : ℕ} → k ≡ (now .count + 256) % 2 ^ 32 → k ≡ wallTally o
+  unfolding wallTally
+  wall-applied (s, M.wallRefused k) now gone q h g f =
+      let w : _≡_ {A = M.WallReply Removed} (M.wallApplied gone) (M.wallRefused k) = ap wallReply (sym q) ∙ h in
+      let z : _≡_ {A = ℕ} 0 1 = cc in
+      absurd (omega arith)
+  wall-applied (s, M.wallOld) now gone q h g f =
+      let w : _≡_ {A = M.WallReply Removed} (M.wallApplied gone) M.wallOld = ap wallReply (sym q) ∙ h in
+      let z : _≡_ {A = ℕ} 0 1 = cc in
+      absurd (omega arith)
+  wall-applied (s, M.wallApplied r) now gone q h g f = f ∙ ap (λ (x : State Drawing). (x .count + 256) % 2 ^ 32) g
+
+-- ---- so many of one side, with what an image gives
+
+pub desk-read :
+    (s : List ℕ) (count op t : ℕ) (x y : Float) (times : ℕ) {d : Drawing} {op′ : Operation} {n : ℕ} → d ≡ drawingOf s → op′ ≡ operationOf op
+    → n ≡ repeated times (deskAdds op′ t x y (record { drawing = d; count = count })) → n ≡ repeated times (deskAdds (operationOf op) t x y (imageState s count))
+desk-read s count op t x y times {d} {op′} v e q =
+    q ∙ ap (λ o. repeated times (deskAdds o t x y (record { drawing = d; count = count }))) e
+    ∙ ap (λ z. repeated times (deskAdds (operationOf op) t x y (record { drawing = z; count = count }))) v
+
+pub wall-read :
+    (s : List ℕ) (count : ℕ) (m : List ℕ) (times : ℕ) {d : Drawing} {n : ℕ} → d ≡ drawingOf s
+    → n ≡ repeated times (wallAdds m (record { drawing = d; count = count })) → n ≡ repeated times (wallAdds m (imageState s count))
+wall-read s count m times v q = q ∙ ap (λ z. repeated times (wallAdds m (record { drawing = z; count = count }))) v
+
+-- ---- the wall's program looks at 65,536 bytes
+
+pub read-whole : (s : List ℕ) {before later : List ℕ} {n : ℕ} → length s ≤ 65536 → WritesOutcome (programOutcome s) before later n → WritesOutcome (programOutcome (take 65536 s)) before later n
+read-whole s {before} {later} {n} h w = subst (λ (l : List ℕ). WritesOutcome (programOutcome l) before later n) (sym (take-all 65536 s h)) w

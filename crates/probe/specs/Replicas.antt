@@ -1,0 +1,45 @@
+-- What a desk's edit and a delivery add to a sum of many. Definitions only.
+use Prim.Native.Nat.{ℕ, _+_, _%_, _^_}
+use mathlib.Core.List.{List}
+use lib.Ieee.{Float}
+use Rattle.sketch.specs.Lists.{guardNumber}
+use Rattle.sketch.specs.Drawing.{Drawing}
+use Rattle.image.specs.Image.{drawingOf}
+use Rattle.image.specs.Message.{operationOf}
+use Rattle.image.specs.declared.Operation.{Operation}
+use Rattle.edit_plan.specs.declared.Removed.{Removed}
+use Rattle.edit_plan.specs.Outcome.{Outcome, refused, accepted}
+use Rattle.agreement.specs.Machines.{State, WallReply, wallRefused, wallOld, wallApplied, callOutcome, wallTransition}
+use Rattle.replication.specs.Protocol.{protocol}
+use Rattle.probe.specs.Edits.{isOperation, ofImage, repeated}
+
+-- an image's drawing after so many edits
+abbrev pub imageState : List ℕ → ℕ → State Drawing
+imageState s count = record { drawing = drawingOf s; count = count }
+
+-- ---- the desk, with room for the message
+
+-- a refusal's number, or 256 and the count
+unfoldable pub deskTally : Outcome (State Drawing) Removed → ℕ
+deskTally (refused n) = n
+deskTally (accepted t r) = (t .count + 256) % 2 ^ 32
+
+abbrev pub deskAdds : Operation → ℕ → Float → Float → State Drawing → ℕ
+deskAdds op t x y s = deskTally (callOutcome protocol s (record { edit = record { operation = op; curve = t; at = record { x = x; y = y } }; room = 30 }))
+
+abbrev pub desksSum : List ℕ → ℕ → ℕ → ℕ → Float → Float → ℕ → ℕ
+desksSum s count op t x y times = ofImage s (guardNumber (isOperation op) 6 (repeated times (deskAdds (operationOf op) t x y (imageState s count))))
+
+-- ---- the wall
+
+-- a refusal's number, 256 for an old message, 256 and the count for an edit
+unfoldable pub wallTally : State Drawing × WallReply Removed → ℕ
+wallTally (s, wallRefused n) = n
+wallTally (s, wallOld) = 256
+wallTally (s, wallApplied r) = (s .count + 256) % 2 ^ 32
+
+abbrev pub wallAdds : List ℕ → State Drawing → ℕ
+wallAdds m s = wallTally (wallTransition protocol s (protocol .decode m))
+
+abbrev pub wallsSum : List ℕ → ℕ → List ℕ → ℕ → ℕ
+wallsSum s count m times = ofImage s (repeated times (wallAdds m (imageState s count)))

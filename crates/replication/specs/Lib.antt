@@ -1,0 +1,6 @@
+-- Desk, wall and book on real drawings, and the claim over both whole lists.
+pub mod Protocol
+pub mod Transitions
+pub mod Replication
+pub mod Program
+pub mod RunBoth

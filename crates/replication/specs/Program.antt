@@ -1,0 +1,61 @@
+-- What the wall's program writes for what it reads: an image, then messages of 30 bytes, a shorter rest as it is. Definitions only.
+use Prim.Native.Nat.{ℕ, zero, suc, _+_, _≤_}
+use mathlib.Core.Path.{_≡_}
+use mathlib.Core.List.{List, [], _∷_}
+use lib.ListN.{length, take, drop}
+use lib.Dec.{leb}
+use Rattle.big_endian.specs.Fields.{field, over}
+use Rattle.sketch.specs.Lists.{ite}
+use Rattle.sketch.specs.Drawing.{Drawing}
+use Rattle.sketch.specs.Valid.{sketchFault}
+use Rattle.image.specs.Image as I
+use Rattle.image.specs.Encode.{encode, drawingSize}
+use Rattle.agreement.specs.Machines.{State, initial, wallTransition}
+use Rattle.replication.specs.declared.Replica.{Replica}
+use Rattle.replication.specs.Protocol.{protocol}
+use Rattle.replication.specs.Transitions.{stateOf}
+
+-- how far the image goes: four bytes, and as many as they tell
+abbrev pub imageEnd : List ℕ → ℕ
+imageEnd s = 4 + field s 0 4
+
+-- at most n messages
+abbrev pub chunksUpTo : ℕ → List ℕ → List (List ℕ)
+chunksUpTo zero s = []
+chunksUpTo (suc n) [] = []
+chunksUpTo (suc n) (b ∷ s) = take 30 (b ∷ s) ∷ chunksUpTo n (drop 30 (b ∷ s))
+
+abbrev pub chunks : List ℕ → List (List ℕ)
+chunks s = chunksUpTo (length s) s
+
+-- the wall after some messages, whatever they tell
+abbrev pub wallAfterMessages : State Drawing → List (List ℕ) → State Drawing
+wallAfterMessages s [] = s
+wallAfterMessages s (m ∷ ms) = wallAfterMessages (wallTransition protocol s (protocol .decode m) .0) ms
+
+abbrev pub outcomeOn : I.ParseResult → List (List ℕ) → I.ParseResult
+outcomeOn (I.refused k) ms = I.refused k
+outcomeOn (I.accepted d) ms = I.accepted (wallAfterMessages (initial d) ms .drawing)
+
+abbrev pub programOutcome : List ℕ → I.ParseResult
+programOutcome s = outcomeOn (I.parse (take (imageEnd s) s)) (chunks (drop (imageEnd s) s))
+
+-- the last image; or for a refused image two bytes after their length: a version, and the number
+abbrev pub output : I.ParseResult → List ℕ
+output (I.refused k) = 0 ∷ 0 ∷ 0 ∷ 2 ∷ 1 ∷ k ∷ []
+output (I.accepted d) = encode d
+
+abbrev pub outputSize : I.ParseResult → ℕ
+outputSize (I.refused k) = 6
+outputSize (I.accepted d) = drawingSize d
+
+-- the output at the buffer's front and its size, the rest as it was; or 0 and all as it was where the buffer is too short
+pub record WritesOutcome (o : I.ParseResult) (before later : List ℕ) (r : ℕ) : Type 0 where
+  pub size : r ≡ ite (leb (outputSize o) (length before)) (outputSize o) 0
+  pub buffer : later ≡ ite (leb (outputSize o) (length before)) (over before 0 (output o)) before
+  pub within : r ≤ length before
+
+-- a screen after the messages in some bytes
+pub record DeliversAll (s : Replica) (bytes : List ℕ) (r : Replica) : Type 0 where
+  pub is : stateOf r ≡ wallAfterMessages (stateOf s) (chunks bytes)
+  pub valid : sketchFault (r .sketch) ≡ 0

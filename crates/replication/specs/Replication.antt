@@ -1,0 +1,35 @@
+-- Demand 3 on real drawings: desk and wall agree with the reference machine, each starting line and arc has its chain, and each replica's drawing is the edits'
+-- definition folded over the image's drawing. Definitions only.
+use mathlib.Core.Path.{_≡_}
+use mathlib.Core.List.{List, [], _∷_, _++_, map}
+use lib.ListN.{take}
+use Rattle.sketch.specs.Drawing.{Drawing, limits}
+use Rattle.edit_plan.specs.declared.Removed.{Removed}
+use Rattle.edit_plan.specs.Outcome.{Outcome, accepted, _then_}
+use Rattle.modify.specs.Edits.{editOf}
+use Rattle.agreement.specs.Machines.{initial, Entry, acceptedLog, DeskStep, calls, deskAfter, WallStep, wallAfter}
+use Rattle.agreement.specs.Families.{reports}
+use Rattle.agreement.specs.Demand.{Demand3}
+use Rattle.chains.specs.CurveView.{curveView}
+use Rattle.replication.specs.Protocol.{Edit, protocol, target}
+
+-- edits one after the other, by their definition, with what each reports
+abbrev pub applyEdits : Drawing → List Edit → Outcome Drawing (List Removed)
+applyEdits d [] = accepted d []
+applyEdits d (e ∷ es) = editOf (e .operation) limits d (e .curve) (e .at) then (λ d′ r. applyEdits d′ es then (λ d″ rs. accepted d″ (r ∷ rs)))
+
+abbrev pub edits : List (Entry Drawing Edit Removed) → List Edit
+edits l = map (λ x. x .edit) l
+
+pub record ReplicationCorrect (start : Drawing) (desk : List (DeskStep Drawing Edit Removed)) (wall : List (WallStep Drawing Removed)) : Type 0 where
+  pub demand : Demand3 protocol curveView target start desk wall
+  -- at its start and after each call the desk has the drawing of the edits accepted so far
+  pub desk-drawn :
+      (before later : List (DeskStep Drawing Edit Removed)) → desk ≡ before ++ later
+      → applyEdits start (edits (acceptedLog protocol (initial start) (calls before)))
+      ≡ accepted (deskAfter (initial start) before .drawing) (reports (acceptedLog protocol (initial start) (calls before)))
+  -- at its start and after each delivery the wall has the drawing of the first of the desk's accepted edits, as many as it counts
+  pub wall-drawn :
+      (before later : List (WallStep Drawing Removed)) → wall ≡ before ++ later
+      → applyEdits start (edits (take (wallAfter (initial start) before .count) (acceptedLog protocol (initial start) (calls desk))))
+      ≡ accepted (wallAfter (initial start) before .drawing) (reports (take (wallAfter (initial start) before .count) (acceptedLog protocol (initial start) (calls desk))))

@@ -1,0 +1,120 @@
+-- Both whole lists in one run: edits to the desk, then the desk's messages to the wall, in any order. Definitions only.
+use Prim.Native.Nat.{ℕ, _+_, _*_, _-_, _/_, _≤_, _<_, zero, suc}
+use mathlib.Core.Path.{_≡_}
+use mathlib.Core.Bool.{Bool, _&&_}
+use mathlib.Core.List.{List, [], _∷_, _++_, map}
+use lib.ListN.{length, take, drop, getD}
+use lib.Dec.{leb, ltb}
+use lib.Ieee.{ofBits, binary64}
+use Rattle.big_endian.specs.Fields.{field}
+use Rattle.sketch.specs.Lists.{every, guardNumber}
+use Rattle.sketch.specs.Drawing.{Drawing}
+use Rattle.sketch.specs.Valid.{sketchFault}
+use Rattle.image.specs.Message.{operationOf}
+use Rattle.image.specs.Image as I
+use Rattle.cuts.specs.Columns.{rows}
+use Rattle.edit_plan.specs.declared.Removed.{Removed}
+use Rattle.agreement.specs.Machines.{initial, Call, acceptedLog, DeskStep, calls, deskAfter, messages, DeskRun, WallStep, wallAfter, WallRun}
+use Rattle.replication.specs.declared.Replica.{Replica}
+use Rattle.replication.specs.declared.RunResult.{RunResult}
+use Rattle.replication.specs.Protocol.{Edit, protocol}
+use Rattle.replication.specs.Transitions.{stateOf}
+use Rattle.replication.specs.Replication.{ReplicationCorrect}
+
+-- the first number of two that is not 0
+abbrev pub firstNonzero : ℕ → ℕ → ℕ
+firstNonzero zero m = m
+firstNonzero (suc n) m = suc n
+
+-- ---- the desk's list, 22 bytes a call: operation, curve 4, the pick's bits 8 and 8, the room lent
+
+abbrev pub editAt : List ℕ → ℕ → Edit
+editAt s at =
+    record {
+      operation = operationOf (field s at 1);
+      curve = field s (at + 1) 4;
+      at = record { x = ofBits binary64 (field s (at + 5) 8); y = ofBits binary64 (field s (at + 13) 8) };
+    }
+
+abbrev pub callAt : List ℕ → ℕ → Call Edit
+callAt s i = record { edit = editAt s (i * 22); room = field s (i * 22 + 21) 1 }
+
+-- a shorter rest is passed over
+abbrev pub callsIn : List ℕ → List (Call Edit)
+callsIn s = rows (length s / 22) (callAt s)
+
+-- ---- the wall's list: which of the desk's messages, by place
+
+abbrev pub messagesAt : List (List ℕ) → List ℕ → List (List ℕ)
+messagesAt ms order = map (λ o. getD ms o []) order
+
+-- ---- who is turned away: the image; a log that may not hold all messages and the room lent beside them (25); a place at which there is no message (7)
+
+abbrev pub hasRoom : ℕ → ℕ → Bool
+hasRoom size room = leb 255 room && leb (size / 22) ((room - 255) / 30)
+
+abbrev pub allBelow : ℕ → List ℕ → Bool
+allBelow n order = every (λ o. ltb o n) order
+
+abbrev pub runBothFault : List ℕ → List ℕ → List ℕ → ℕ → ℕ
+runBothFault image entries order room =
+    firstNonzero (I.imageFault image)
+    (guardNumber (hasRoom (length entries) room) 25
+    (guardNumber (allBelow (length (acceptedLog protocol (initial (I.drawingOf image)) (callsIn entries))) order) 7 0))
+
+-- ---- what is held: the calls and deliveries as they happened, each list whole, and the claim over both
+
+pub record RunHolds (image entries order : List ℕ) (r : RunResult) : Type 0 where
+  pub start : Drawing
+  pub image-is : I.parse image ≡ I.accepted start
+  pub desk : List (DeskStep Drawing Edit Removed)
+  pub wall : List (WallStep Drawing Removed)
+  pub desk-run : DeskRun protocol (initial start) desk
+  pub wall-run : WallRun protocol (initial start) wall
+  pub desk-fed : calls desk ≡ callsIn entries
+  pub wall-fed : map (λ (x : WallStep Drawing Removed). x .bytes) wall ≡ messagesAt (messages desk) order
+  pub desk-ends : deskAfter (initial start) desk ≡ stateOf (r .desk)
+  pub wall-ends : wallAfter (initial start) wall ≡ stateOf (r .wall)
+  pub correct : ReplicationCorrect start desk wall
+
+pub record RunsBoth (image entries order : List ℕ) (room : ℕ) (r : RunResult) : Type 0 where
+  pub number : r .refusal ≡ runBothFault image entries order room
+  pub held : r .refusal ≡ 0 → RunHolds image entries order r
+
+-- ---- the two halves
+
+abbrev pub concat : List (List ℕ) → List ℕ
+concat [] = []
+concat (m ∷ ms) = m ++ concat ms
+
+abbrev pub MessageSized : List (List ℕ) → Type 0
+MessageSized [] = Unit {0}
+MessageSized (m ∷ ms) = (length m ≡ 30) × MessageSized ms
+
+-- a run of the desk over some calls, its messages one after the other at the front of the log
+pub record DeskRan (start : Drawing) (cs : List (Call Edit)) (log : List ℕ) (t : Replica) : Type 0 where
+  pub steps : List (DeskStep Drawing Edit Removed)
+  pub run : DeskRun protocol (initial start) steps
+  pub fed : calls steps ≡ cs
+  pub ends : deskAfter (initial start) steps ≡ stateOf t
+  pub logged : concat (messages steps) ≡ take (30 * t .count) log
+  pub fits : 30 * t .count ≤ length log
+  pub many : length (messages steps) ≡ t .count
+  pub few : t .count ≤ length cs
+  pub sizes : MessageSized (messages steps)
+  pub valid : sketchFault (t .sketch) ≡ 0
+
+-- a run of the wall over the messages at some places of a log
+abbrev pub messagesInLog : List ℕ → List ℕ → List (List ℕ)
+messagesInLog log order = map (λ o. take 30 (drop (30 * o) log)) order
+
+pub record WallRan (s : Replica) (ds : List (List ℕ)) (t : Replica) : Type 0 where
+  pub steps : List (WallStep Drawing Removed)
+  pub run : WallRun protocol (stateOf s) steps
+  pub fed : map (λ (x : WallStep Drawing Removed). x .bytes) steps ≡ ds
+  pub ends : wallAfter (stateOf s) steps ≡ stateOf t
+  pub valid : sketchFault (t .sketch) ≡ 0
+
+-- each place's message lies in the log
+abbrev pub InLog : List ℕ → List ℕ → Type 0
+InLog log order = (k : ℕ) → k < length order → 30 * getD order k 0 + 30 ≤ length log

@@ -1,0 +1,167 @@
+-- The contracts of desk and wall: each call is a step of the machines of `agreement`. Definitions only.
+use Prim.Native.Nat.{ℕ}
+use mathlib.Core.Path.{_≡_}
+use mathlib.Core.Bool.{true, _||_}
+use mathlib.Core.List.{List, [], _∷_}
+use lib.ListN.{length, take}
+use lib.Dec.{eqb}
+use lib.Ieee.{Float}
+use Rattle.big_endian.specs.Fields.{over}
+use Rattle.sketch.specs.Lists.{ite, guardNumber}
+use Rattle.sketch.specs.declared.Sketch.{Sketch}
+use Rattle.sketch.specs.Drawing.{Drawing, view, limits}
+use Rattle.sketch.specs.Valid.{sketchFault}
+use Rattle.image.specs.declared.Operation.{Operation}
+use Rattle.image.specs.declared.Operation.the-variants.{Extend}
+use Rattle.image.specs.declared.Message.{Message}
+use Rattle.image.specs.declared.MessageRead.the-variants.{Accepted}
+use Rattle.image.specs.Message.{parse, encode}
+use Rattle.image.specs.Image as I
+use Rattle.relations.specs.Met.{unmetAt}
+use Rattle.edit_plan.specs.declared.Removed.{Removed}
+use Rattle.edit_plan.specs.Outcome.{accepted}
+use Rattle.modify.specs.Edits.{editUntested}
+use Rattle.agreement.specs.Machines as M
+use Rattle.agreement.specs.Machines.{State, message, DeskStep, DeskStepValid, WallStep, WallStepValid}
+use Rattle.replication.specs.declared.Replica.{Replica}
+use Rattle.replication.specs.declared.Started.{Started}
+use Rattle.replication.specs.declared.DeskReply.{DeskReply}
+use Rattle.replication.specs.declared.DeskReply.the-variants as Desk
+use Rattle.replication.specs.declared.DeskTransition.{DeskTransition}
+use Rattle.replication.specs.declared.WallReply.{WallReply}
+use Rattle.replication.specs.declared.WallReply.the-variants as Wall
+use Rattle.replication.specs.declared.WallTransition.{WallTransition}
+use Rattle.replication.specs.Protocol.{Edit, messageFor, protocol}
+
+abbrev pub stateOf : Replica → State Drawing
+stateOf s = record { drawing = view (s .sketch); count = s .count }
+
+-- ---- a start: the image's drawing at count 0, or its refusal; the sketch passes the test, refused or not
+
+pub record Starts (image : List ℕ) (r : Started) : Type 0 where
+  pub reply : I.resultOf (r .refusal) (view (r .replica .sketch)) ≡ I.parse image
+  pub zero-count : r .replica .count ≡ 0
+  pub valid : sketchFault (r .replica .sketch) ≡ 0
+
+-- ---- the place that comes with an extend's 13, of a relation that is not met, and with its 19, of one that would not be met
+
+pub record UnmetPlace (e : Edit) (d : Drawing) (k place : ℕ) : Type 0 where
+  pub before : e .operation ≡ Extend → k ≡ 13 → unmetAt d place ≡ true
+  pub after : e .operation ≡ Extend → k ≡ 19 → (d′ : Drawing) (reply : Removed) → editUntested (e .operation) limits d (e .curve) (e .at) ≡ accepted d′ reply → unmetAt d′ place ≡ true
+
+-- with every other number comes 0
+abbrev pub NoPlace : ℕ → ℕ → Type 0
+NoPlace k place = (k ≡ 13 → ⊥) → (k ≡ 19 → ⊥) → place ≡ 0
+
+abbrev pub reportedPlace : ℕ → ℕ → ℕ
+reportedPlace k place = ite (eqb k 13 || eqb k 19) place 0
+
+-- the sketch's own number before any other
+abbrev pub firstFault : Sketch → ℕ → ℕ
+firstFault s k = guardNumber (eqb (sketchFault s) 0) (sketchFault s) k
+
+-- ---- the desk
+
+-- a call as it happened: the edit, the buffer lent for the message before and after it, the answer
+pub record DeskCall : Type 0 where
+  pub edit : Edit
+  pub before : List ℕ
+  pub after : List ℕ
+  pub answer : DeskTransition
+
+abbrev pub deskCall : Operation → ℕ → Float → Float → List ℕ → List ℕ → DeskTransition → DeskCall
+deskCall op t x y b a r = record { edit = record { operation = op; curve = t; at = record { x = x; y = y } }; before = b; after = a; answer = r }
+
+abbrev pub deskReply : DeskReply → List ℕ → M.DeskReply Removed
+deskReply (Desk.Refused k place) m = M.deskRefused k
+deskReply (Desk.Accepted r) m = M.deskAccepted r m
+
+abbrev pub deskStep : DeskCall → DeskStep Drawing Edit Removed
+deskStep c =
+    record {
+      call = record { edit = c .edit; room = length (c .before) };
+      state = stateOf (c .answer .replica);
+      reply = deskReply (c .answer .reply) (take 30 (c .after));
+    }
+
+-- what is left in the buffer: the message at its front, or all as it was
+abbrev pub written : DeskReply → ℕ → Edit → List ℕ → List ℕ
+written (Desk.Refused k place) n e b = b
+written (Desk.Accepted r) n e b = over b 0 (encode (messageFor n e))
+
+-- a refusal leaves all of a screen
+abbrev pub DeskKept : DeskReply → Replica → Replica → Type 0
+DeskKept (Desk.Refused k place) s t = t ≡ s
+DeskKept (Desk.Accepted r) s t = Unit {0}
+
+abbrev pub DeskPlace : DeskReply → Edit → Drawing → Type 0
+DeskPlace (Desk.Refused k place) e d = UnmetPlace e d k place
+DeskPlace (Desk.Accepted r) e d = Unit {0}
+
+abbrev pub DeskNoPlace : DeskReply → Type 0
+DeskNoPlace (Desk.Refused k place) = NoPlace k place
+DeskNoPlace (Desk.Accepted r) = Unit {0}
+
+-- a sketch that no image gives is refused first; on any other the call is one of the machine's, and leaves another such sketch
+pub record DeskEdits (s : Replica) (c : DeskCall) : Type 0 where
+  pub turned : (sketchFault (s .sketch) ≡ 0 → ⊥) → deskStep c .reply ≡ M.deskRefused (sketchFault (s .sketch))
+  pub step : sketchFault (s .sketch) ≡ 0 → DeskStepValid protocol (stateOf s) (deskStep c)
+  pub valid : sketchFault (s .sketch) ≡ 0 → sketchFault (c .answer .replica .sketch) ≡ 0
+  pub place : sketchFault (s .sketch) ≡ 0 → DeskPlace (c .answer .reply) (c .edit) (view (s .sketch))
+  pub no-place : DeskNoPlace (c .answer .reply)
+  pub kept : DeskKept (c .answer .reply) s (c .answer .replica)
+  pub buffer : c .after ≡ written (c .answer .reply) (c .answer .replica .count) (c .edit) (c .before)
+
+-- one call after the other, each on what the last one left
+abbrev pub DeskCalls : Replica → List DeskCall → Type 0
+DeskCalls s [] = Unit {0}
+DeskCalls s (c ∷ cs) = DeskEdits s c × DeskCalls (c .answer .replica) cs
+
+-- ---- the wall
+
+pub record WallCall : Type 0 where
+  pub bytes : List ℕ
+  pub answer : WallTransition
+
+abbrev pub wallCall : List ℕ → WallTransition → WallCall
+wallCall m r = record { bytes = m; answer = r }
+
+abbrev pub wallReply : WallReply → M.WallReply Removed
+wallReply (Wall.Refused k place) = M.wallRefused k
+wallReply Wall.Old = M.wallOld
+wallReply (Wall.Applied r) = M.wallApplied r
+
+abbrev pub wallStep : WallCall → WallStep Drawing Removed
+wallStep c = record { bytes = c .bytes; state = stateOf (c .answer .replica); reply = wallReply (c .answer .reply) }
+
+-- only an edit that is applied changes a screen
+abbrev pub WallKept : WallReply → Replica → Replica → Type 0
+WallKept (Wall.Refused k place) s t = t ≡ s
+WallKept Wall.Old s t = t ≡ s
+WallKept (Wall.Applied r) s t = Unit {0}
+
+abbrev pub WallPlace : WallReply → List ℕ → Drawing → Type 0
+WallPlace (Wall.Refused k place) m d = (n : ℕ) (e : Edit) → protocol .decode m ≡ message n e → UnmetPlace e d k place
+WallPlace Wall.Old m d = Unit {0}
+WallPlace (Wall.Applied r) m d = Unit {0}
+
+abbrev pub WallNoPlace : WallReply → Type 0
+WallNoPlace (Wall.Refused k place) = NoPlace k place
+WallNoPlace Wall.Old = Unit {0}
+WallNoPlace (Wall.Applied r) = Unit {0}
+
+pub record WallDelivers (s : Replica) (c : WallCall) : Type 0 where
+  pub turned : (sketchFault (s .sketch) ≡ 0 → ⊥) → wallStep c .reply ≡ M.wallRefused (sketchFault (s .sketch))
+  pub step : sketchFault (s .sketch) ≡ 0 → WallStepValid protocol (stateOf s) (wallStep c)
+  pub valid : sketchFault (s .sketch) ≡ 0 → sketchFault (c .answer .replica .sketch) ≡ 0
+  pub place : sketchFault (s .sketch) ≡ 0 → WallPlace (c .answer .reply) (c .bytes) (view (s .sketch))
+  pub no-place : WallNoPlace (c .answer .reply)
+  pub kept : WallKept (c .answer .reply) s (c .answer .replica)
+
+abbrev pub WallCalls : Replica → List WallCall → Type 0
+WallCalls s [] = Unit {0}
+WallCalls s (c ∷ cs) = WallDelivers s c × WallCalls (c .answer .replica) cs
+
+-- a message that bytes gave
+abbrev pub DeliversMessage : Replica → Message → WallTransition → Type 0
+DeliversMessage s m r = (bytes : List ℕ) → parse bytes ≡ Accepted m → WallDelivers s (wallCall bytes r)

@@ -1,0 +1,67 @@
+// The desk: a person's edit, and the message of it.
+use crate::DeskReply;
+use crate::DeskTransition;
+use crate::MESSAGE;
+use crate::Replica;
+use crate::refusals::first_fault;
+use crate::refusals::reported_place;
+use geom::Vec2;
+use image::Message;
+use image::Operation;
+ghost use Rattle.replication.specs.Transitions.{DeskEdits, deskCall};
+
+// The largest number of an edit.
+const LAST_NUMBER: u32 = 4294967295;
+
+// Makes an edit, counts it and writes its message to the buffer's front; or refuses it and leaves the screen and the buffer.
+pub fn desk_edit(
+    replica: Replica,
+    operation: Operation,
+    curve: u32,
+    x: f64,
+    y: f64,
+    out: &mut [u8],
+) -> DeskTransition
+    ensures { λ r. ⌜ DeskEdits replica (deskCall operation curve x y (now (out .entry)) (now (out .exit)) r) ⌝ }
+{
+    let sk = replica.sketch;
+    let count = replica.count;
+    if out.len() < MESSAGE {
+        return DeskTransition {
+            replica,
+            reply: DeskReply::Refused(first_fault(sk, 25), 0),
+        };
+    }
+    if LAST_NUMBER <= count {
+        return DeskTransition {
+            replica,
+            reply: DeskReply::Refused(first_fault(sk, 23), 0),
+        };
+    }
+    let e = modify::edit(operation, sk, curve, Vec2 { x, y });
+    if e.refusal != 0 {
+        return DeskTransition {
+            replica,
+            reply: DeskReply::Refused(e.refusal, reported_place(e.refusal, e.place)),
+        };
+    }
+    let number = count + 1;
+    let message = Message {
+        number,
+        operation,
+        curve,
+        x: f64::to_bits(x),
+        y: f64::to_bits(y),
+    };
+    image::write_message(message, out);
+    let sketch = e.sketch;
+    let removed = e.removed;
+    let after = Replica {
+        sketch,
+        count: number,
+    };
+    DeskTransition {
+        replica: after,
+        reply: DeskReply::Accepted(removed),
+    }
+}

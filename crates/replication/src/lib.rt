@@ -1,0 +1,61 @@
+// State machine replication: the desk (01's term) is the primary, at which a person edits a sketch; the wall (01's term) is the replica, which
+// applies the desk's messages in the order of their numbers.
+mod desk;
+mod refusals;
+mod run_lists;
+mod starting;
+mod wall;
+mod wall_program;
+
+pub use desk::desk_edit;
+use edit_plan::Removed;
+pub use run_lists::run_both;
+use sketch::Sketch;
+pub use starting::start;
+pub use wall::wall_deliver;
+pub use wall_program::run_program;
+
+// A message's size in bytes.
+pub(crate) const MESSAGE: usize = 30;
+
+// A replica's state: a sketch, and how many edits were applied to it (01's count).
+pub struct Replica {
+    pub sketch: Sketch,
+    pub count: u32,
+}
+
+// What a side starts with: the image's sketch at count 0, or the number that the image is refused by and an empty sketch.
+pub struct Started {
+    pub replica: Replica,
+    pub refusal: u8,
+}
+
+// The desk's reply: refused by a number, with the place of a relation where 13 or 19 come with one, or accepted with the report.
+pub enum DeskReply {
+    Refused(u8, usize),
+    Accepted(Removed),
+}
+
+pub struct DeskTransition {
+    pub replica: Replica,
+    pub reply: DeskReply,
+}
+
+// The wall's reply: the same, or that the message is old.
+pub enum WallReply {
+    Refused(u8, usize),
+    Old,
+    Applied(Removed),
+}
+
+pub struct WallTransition {
+    pub replica: Replica,
+    pub reply: WallReply,
+}
+
+// The result of a run over both whole lists: the two replicas, or the number of a refusal.
+pub struct RunResult {
+    pub desk: Replica,
+    pub wall: Replica,
+    pub refusal: u8,
+}

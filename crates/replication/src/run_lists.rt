@@ -1,0 +1,141 @@
+// Desk and wall together, each over its whole list: the edits to the desk, then the desk's messages to the wall.
+use crate::DeskTransition;
+use crate::MESSAGE;
+use crate::Replica;
+use crate::RunResult;
+use crate::desk::desk_edit;
+use crate::starting::start;
+use crate::wall::is_number;
+use crate::wall::wall_deliver;
+use big_endian::get1;
+use big_endian::get4;
+use big_endian::get8;
+use image::operation_of;
+ghost use mathlib.Core.Path.{_≡_};
+ghost use Prim.Native.Nat.{_+_, _*_, _/_, _≤_};
+ghost use lib.ListN.{length};
+ghost use lib.Ieee.{ofBits, binary64};
+ghost use Rattle.sketch.specs.Drawing.{view};
+ghost use Rattle.sketch.specs.Valid.{sketchFault};
+ghost use Rattle.replication.specs.Transitions.{DeskEdits};
+ghost use Rattle.replication.specs.RunBoth.{editAt, callsIn, hasRoom, allBelow, DeskRan, messagesInLog, WallRan, InLog, RunsBoth};
+
+// A call's bytes in the desk's list, and the most room that it can ask for.
+const CALL: usize = 22;
+
+const MOST_ROOM: usize = 255;
+
+// A NaN's bits give the NaN.
+fn coordinate(bits: u64) -> f64
+    ensures { λ r. ⌜ r ≡ ofBits binary64 bits ⌝ }
+{
+    if !is_number(bits) {
+        return 0.0 / 0.0;
+    }
+    f64::from_bits(bits)
+}
+
+// The call at a place of the desk's list.
+fn desk_edit_at(replica: Replica, entries: &[u8], at: usize, out: &mut [u8]) -> DeskTransition
+    requires { ⌜ at + 22 ≤ length (now entries) ⌝ }
+    ensures { λ r. ⌜ DeskEdits replica (record { edit = editAt (now (entries .entry)) at; before = now (out .entry); after = now (out .exit); answer = r }) ⌝ }
+{
+    let operation = operation_of(get1(entries, at));
+    let x = coordinate(get8(entries, at + 5));
+    let y = coordinate(get8(entries, at + 13));
+    desk_edit(replica, operation, get4(entries, at + 1), x, y, out)
+}
+
+// Each call on the screen that the one before left, the messages one after the other in the log.
+fn run_desk(replica: Replica, entries: &[u8], log: &mut [u8]) -> Replica
+    requires { ⌜ (sketchFault (replica .sketch) ≡ 0) × (replica .count ≡ 0) × (30 * (length (now entries) / 22) + 255 ≤ length (now log)) ⌝ }
+    ensures { λ r. ⌜ DeskRan (view (replica .sketch)) (callsIn (now (entries .entry))) (now (log .exit)) r × (length (now (log .exit)) ≡ length (now (log .entry))) ⌝ }
+{
+    let mut last = replica;
+    let mut i = 0usize;
+    while i < entries.len() / CALL {
+        let from = last.count as usize * MESSAGE;
+        let to = from + get1(entries, i * CALL + 21) as usize;
+        let answer = desk_edit_at(last, entries, i * CALL, &mut log[from..to]);
+        last = answer.replica;
+        i += 1;
+    }
+    last
+}
+
+// Each message of the log that `order` names, on the screen that the one before left.
+fn run_wall(replica: Replica, log: &[u8], order: &[usize]) -> Replica
+    requires { ⌜ (sketchFault (replica .sketch) ≡ 0) × InLog (now log) (now order) ⌝ }
+    ensures { λ r. ⌜ WallRan replica (messagesInLog (now (log .entry)) (now (order .entry))) r ⌝ }
+{
+    let mut last = replica;
+    let mut j = 0usize;
+    while j < order.len() {
+        let from = order[j] * MESSAGE;
+        let to = from + MESSAGE;
+        let answer = wall_deliver(last, &log[from..to]);
+        last = answer.replica;
+        j += 1;
+    }
+    last
+}
+
+// Whether a log holds the messages of all calls, and the room that one asks for.
+fn has_room(size: usize, room: usize) -> bool
+    ensures { λ r. ⌜ r ≡ hasRoom size room ⌝ }
+{
+    if room < MOST_ROOM {
+        return false;
+    }
+    size / CALL <= (room - MOST_ROOM) / MESSAGE
+}
+
+fn all_below(order: &[usize], n: usize) -> bool
+    ensures { λ r. ⌜ r ≡ allBelow n (now (order .entry)) ⌝ }
+{
+    let mut j = 0usize;
+    while j < order.len() {
+        if n <= order[j] {
+            return false;
+        }
+        j += 1;
+    }
+    true
+}
+
+// Both lists whole, from one image: the calls in `entries` to the desk, then to the wall the messages at the places in `order`.
+// The log takes the messages. Refused are an image, as ever, a log that is too short (25), and a place without a message (7).
+pub fn run_both(image: &[u8], entries: &[u8], order: &[usize], log: &mut [u8]) -> RunResult
+    ensures { λ r. ⌜ RunsBoth (now (image .entry)) (now (entries .entry)) (now (order .entry)) (length (now (log .entry))) r ⌝ }
+{
+    let started = start(image);
+    let replica = started.replica;
+    if started.refusal != 0 {
+        return RunResult {
+            desk: replica,
+            wall: replica,
+            refusal: started.refusal,
+        };
+    }
+    if !has_room(entries.len(), log.len()) {
+        return RunResult {
+            desk: replica,
+            wall: replica,
+            refusal: 25,
+        };
+    }
+    let desk = run_desk(replica, entries, log);
+    if !all_below(order, desk.count as usize) {
+        return RunResult {
+            desk,
+            wall: replica,
+            refusal: 7,
+        };
+    }
+    let wall = run_wall(replica, log, order);
+    RunResult {
+        desk,
+        wall,
+        refusal: 0,
+    }
+}

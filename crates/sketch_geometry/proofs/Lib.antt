@@ -1,0 +1,4 @@
+-- The laws of columns that other crates cite.
+pub mod Found
+pub mod Filled
+pub mod Shapes
