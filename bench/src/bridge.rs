@@ -14,8 +14,8 @@ const BRIDGES: usize = 8;
 const PICKS: usize = 4;
 /// Relations on each bridge.
 const RELATIONS: usize = 20;
-/// A bridge on which so many picks are refused in a row is given up.
-const PATIENCE: usize = 4000;
+/// How many picks are tried on a bridge before it is given up.
+const MOST_TRIES: usize = 4000;
 
 /// Curves of the bridges.
 pub const SIZES: [usize; 3] = [10, 60, 124];
@@ -112,8 +112,8 @@ pub fn samples(curves: usize, work: Work) -> Vec<Sample> {
     let mut samples = Vec::new();
     let mut bridges = 0;
     while bridges < BRIDGES {
-        let drawing = bridges::sound(&mut random, curves, RELATIONS, work.arches);
-        let tries = (0..PATIENCE).filter_map(|_| {
+        let drawing = bridges::with_all_met(&mut random, curves, RELATIONS, work.arches);
+        let tries = (0..MOST_TRIES).filter_map(|_| {
             let edit = edits::edit_by(&mut random, &drawing, work.operation);
             Sample::new(&drawing, edit)
         });

@@ -9,9 +9,9 @@ mod images;
 mod inputs;
 mod numbers;
 mod relations;
+mod replicas;
 mod roots;
 mod samples;
-mod screens;
 mod shapes;
 mod sketches;
 mod timing;
@@ -48,6 +48,6 @@ fn main() {
         edits::run();
     }
     if wanted("screens") {
-        screens::run();
+        replicas::run();
     }
 }

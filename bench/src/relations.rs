@@ -73,13 +73,13 @@ pub fn run() {
     // The two calls of the engine take turns, so that their difference is of one spell.
     let calls = both(searched, tested);
     let engine = calls.engine - calls.oracle;
-    let placed = both(
+    let converted = both(
         |_| {},
         |sample| {
             black_box(first_unmet(&to_sketch(black_box(&sample.drawing))));
         },
     );
-    Times { engine, oracle: placed.oracle }.print("  relations met: less read and test");
+    Times { engine, oracle: converted.oracle }.print("  relations met: less read and test");
     let bare = both(
         |_| {},
         |sample| {

@@ -16,16 +16,16 @@ pub fn run() {
     projection(Kind::Circle).print_fine("  projection to a circle");
 }
 
-fn place(random: &mut Random) -> Vec2 {
+fn position(random: &mut Random) -> Vec2 {
     Vec2::new(random.unit() * 12.0, random.unit() * 12.0)
 }
 
 /// Most of them cross each other.
 fn figure(random: &mut Random, kind: Kind) -> Figure {
     match kind {
-        Kind::Line => Figure::line(place(random), place(random)),
-        Kind::Circle => Figure::circle(place(random), 2.0 + random.unit() * 6.0),
-        Kind::Arc => Figure::arc(place(random), place(random), place(random)),
+        Kind::Line => Figure::line(position(random), position(random)),
+        Kind::Circle => Figure::circle(position(random), 2.0 + random.unit() * 6.0),
+        Kind::Arc => Figure::arc(position(random), position(random), position(random)),
     }
 }
 
@@ -49,7 +49,7 @@ fn crossings(first: Kind, second: Kind) -> Times {
 }
 
 fn projection(kind: Kind) -> Times {
-    let sample = |random: &mut Random| (figure(random, kind), place(random));
+    let sample = |random: &mut Random| (figure(random, kind), position(random));
     let (mut engine_inputs, mut oracle_inputs) = (Samples::new(sample), Samples::new(sample));
     let mut out = [0.0; 2];
     measure(

@@ -30,8 +30,8 @@ impl Call {
         Operation::ALL.into_iter().find(|operation| u32::from(operation.code()) == self.operation)
     }
 
-    /// The image's own refusal, then the operation's, then the edit's.
-    pub fn judge(&self) -> Result<(Drawing, Report), Refused> {
+    /// The drawing after the edit and the report, or the image's refusal, the operation's or the edit's.
+    pub fn outcome(&self) -> Result<(Drawing, Report), Refused> {
         let drawing = image::read(&self.image)?;
         let operation = self.operation().ok_or(Refusal::Operation)?;
         let edit = Edit { operation, curve: self.curve, x: self.x, y: self.y };
@@ -40,7 +40,8 @@ impl Call {
 
     /// Answers the number of `answer` and, if that is 0, writes to the front of the buffer.
     pub fn make(&self, out: &mut [u8]) -> u32 {
-        let outcome = self.judge().and_then(|(drawing, report)| Ok(write(&drawing, &report, out)?));
+        let outcome =
+            self.outcome().and_then(|(drawing, report)| Ok(write(&drawing, &report, out)?));
         answer(&outcome)
     }
 }

@@ -47,21 +47,21 @@ fn place_of_curve(drawing: &Drawing, id: Id) -> usize {
 }
 
 fn to_places(drawing: &Drawing, kind: &CurveKind) -> cad_sketch::CurveKind {
-    use cad_sketch::CurveKind as Placed;
+    use cad_sketch::CurveKind as KindByPlace;
     let at = |id: Id| place_of_point(drawing, id);
     match *kind {
-        CurveKind::Line { a, b } => Placed::Line { a: at(a), b: at(b) },
-        CurveKind::Arc { c, a, b } => Placed::Arc { c: at(c), a: at(a), b: at(b) },
-        CurveKind::Circle { c, radius } => Placed::Circle { c: at(c), r: radius },
+        CurveKind::Line { a, b } => KindByPlace::Line { a: at(a), b: at(b) },
+        CurveKind::Arc { c, a, b } => KindByPlace::Arc { c: at(c), a: at(a), b: at(b) },
+        CurveKind::Circle { c, radius } => KindByPlace::Circle { c: at(c), r: radius },
         CurveKind::Bezier { degree, points: ids } => {
             let mut points = [0; SLOTS];
             for (place, id) in points.iter_mut().zip(&ids[..=usize::from(degree)]) {
                 *place = at(*id);
             }
-            Placed::Bezier { degree, points }
+            KindByPlace::Bezier { degree, points }
         }
         CurveKind::Conic { a, apex, b, rho } => {
-            Placed::Conic { a: at(a), apex: at(apex), b: at(b), rho }
+            KindByPlace::Conic { a: at(a), apex: at(apex), b: at(b), rho }
         }
     }
 }
@@ -111,20 +111,20 @@ pub fn to_drawing(sketch: &Sketch) -> Drawing {
 }
 
 fn to_ids(sketch: &Sketch, kind: &cad_sketch::CurveKind) -> CurveKind {
-    use cad_sketch::CurveKind as Placed;
+    use cad_sketch::CurveKind as KindByPlace;
     let id = |place: usize| sketch.points[place].id;
     match *kind {
-        Placed::Line { a, b } => CurveKind::Line { a: id(a), b: id(b) },
-        Placed::Arc { c, a, b } => CurveKind::Arc { c: id(c), a: id(a), b: id(b) },
-        Placed::Circle { c, r } => CurveKind::Circle { c: id(c), radius: r },
-        Placed::Bezier { degree, points: places } => {
+        KindByPlace::Line { a, b } => CurveKind::Line { a: id(a), b: id(b) },
+        KindByPlace::Arc { c, a, b } => CurveKind::Arc { c: id(c), a: id(a), b: id(b) },
+        KindByPlace::Circle { c, r } => CurveKind::Circle { c: id(c), radius: r },
+        KindByPlace::Bezier { degree, points: places } => {
             let mut points = [0; SLOTS];
             for (slot, place) in points.iter_mut().zip(&places[..=usize::from(degree)]) {
                 *slot = id(*place);
             }
             CurveKind::Bezier { degree, points }
         }
-        Placed::Conic { a, apex, b, rho } => {
+        KindByPlace::Conic { a, apex, b, rho } => {
             CurveKind::Conic { a: id(a), apex: id(apex), b: id(b), rho }
         }
     }

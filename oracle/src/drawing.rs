@@ -9,7 +9,7 @@ pub const MAX_RELATIONS: usize = 256;
 pub const MAX_COORDINATE: f64 = 1_000_000.0;
 pub const RADIUS: std::ops::RangeInclusive<f64> = 1e-6..=1e6;
 pub const MAX_DEGREE: u8 = 7;
-/// The greatest value that a measuring relation carries.
+/// The greatest value that a measuring relation may have.
 pub const MAX_VALUE: f64 = 4_000_000.0;
 /// Point slots of a curve record.
 pub const SLOTS: usize = 8;
@@ -148,7 +148,7 @@ impl Relation {
         }
     }
 
-    /// The value that a measuring relation carries.
+    /// The value of a measuring relation, none for another.
     pub fn value(&self) -> Option<f64> {
         match *self {
             Relation::Length { value, .. }

@@ -30,7 +30,7 @@ impl From<Refusal> for Refused {
     }
 }
 
-/// Tests the drawing and the edit, and carries the edit out on a copy.
+/// Tests the drawing and the edit, and applies the edit to a copy.
 pub fn apply(drawing: &Drawing, edit: &Edit) -> Result<(Drawing, Report), Refused> {
     validity::check(drawing)?;
     apply_tested(drawing, edit)
@@ -44,8 +44,8 @@ pub fn apply_tested(drawing: &Drawing, edit: &Edit) -> Result<(Drawing, Report),
     Ok((to_drawing(&sketch), Report { removed: removed.id, ends: removed.ends }))
 }
 
-/// Tests an edit of a good drawing and carries it out on the drawing's sketch, which a refusal may
-/// leave altered.
+/// Tests an edit of a good drawing and applies it to the drawing's sketch, which a refusal may leave
+/// altered.
 pub fn edit_sketch(drawing: &Drawing, sketch: &mut Sketch, edit: &Edit) -> Result<(), Refused> {
     if !validity::is_coordinate(edit.x) || !validity::is_coordinate(edit.y) {
         return Err(Refusal::Pick.into());
@@ -58,7 +58,7 @@ pub fn edit_sketch(drawing: &Drawing, sketch: &mut Sketch, edit: &Edit) -> Resul
     if needs_all_cuts(edit.operation, target) && has_freeform(drawing) {
         return Err(Refusal::Freeform.into());
     }
-    carry_out(sketch, place, edit)
+    apply_by_upstream(sketch, place, edit)
 }
 
 /// Whether an operation applies to a curve; freeform curves have no shape.
@@ -85,14 +85,14 @@ fn has_freeform(drawing: &Drawing) -> bool {
     drawing.curves.iter().any(|curve| curve.kind.is_freeform())
 }
 
-fn carry_out(sketch: &mut Sketch, place: usize, edit: &Edit) -> Result<(), Refused> {
+fn apply_by_upstream(sketch: &mut Sketch, place: usize, edit: &Edit) -> Result<(), Refused> {
     let pick = Vec2::new(edit.x, edit.y);
-    let done = match edit.operation {
+    let outcome = match edit.operation {
         Operation::Trim => upstream::trim(sketch, place, pick),
         Operation::Split => upstream::split(sketch, place, pick),
         Operation::Extend => upstream::extend(sketch, place, pick),
     };
-    done.map_err(|error| {
+    outcome.map_err(|error| {
         let refusal = upstream::refusal_of(&error);
         // Upstream leaves the sketch as it was when it looked at the relations.
         let unmet = matches!(refusal, Refusal::Unmet | Refusal::Conflict);

@@ -39,16 +39,16 @@ impl Figure {
         Figure { kind: Kind::Circle, numbers: [c.x, c.y, r, 0.0, 0.0, 0.0] }
     }
 
-    /// The pair of numbers at a place: a line's or an arc's point.
-    pub fn place(&self, at: usize) -> Vec2 {
+    /// The pair of numbers at an index: a line's or an arc's point.
+    pub fn point(&self, at: usize) -> Vec2 {
         Vec2::new(self.numbers[2 * at], self.numbers[2 * at + 1])
     }
 
     pub fn shape(&self) -> Shape {
         match self.kind {
-            Kind::Line => Shape::Line { a: self.place(0), b: self.place(1) },
-            Kind::Arc => Shape::arc(self.place(0), self.place(1), self.place(2)),
-            Kind::Circle => Shape::circle(self.place(0), self.numbers[2]),
+            Kind::Line => Shape::Line { a: self.point(0), b: self.point(1) },
+            Kind::Arc => Shape::arc(self.point(0), self.point(1), self.point(2)),
+            Kind::Circle => Shape::circle(self.point(0), self.numbers[2]),
         }
     }
 }

@@ -1,5 +1,5 @@
-//! The judge of the engine: images and messages read by plain Rust, edits done by the upstream
-//! source over stand-ins for the two crates that it uses.
+//! The reference that the engine is compared with: images and messages read by plain Rust, edits
+//! made by the upstream source over stand-ins for the two crates that it uses.
 
 pub mod arguments;
 pub mod bytes;
@@ -8,7 +8,6 @@ pub mod convert;
 pub mod drawing;
 pub mod edit;
 pub mod examples;
-pub mod exhibit;
 pub mod figure;
 pub mod generate;
 pub mod image;
@@ -16,6 +15,7 @@ pub mod message;
 pub mod program;
 pub mod recording;
 pub mod refusal;
+pub mod replication;
 pub mod roots;
 pub mod steps;
 pub mod upstream;

@@ -1,10 +1,10 @@
 //! The wall's program: an image and messages in, the last image out.
 
 use crate::edit::Refused;
-use crate::exhibit::{Delivery, Screen};
 use crate::image::{self, LENGTH_SIZE};
 use crate::message;
 use crate::refusal::Refusal;
+use crate::replication::{Delivery, Replica};
 
 /// More input than this is not looked at.
 pub const MAX_INPUT: usize = 65_536;
@@ -14,14 +14,14 @@ pub fn run(input: &[u8]) -> Vec<u8> {
     run_watched(input, |_| ())
 }
 
-/// The same, with each delivery's outcome shown on the way.
+/// `run`, with each delivery's outcome handed to `watch` on the way.
 pub fn run_watched(input: &[u8], mut watch: impl FnMut(&Result<Delivery, Refused>)) -> Vec<u8> {
     let input = &input[..input.len().min(MAX_INPUT)];
     let (image, messages) = input.split_at(image_end(input));
     match image::read(image) {
         Err(refusal) => refused(refusal),
         Ok(drawing) => {
-            let mut wall = Screen::new(drawing);
+            let mut wall = Replica::new(drawing);
             for bytes in messages.chunks(message::SIZE) {
                 // A refused message is passed over.
                 watch(&wall.deliver(bytes));

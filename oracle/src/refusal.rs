@@ -1,4 +1,4 @@
-//! Every way in which a caller is turned away, by its number.
+//! Every refusal of a call, by its number.
 
 /// A refusal; the discriminant is the number that callers, messages and images see.
 #[derive(Clone, Copy, Debug, PartialEq, Eq, PartialOrd, Ord)]

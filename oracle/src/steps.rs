@@ -2,9 +2,9 @@
 
 use crate::call::answer;
 use crate::edit::{Refused, Report};
-use crate::exhibit::{Delivery, Screen};
 use crate::image;
 use crate::message::Edit;
+use crate::replication::{Delivery, Replica};
 
 /// What is handed to a call and comes back from it.
 #[derive(Clone, Debug, PartialEq, Eq)]
@@ -21,20 +21,20 @@ pub struct Step {
     /// Whether a delivery was old, which is no refusal.
     pub old: bool,
     pub report: Report,
-    /// As it was, unless an edit was done.
+    /// As it was, unless an edit was applied.
     pub state: State,
 }
 
 impl State {
-    fn screen(&self) -> Result<Screen, Refused> {
-        Ok(Screen { drawing: image::read(&self.image)?, count: self.count })
+    fn replica(&self) -> Result<Replica, Refused> {
+        Ok(Replica { drawing: image::read(&self.image)?, count: self.count })
     }
 
-    fn after(&self, done: Result<(Screen, Option<Report>), Refused>) -> Step {
-        let answer = answer(&done);
-        let (state, report) = match done {
-            Ok((screen, report)) => {
-                (State { image: image::to_bytes(&screen.drawing), count: screen.count }, report)
+    fn after(&self, outcome: Result<(Replica, Option<Report>), Refused>) -> Step {
+        let answer = answer(&outcome);
+        let (state, report) = match outcome {
+            Ok((replica, report)) => {
+                (State { image: image::to_bytes(&replica.drawing), count: replica.count }, report)
             }
             Err(_) => (self.clone(), Some(Report::default())),
         };
@@ -43,22 +43,22 @@ impl State {
 
     /// The desk's call; an accepted one writes its message to the front of the buffer.
     pub fn edit(&self, edit: &Edit, out: &mut [u8]) -> Step {
-        let done = self.screen().and_then(|mut desk| {
+        let outcome = self.replica().and_then(|mut desk| {
             let report = desk.edit(edit, out)?;
             Ok((desk, Some(report)))
         });
-        self.after(done)
+        self.after(outcome)
     }
 
     /// The wall's call.
     pub fn deliver(&self, bytes: &[u8]) -> Step {
-        let done = self.screen().and_then(|mut wall| {
+        let outcome = self.replica().and_then(|mut wall| {
             let report = match wall.deliver(bytes)? {
                 Delivery::Old => None,
-                Delivery::Done(report) => Some(report),
+                Delivery::Applied(report) => Some(report),
             };
             Ok((wall, report))
         });
-        self.after(done)
+        self.after(outcome)
     }
 }

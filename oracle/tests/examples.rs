@@ -1,4 +1,4 @@
-//! The examples that the exhibit is agreed on, run through the upstream code.
+//! The worked examples, run through the upstream code.
 #![cfg(upstream)]
 
 use oracle::drawing::{CurveKind, Drawing, Id, Relation};

@@ -7,10 +7,10 @@ use common::{l_with, refused, EXTEND, SPLIT, TRIM};
 use oracle::drawing::*;
 use oracle::edit::apply;
 use oracle::examples::{curve, l, line, point, t};
-use oracle::exhibit::Screen;
 use oracle::image;
 use oracle::message::Edit;
 use oracle::refusal::Refusal;
+use oracle::replication::Replica;
 use oracle::roots::{roots, Search, BUFFER};
 
 /// A search with a full budget and buffer.
@@ -60,7 +60,7 @@ fn refusal_23_numbers() {
     drawing.next_id = Id::MAX - 2;
     assert!(apply(&drawing, &Edit { operation: SPLIT, curve: 3, x: 2.0, y: 0.0 }).is_ok());
     // The edit number, before anything of the edit itself.
-    let mut desk = Screen { drawing: l(), count: u32::MAX };
+    let mut desk = Replica { drawing: l(), count: u32::MAX };
     let edit = Edit { operation: SPLIT, curve: 99, x: f64::NAN, y: 0.0 };
     assert_eq!(desk.edit(&edit, &mut [0; 30]), Err(Refusal::Numbers.into()));
 }
@@ -81,7 +81,7 @@ fn refusal_24_coordinate() {
 
 #[test]
 fn refusal_25_buffer() {
-    let mut desk = Screen::new(l());
+    let mut desk = Replica::new(l());
     let edit = Edit { operation: SPLIT, curve: 3, x: 2.0, y: 0.0 };
     assert_eq!(desk.edit(&edit, &mut [0; 29]), Err(Refusal::Buffer.into()));
     let size = image::size(&l());

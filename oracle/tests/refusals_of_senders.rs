@@ -3,9 +3,9 @@
 
 use oracle::drawing::*;
 use oracle::examples::{l, line, point};
-use oracle::exhibit::{Delivery, Screen};
 use oracle::message::{self, Edit, Message, Operation};
 use oracle::refusal::Refusal;
+use oracle::replication::{Delivery, Replica};
 use oracle::{image, validity};
 
 const SPLIT: Operation = Operation::Split;
@@ -88,11 +88,11 @@ fn refusal_06_operation_and_number() {
 
 #[test]
 fn refusal_07_ahead_and_old() {
-    let mut wall = Screen::new(l());
+    let mut wall = Replica::new(l());
     let edit = Edit { operation: SPLIT, curve: 3, x: 1.0, y: 0.0 };
     let numbered = |number| message::to_bytes(&Message { number, edit });
     assert_eq!(wall.deliver(&numbered(2)), Err(Refusal::Ahead.into()));
-    assert!(matches!(wall.deliver(&numbered(1)), Ok(Delivery::Done(_))));
+    assert!(matches!(wall.deliver(&numbered(1)), Ok(Delivery::Applied(_))));
     assert_eq!(wall.deliver(&numbered(1)), Ok(Delivery::Old));
     assert_eq!(wall.deliver(&numbered(3)), Err(Refusal::Ahead.into()));
 }

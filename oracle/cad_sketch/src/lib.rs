@@ -1,8 +1,8 @@
 //! Stand-in for the sketch crate that the upstream edits use: shapes with their crossings,
 //! tables of points, curves and constraints, and a solver that moves nothing.
 //!
-//! Records name each other by place, as upstream has it, and carry beside that the id by which
-//! images name them.
+//! Records name each other by place, as upstream has it; each also has the id by which images name
+//! it.
 
 mod crossings;
 mod shape;

@@ -116,7 +116,7 @@ mod tests {
 
     /// Two level lines, two circles and an arch; the last point lies `off` the first.
     fn sketch(off: f64, kind: ConstraintKind) -> Sketch {
-        let places = [(0.0, 0.0), (2.0, 0.0), (3.0, 0.0), (5.0, off), (0.0, off), (1.0, off)];
+        let positions = [(0.0, 0.0), (2.0, 0.0), (3.0, 0.0), (5.0, off), (0.0, off), (1.0, off)];
         let bezier = CurveKind::Bezier { degree: 1, points: [0, 1, 0, 0, 0, 0, 0, 0] };
         let kinds = [
             CurveKind::Line { a: 0, b: 1 },
@@ -126,7 +126,7 @@ mod tests {
             bezier,
         ];
         Sketch {
-            points: places.iter().map(|(x, y)| point(*x, *y)).collect(),
+            points: positions.iter().map(|(x, y)| point(*x, *y)).collect(),
             curves: kinds.into_iter().map(curve).collect(),
             constraints: vec![Constraint { kind }],
             next_id: 1,

@@ -110,8 +110,8 @@ impl Sketch {
     /// Adds a constraint. An extend has moved an end before it asks for one, and upstream has no
     /// test of its own there, so every point is looked at first.
     pub fn add_constraint(&mut self, kind: ConstraintKind, _name: Option<&str>) -> Result<String> {
-        let placed = self.points.iter().all(|point| in_range(point.pos));
-        require(placed, SketchError::OutOfRange)?;
+        let all_in_range = self.points.iter().all(|point| in_range(point.pos));
+        require(all_in_range, SketchError::OutOfRange)?;
         require(self.constraints.len() < MAX_CONSTRAINTS, SketchError::TableFull)?;
         self.constraints.push(Constraint { kind });
         Ok(String::new())

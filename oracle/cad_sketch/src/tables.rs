@@ -1,4 +1,4 @@
-//! The records of a sketch and why one is not taken in.
+//! The records of a sketch, and why an addition is refused.
 
 use cad_geom::Vec2;
 
@@ -168,7 +168,7 @@ impl ConstraintKind {
     }
 }
 
-/// Why an edit or an addition was turned down.
+/// Why an edit or an addition is refused.
 #[derive(Clone, Debug, PartialEq, Eq)]
 pub enum SketchError {
     /// Upstream's own reason, in its words.

@@ -23,7 +23,7 @@ pub struct Answer {
 }
 
 /// What the buffer holds before a call.
-const LENT: [f64; 4] = [-7.25, 11.5, -0.0, 3e300];
+const FILL: [f64; 4] = [-7.25, 11.5, -0.0, 3e300];
 
 fn any_kind(random: &mut Random) -> Kind {
     let round = random.pick(&[Kind::Arc, Kind::Circle]);
@@ -55,7 +55,7 @@ impl Subject for Crossings {
 
     fn oracle(case: &Case, counts: &mut Counts) -> Answer {
         let crossings = cad_sketch::intersections(&case.first.shape(), &case.second.shape());
-        let mut buffer = LENT;
+        let mut buffer = FILL;
         for (slots, point) in buffer.chunks_mut(2).zip(&crossings) {
             slots.copy_from_slice(&[point.x, point.y]);
         }
@@ -66,7 +66,7 @@ impl Subject for Crossings {
 
     fn engine(case: &Case) -> Answer {
         let (first, second) = (&case.first, &case.second);
-        let mut buffer = LENT;
+        let mut buffer = FILL;
         let count = shapes::crossings(
             first.kind.number(),
             &first.numbers,

@@ -15,14 +15,14 @@ use oracle::image;
 use std::fmt;
 use std::marker::PhantomData;
 
-/// The side that is compared with the oracle.
-pub trait Side {
+/// What is compared with the oracle.
+pub trait Implementation {
     fn edit(call: &Call, out: &mut [u8]) -> u32;
 }
 
 struct Engine;
 
-impl Side for Engine {
+impl Implementation for Engine {
     fn edit(call: &Call, out: &mut [u8]) -> u32 {
         engine::edits::edit(call.operation, &call.image, call.curve, call.x, call.y, out)
     }
@@ -52,7 +52,7 @@ impl Edits for Extends {
     }
 }
 
-pub struct Compared<E, S>(PhantomData<(E, S)>);
+pub struct Compared<E, I>(PhantomData<(E, I)>);
 
 /// Compares so many trims and splits, then as many extends.
 pub fn run(cases: usize, seed: u64) -> Result<(), String> {
@@ -70,12 +70,12 @@ pub struct Case {
 const GROWTH: usize = 300;
 
 /// What a buffer holds before a call.
-const LENT: u8 = 0xa5;
+const FILL: u8 = 0xa5;
 
 impl Case {
     fn new(call: Call, random: &mut Random) -> Case {
         let ample = call.image.len() + GROWTH;
-        let room = match call.judge() {
+        let room = match call.outcome() {
             Ok((after, _)) if random.one_in(8) => {
                 let size = call::size(&after);
                 random.pick(&[size, size, size + 1, size - 1, 12, 11, 0, image::MAX_SIZE + 12])
@@ -92,7 +92,7 @@ impl Case {
     }
 
     fn answer(&self, edit: impl Fn(&Call, &mut [u8]) -> u32) -> Answer {
-        let mut out = vec![LENT; self.room];
+        let mut out = vec![FILL; self.room];
         let answer = edit(&self.call, &mut out);
         Answer { number: answer & 0xffff, place: answer >> 16, out: Hex(out) }
     }
@@ -124,14 +124,14 @@ impl fmt::Debug for Answer {
     fn fmt(&self, f: &mut fmt::Formatter<'_>) -> fmt::Result {
         write!(f, "{}, place {}, ", self.number, self.place)?;
         let Hex(out) = &self.out;
-        let Some(last) = out.iter().rposition(|byte| *byte != LENT) else {
+        let Some(last) = out.iter().rposition(|byte| *byte != FILL) else {
             return write!(f, "buffer untouched");
         };
         write!(f, "{} bytes lent, {:?}", out.len(), Hex(out[..=last].to_vec()))
     }
 }
 
-impl<E: Edits, S: Side> Subject for Compared<E, S> {
+impl<E: Edits, I: Implementation> Subject for Compared<E, I> {
     const NAME: &'static str = E::NAME;
     type Case = Case;
     type Answer = Answer;
@@ -149,7 +149,7 @@ impl<E: Edits, S: Side> Subject for Compared<E, S> {
     }
 
     fn engine(case: &Case) -> Answer {
-        case.answer(S::edit)
+        case.answer(I::edit)
     }
 
     /// Fewer records, then plainer numbers, in turn until neither helps; then the pick.
@@ -198,7 +198,7 @@ mod tests {
     /// The oracle with a fault: a trim reports the ends of what it removed the wrong way round.
     struct EndsSwapped;
 
-    impl Side for EndsSwapped {
+    impl Implementation for EndsSwapped {
         fn edit(call: &Call, out: &mut [u8]) -> u32 {
             let answer = call.make(out);
             if answer == 0 && call.operation == 1 {
@@ -211,7 +211,7 @@ mod tests {
 
     struct Oracle;
 
-    impl Side for Oracle {
+    impl Implementation for Oracle {
         fn edit(call: &Call, out: &mut [u8]) -> u32 {
             call.make(out)
         }

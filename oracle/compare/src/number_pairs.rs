@@ -57,7 +57,7 @@ impl Subject for NumberPairs {
     fn case(random: &mut Random) -> Case {
         let a = f64::from_bits(patterns::pattern(random));
         let unlike = f64::from_bits(patterns::pattern(random));
-        let other = a * random.pick(&[1.0, -1.0, 1e-15, 0.5]) * (1.0 + random.hair());
+        let other = a * random.pick(&[1.0, -1.0, 1e-15, 0.5]) * (1.0 + random.small_offset());
         Case::new(a, random.pick(&[unlike, other, a, -a]))
     }
 

@@ -31,8 +31,8 @@ pub struct Answer {
 
 /// Upstream's evaluation has room for so many coefficients.
 const MOST: usize = 15;
-/// What the lent buffer holds before.
-const PATTERN: f64 = -7.25;
+/// What the lent buffer holds before a call.
+const FILL: f64 = -7.25;
 
 impl Case {
     fn numbers(&self) -> Vec<f64> {
@@ -51,7 +51,7 @@ impl Case {
     ) -> Answer {
         let numbers = self.numbers();
         let searches = self.budgets.map(|budget| {
-            let mut lent = vec![PATTERN; self.room];
+            let mut lent = vec![FILL; self.room];
             let found = search(&numbers, &mut lent, budget);
             (found, lent.into_iter().map(Number).collect())
         });

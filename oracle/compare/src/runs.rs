@@ -5,28 +5,28 @@ use crate::hex::Hex;
 use crate::outcomes;
 use crate::shrink;
 use crate::subject::Subject;
-use oracle::exhibit::Delivery;
 use oracle::generate::{random::Random, runs};
 use oracle::program::{image_end, run_watched, MAX_INPUT};
+use oracle::replication::Delivery;
 use oracle::{image, message};
 use std::fmt;
 use std::marker::PhantomData;
 
-/// The side that is compared with the oracle.
-pub trait Side {
+/// What is compared with the oracle.
+pub trait Implementation {
     /// Answers how many bytes it wrote to the front of the buffer.
     fn wall(input: &[u8], out: &mut [u8]) -> usize;
 }
 
 pub struct Engine;
 
-impl Side for Engine {
+impl Implementation for Engine {
     fn wall(input: &[u8], out: &mut [u8]) -> usize {
-        engine::exhibit::wall(input, out)
+        engine::replication::wall(input, out)
     }
 }
 
-pub struct Runs<S>(PhantomData<S>);
+pub struct Runs<I>(PhantomData<I>);
 
 /// The bytes written, and the whole buffer afterwards.
 #[derive(PartialEq)]
@@ -45,10 +45,10 @@ impl fmt::Debug for Answer {
 /// More than any image needs.
 const ROOM: usize = image::MAX_SIZE + 64;
 /// What a buffer holds before a call.
-const LENT: u8 = 0x5a;
+const FILL: u8 = 0x5a;
 
 fn answer(write: impl FnOnce(&mut [u8]) -> usize) -> Answer {
-    let mut out = vec![LENT; ROOM];
+    let mut out = vec![FILL; ROOM];
     let written = write(&mut out);
     Answer { written, out: Hex(out) }
 }
@@ -56,7 +56,7 @@ fn answer(write: impl FnOnce(&mut [u8]) -> usize) -> Answer {
 fn count(input: &[u8], counts: &mut Counts) -> Vec<u8> {
     let written = run_watched(input, |delivered| match delivered {
         Ok(Delivery::Old) => counts.add("delivery", "old"),
-        Ok(Delivery::Done(_)) => counts.add("delivery", "0"),
+        Ok(Delivery::Applied(_)) => counts.add("delivery", "0"),
         Err(refused) => counts.add("delivery", outcomes::name(refused.refusal.number())),
     });
     let refused = written.len() == 6;
@@ -67,7 +67,7 @@ fn count(input: &[u8], counts: &mut Counts) -> Vec<u8> {
     written
 }
 
-impl<S: Side> Subject for Runs<S> {
+impl<I: Implementation> Subject for Runs<I> {
     const NAME: &'static str = "runs of the wall";
     type Case = Hex;
     type Answer = Answer;
@@ -86,7 +86,7 @@ impl<S: Side> Subject for Runs<S> {
     }
 
     fn engine(case: &Hex) -> Answer {
-        answer(|out| S::wall(&case.0, out))
+        answer(|out| I::wall(&case.0, out))
     }
 
     /// Fewer messages, then fewer records.
@@ -111,10 +111,10 @@ mod tests {
     use crate::subject;
     use oracle::upstream;
 
-    /// The oracle with a fault: a wall that stops at the second message that it does.
+    /// The oracle with a fault: a wall that stops at the second message that it would apply.
     struct OneEditOnly;
 
-    impl Side for OneEditOnly {
+    impl Implementation for OneEditOnly {
         fn wall(input: &[u8], out: &mut [u8]) -> usize {
             let input = &input[..input.len().min(MAX_INPUT)];
             let (image, messages) = input.split_at(image_end(input));

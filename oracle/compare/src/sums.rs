@@ -1,20 +1,19 @@
-//! One edit several times over, by itself, at a desk and delivered to a wall: the sum of what each
-//! tells.
+//! One edit several times over, by itself, at a desk and delivered to a wall: the sum of its replies.
 
 use crate::counts::Counts;
 use crate::hex::Hex;
 use crate::outcomes;
 use crate::shrink;
 use crate::subject::Subject;
-use engine::exhibit::MADE;
+use engine::replication::{self, ACCEPTED};
 use oracle::bytes::put;
 use oracle::call::Call;
 use oracle::edit::Refused;
-use oracle::exhibit::{Delivery, Screen};
 use oracle::generate::messages::damage;
 use oracle::generate::{calls, random::Random};
 use oracle::message::{self, Edit};
 use oracle::refusal::Refusal;
+use oracle::replication::{Delivery, Replica};
 use oracle::{edit, image};
 
 pub struct Sums;
@@ -35,8 +34,8 @@ pub struct Case {
     times: u32,
 }
 
-/// The number by which all are turned away at once, or what each tells.
-type Told = Result<Result<u32, Refused>, Refused>;
+/// The refusal of all calls at once, for the image or the operation, or the reply of each call.
+type Replies = Result<Result<u32, Refused>, Refused>;
 
 impl Case {
     fn row(&self) -> &'static str {
@@ -47,40 +46,40 @@ impl Case {
         }
     }
 
-    fn outcome(&self, told: &Told) -> &'static str {
-        match told {
+    fn outcome(&self, replies: &Replies) -> &'static str {
+        match replies {
             Err(refused) | Ok(Err(refused)) => outcomes::name(refused.refusal.number()),
-            Ok(Ok(MADE)) if matches!(self.asked, Asked::Wall(_)) => "old",
+            Ok(Ok(ACCEPTED)) if matches!(self.asked, Asked::Wall(_)) => "old",
             Ok(Ok(_)) => "0",
         }
     }
 
-    fn told(&self) -> Told {
+    fn replies(&self) -> Replies {
         let drawing = image::read(&self.call.image)?;
-        let screen = Screen { drawing, count: self.count };
+        let replica = Replica { drawing, count: self.count };
         if let Asked::Wall(bytes) = &self.asked {
-            return Ok(delivered(screen, &bytes.0));
+            return Ok(wall_reply(replica, &bytes.0));
         }
         let operation = self.call.operation().ok_or(Refusal::Operation)?;
         let Call { curve, x, y, .. } = self.call;
         let edit = Edit { operation, curve, x, y };
         Ok(match self.asked {
-            Asked::Desk => drawn(screen, &edit),
-            _ => edit::apply_tested(&screen.drawing, &edit)
+            Asked::Desk => desk_reply(replica, &edit),
+            _ => edit::apply_tested(&replica.drawing, &edit)
                 .map(|(after, report)| after.next_id.wrapping_add(report.removed)),
         })
     }
 }
 
-fn drawn(mut desk: Screen, edit: &Edit) -> Result<u32, Refused> {
+fn desk_reply(mut desk: Replica, edit: &Edit) -> Result<u32, Refused> {
     desk.edit(edit, &mut [0; message::SIZE])?;
-    Ok(MADE.wrapping_add(desk.count))
+    Ok(ACCEPTED.wrapping_add(desk.count))
 }
 
-fn delivered(mut wall: Screen, bytes: &[u8]) -> Result<u32, Refused> {
+fn wall_reply(mut wall: Replica, bytes: &[u8]) -> Result<u32, Refused> {
     Ok(match wall.deliver(bytes)? {
-        Delivery::Old => MADE,
-        Delivery::Done(_) => MADE.wrapping_add(wall.count),
+        Delivery::Old => ACCEPTED,
+        Delivery::Applied(_) => ACCEPTED.wrapping_add(wall.count),
     })
 }
 
@@ -126,9 +125,9 @@ impl Subject for Sums {
     }
 
     fn oracle(case: &Case, counts: &mut Counts) -> u32 {
-        let told = case.told();
-        counts.add(case.row(), case.outcome(&told));
-        match told {
+        let replies = case.replies();
+        counts.add(case.row(), case.outcome(&replies));
+        match replies {
             Err(refused) => number(refused),
             Ok(each) => each.unwrap_or_else(number).wrapping_mul(case.times),
         }
@@ -139,11 +138,9 @@ impl Subject for Sums {
         match asked {
             Asked::Edit => engine::edits::repeated(*operation, image, *curve, *x, *y, *times),
             Asked::Desk => {
-                engine::exhibit::desk_repeated(image, *count, *operation, *curve, [*x, *y], *times)
+                replication::desk_repeated(image, *count, *operation, *curve, [*x, *y], *times)
             }
-            Asked::Wall(Hex(bytes)) => {
-                engine::exhibit::deliver_repeated(image, *count, bytes, *times)
-            }
+            Asked::Wall(Hex(bytes)) => replication::deliver_repeated(image, *count, bytes, *times),
         }
     }
 

@@ -5,9 +5,9 @@
 //! uses.
 
 pub mod edits;
-pub mod exhibit;
 pub mod numbers;
 pub mod polynomials;
+pub mod replication;
 pub mod shapes;
 
 mod interface {
@@ -54,7 +54,7 @@ pub fn image_copy(image: &[u8], out: &mut [u8]) -> u32 {
     }
 }
 
-/// Reads an image and says whether it is good.
+/// Reads an image and answers whether it is good.
 #[inline]
 pub fn image_test(image: &[u8]) -> u32 {
     // SAFETY: the slice is lent for the call, and the engine stays within its length.

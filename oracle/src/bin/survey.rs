@@ -5,11 +5,11 @@
 
 use oracle::arguments;
 use oracle::edit;
-use oracle::exhibit::{Delivery, Screen};
 use oracle::generate::coverage::Coverage;
 use oracle::generate::{bridges, edits, polynomials, random::Random};
 use oracle::message;
 use oracle::refusal::number_of;
+use oracle::replication::{Delivery, Replica};
 use oracle::roots::{roots, BUFFER};
 use oracle::{image, upstream, validity};
 use std::time::Instant;
@@ -36,7 +36,7 @@ fn report(name: &str, rounds: u64, round: fn(&mut Random, &mut Coverage), seed: 
 /// A desk makes some edits; a wall gets each message twice and must end with the same image.
 fn survey_edits(random: &mut Random, coverage: &mut Coverage) {
     let drawing = bridges::any_drawing(random);
-    let (mut desk, mut wall) = (Screen::new(drawing.clone()), Screen::new(drawing));
+    let (mut desk, mut wall) = (Replica::new(drawing.clone()), Replica::new(drawing));
     let mut out = [0; message::SIZE];
     for _ in 0..EDITS {
         let edit = edits::edit(random, &desk.drawing);
@@ -45,7 +45,7 @@ fn survey_edits(random: &mut Random, coverage: &mut Coverage) {
             Ok(report) => {
                 coverage.edit_outcome(edit.operation, 0);
                 assert_eq!(validity::check(&desk.drawing), Ok(()));
-                assert_eq!(wall.deliver(&out), Ok(Delivery::Done(report)));
+                assert_eq!(wall.deliver(&out), Ok(Delivery::Applied(report)));
                 assert_eq!(wall.deliver(&out), Ok(Delivery::Old));
             }
             Err(refused) => {

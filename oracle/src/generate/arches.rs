@@ -128,8 +128,8 @@ pub fn add_conic(scene: &mut Scene, frame: &Frame) {
     // The search sees the apex's height times its weight.
     let apex_height = (heights[1] / w).clamp(-1e5, 1e5);
     let apex_height = if scene.random.one_in(4) { heights[1] } else { apex_height };
-    let places = [(widths[0], heights[0]), (widths[1], apex_height), (widths[2], heights[2])];
-    let [a, apex, b] = places.map(|(along, across)| scene.put(frame, along, across));
+    let positions = [(widths[0], heights[0]), (widths[1], apex_height), (widths[2], heights[2])];
+    let [a, apex, b] = positions.map(|(along, across)| scene.put(frame, along, across));
     scene.curve(CurveKind::Conic { a, apex, b, rho });
 }
 
@@ -142,12 +142,12 @@ pub fn add_loop(scene: &mut Scene, frame: &Frame) {
     let below = if scene.random.one_in(4) { above } else { -above };
     let rise = scene.random.pick(&[4e5, 9e5, -8e5]);
     let inner = 1 + scene.random.below(3);
-    let mut places = vec![(0.0, above)];
-    places.extend((0..inner).map(|at| (at as f64 * 10.0, rise)));
-    places.push((apart, below));
+    let mut positions = vec![(0.0, above)];
+    positions.extend((0..inner).map(|at| (at as f64 * 10.0, rise)));
+    positions.push((apart, below));
     let mut points = [0; SLOTS];
-    for (slot, (along, across)) in points.iter_mut().zip(&places) {
+    for (slot, (along, across)) in points.iter_mut().zip(&positions) {
         *slot = scene.put(frame, *along, *across);
     }
-    scene.curve(CurveKind::Bezier { degree: places.len() as u8 - 1, points });
+    scene.curve(CurveKind::Bezier { degree: positions.len() as u8 - 1, points });
 }

@@ -54,7 +54,7 @@ pub fn drawing(random: &mut Random, size: Size) -> Drawing {
 
 /// A bridge whose relations are all met, of so many curves: without arches, or with Béziers of
 /// degree 3 to 7 and conics.
-pub fn sound(random: &mut Random, curves: usize, relations: usize, arches: bool) -> Drawing {
+pub fn with_all_met(random: &mut Random, curves: usize, relations: usize, arches: bool) -> Drawing {
     let mut scene = Scene::new(random, curves);
     scene.met = true;
     build(&mut scene, 0, relations, if arches { &HIGH_ARCHES } else { &[] });
@@ -135,7 +135,7 @@ fn deck(scene: &mut Scene) {
 /// A line that crosses another, ends on it or stops near it.
 fn pier(scene: &mut Scene) {
     let Some((a, b)) = scene.some_line() else { return deck(scene) };
-    let ((ax, ay), (bx, by)) = (scene.place(a), scene.place(b));
+    let ((ax, ay), (bx, by)) = (scene.position(a), scene.position(b));
     let even = scene.random.unit();
     let u = scene.random.pick(&[0.0, 0.25, 0.5, 0.5, 0.75, 1.0, 1.25, even]);
     let (foot_x, foot_y) = (ax + (bx - ax) * u, ay + (by - ay) * u);
@@ -150,7 +150,7 @@ fn pier(scene: &mut Scene) {
 /// A line along another's support: overlapping, touching at an end or further out.
 fn overlap(scene: &mut Scene) {
     let Some((a, b)) = scene.some_line() else { return deck(scene) };
-    let ((ax, ay), (bx, by)) = (scene.place(a), scene.place(b));
+    let ((ax, ay), (bx, by)) = (scene.position(a), scene.position(b));
     let from = scene.random.pick(&[-1.0, -0.5, 0.25, 0.5, 1.0, 1.5]);
     let to = scene.random.pick(&[0.0, 0.75, 1.0, 2.0]);
     let off = scene.random.jitter();
@@ -161,7 +161,7 @@ fn overlap(scene: &mut Scene) {
     scene.line(p, q);
 }
 
-/// Grid directions of length 5 and axis directions: exact places on circles.
+/// Grid directions of length 5 and axis directions: exact positions on circles.
 const RIM: [(f64, f64); 12] = [
     (5.0, 0.0),
     (4.0, 3.0),
@@ -183,13 +183,13 @@ fn arc(scene: &mut Scene) {
     let (from, to) = (scene.random.pick(&RIM), scene.random.pick(&RIM));
     let off = scene.random.jitter();
     let c = scene.end(x, y);
-    let (x, y) = scene.place(c);
+    let (x, y) = scene.position(c);
     let a = scene.end(x + from.0 * scale, y + from.1 * scale + off);
     let b = scene.end(x + to.0 * scale, y + to.1 * scale);
     scene.arc(c, a, b);
 }
 
-/// An arc whose ends lie in one place or almost: full, or just not.
+/// An arc whose ends lie in one position or almost: full, or just not.
 fn full_arc(scene: &mut Scene) {
     let (x, y) = (scene.random.grid(), scene.random.grid());
     let (dx, dy) = scene.random.pick(&RIM);
@@ -200,7 +200,7 @@ fn full_arc(scene: &mut Scene) {
     scene.arc(c, a, b);
 }
 
-/// A circle: through grid places, or tangent to a line but for a jitter.
+/// A circle: through grid positions, or tangent to a line but for a jitter.
 fn wheel(scene: &mut Scene) {
     let (x, y) = (scene.random.grid(), scene.random.between(-4, 4) as f64);
     let size = scene.random.pick(&[1.0, 2.0, 2.5, 5.0, 0.5, y.abs()]);
@@ -228,7 +228,7 @@ fn strut(scene: &mut Scene) {
     scene.line(a, b);
 }
 
-/// A line between places of every size and sign.
+/// A line between positions of every size and sign.
 fn anywhere(scene: &mut Scene) {
     let [ax, ay, bx, by] = std::array::from_fn(|_| scene.random.coordinate());
     let a = scene.point(ax, ay);

@@ -36,7 +36,7 @@ fn fresh(drawing: &mut Drawing) -> Id {
     drawing.next_id - 1
 }
 
-/// A place out of the way of everything else.
+/// A position out of the way of everything else.
 const CORNER: (f64, f64) = (-876_543.0, 912_345.0);
 
 fn fill_points(drawing: &mut Drawing, left: usize) {

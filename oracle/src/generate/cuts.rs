@@ -20,14 +20,14 @@ pub fn cut(random: &mut Random) -> (Drawing, Edit) {
         _ => {}
     }
     let target = Target::any(&mut scene, &frame);
-    let cuts = cut_places(scene.random, &target);
+    let cuts = cut_parameters(scene.random, &target);
     let (first, rest) = cuts.split_at(scene.random.below(cuts.len() + 1));
     first.iter().for_each(|t| add_cutter(&mut scene, &target.frame(*t)));
     let curve = scene.curve(target.kind);
     let place = scene.drawing.curves.len() - 1;
     scene.drawing.curves[place].infinite &= scene.random.one_in(4);
     rest.iter().for_each(|t| add_cutter(&mut scene, &target.frame(*t)));
-    add_company(&mut scene, &target);
+    add_neighbours(&mut scene, &target);
     add_relations(&mut scene, curve);
     let (x, y) = pick(scene.random, &target, &cuts);
     edit_of(scene, place, x, y, 7)
@@ -51,7 +51,7 @@ fn nicked(mut scene: Scene) -> (Drawing, Edit) {
         unreachable!("a nick begins with its circle")
     };
     add_relations(&mut scene, id);
-    let (x, y) = scene.place(c);
+    let (x, y) = scene.position(c);
     let t = scene.random.near(1e-9);
     let (dx, dy) = scene.random.pick(&[(radius, t), (-radius, 0.0), (0.0, -radius), (1.0, 1.0)]);
     edit_of(scene, 0, x + dx, y + dy, 7)
@@ -63,7 +63,7 @@ fn out_of_bounds(mut scene: Scene) -> (Drawing, Edit) {
     let CurveKind::Circle { c, radius } = scene.drawing.curves[0].kind else {
         unreachable!("a giant begins with its circle")
     };
-    let (x, y) = scene.place(c);
+    let (x, y) = scene.position(c);
     if scene.random.one_in(2) {
         let (a, b) = (scene.point(x + radius, y), scene.point(x - radius, y));
         let (a, b) = if scene.random.one_in(2) { (a, b) } else { (b, a) };
@@ -74,13 +74,13 @@ fn out_of_bounds(mut scene: Scene) -> (Drawing, Edit) {
 }
 
 /// Parameters at which the target is cut: anywhere, at and about its ends, close to each other.
-fn cut_places(random: &mut Random, target: &Target) -> Vec<f64> {
+fn cut_parameters(random: &mut Random, target: &Target) -> Vec<f64> {
     let count = random.pick(&[0, 1, 1, 2, 2, 2, 3, 3, 4, 5, 12]);
     let (span, step) = (target.span(), target.step());
-    let mut places: Vec<f64> = Vec::new();
+    let mut parameters: Vec<f64> = Vec::new();
     for _ in 0..count {
         let end = random.pick(&[0.0, span]);
-        let t = match (random.below(12), places.last()) {
+        let t = match (random.below(12), parameters.last()) {
             (0 | 1, Some(last)) => last + random.near(1e-6) * step,
             (2, _) => end + random.near(1e-9) * span,
             (3, _) => end + random.near(1e-6) * step,
@@ -88,16 +88,16 @@ fn cut_places(random: &mut Random, target: &Target) -> Vec<f64> {
             (6, _) => random.between(0, 4) as f64,
             _ => random.unit() * span,
         };
-        places.push(t);
+        parameters.push(t);
     }
-    places
+    parameters
 }
 
 /// Curves that share a point with the target, lie along it, or make its cuts unknown.
-fn add_company(scene: &mut Scene, target: &Target) {
+fn add_neighbours(scene: &mut Scene, target: &Target) {
     if scene.random.one_in(3) {
         let p = target.shared_point(scene.random);
-        let (x, y) = scene.place(p);
+        let (x, y) = scene.position(p);
         let (dx, dy) = (scene.random.between(-2, 2) as f64, scene.random.between(-2, 2) as f64);
         let q = scene.point(x + dx, y + dy);
         match scene.random.below(3) {

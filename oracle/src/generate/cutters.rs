@@ -81,7 +81,7 @@ fn beside(scene: &mut Scene, frame: &Frame) {
 /// A circle that touches the curve but for about a tolerance or a rounding.
 fn touching(scene: &mut Scene, frame: &Frame) {
     let radius = scene.random.pick(&[1.0, 2.0, 0.5, 5.0, 0.3, 100.0]);
-    let (depth, off) = (scene.random.near(1e-6), scene.random.hair());
+    let (depth, off) = (scene.random.near(1e-6), scene.random.small_offset());
     let depth = scene.random.pick(&[0.0, depth, depth * depth, off]);
     let side = scene.random.pick(&[1.0, -1.0]);
     let c = put_or_share(scene, frame, 0.0, side * (radius - depth));
@@ -140,7 +140,7 @@ fn endless(scene: &mut Scene, frame: &Frame) {
     }
 }
 
-/// Two cutters at one place, or about a tolerance apart.
+/// Two cutters at one position, or about a tolerance apart.
 fn twice(scene: &mut Scene, frame: &Frame) {
     let apart = scene.random.near(1e-6);
     if scene.random.one_in(2) {

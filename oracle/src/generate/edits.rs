@@ -4,7 +4,7 @@ use super::random::Random;
 use crate::drawing::*;
 use crate::message::{Edit, Operation};
 
-/// An edit that mostly names a curve of the drawing and picks a place on it.
+/// An edit that mostly names a curve of the drawing and picks a position on it.
 pub fn edit(random: &mut Random, drawing: &Drawing) -> Edit {
     let operation = random.pick(&Operation::ALL);
     edit_by(random, drawing, operation)
@@ -44,11 +44,11 @@ fn some_curve(random: &mut Random, drawing: &Drawing, operation: Operation) -> O
 }
 
 fn pick_on(random: &mut Random, drawing: &Drawing, kind: &CurveKind, extends: bool) -> (f64, f64) {
-    let place = |id: Id| drawing.point(id).map_or((0.0, 0.0), |point| (point.x, point.y));
+    let position = |id: Id| drawing.point(id).map_or((0.0, 0.0), |point| (point.x, point.y));
     let aside = random.pick(&[0.0, 0.0, 0.1, -0.5, 3.0]) + random.jitter();
     match *kind {
         CurveKind::Line { a, b } => {
-            let ((ax, ay), (bx, by)) = (place(a), place(b));
+            let ((ax, ay), (bx, by)) = (position(a), position(b));
             let free = [(a, 0.0), (b, 1.0)].into_iter().find(|(end, _)| is_free(drawing, *end));
             let u = match free {
                 Some((_, end)) if extends && !random.one_in(4) => end,
@@ -59,18 +59,18 @@ fn pick_on(random: &mut Random, drawing: &Drawing, kind: &CurveKind, extends: bo
             (ax + dx * u - dy * aside * reach, ay + dy * u + dx * aside * reach)
         }
         CurveKind::Arc { c, a, b } => {
-            let (x, y) = place(random.pick(&[a, b]));
+            let (x, y) = position(random.pick(&[a, b]));
             if random.one_in(5) {
-                return (x + random.hair(), y + random.hair());
+                return (x + random.small_offset(), y + random.small_offset());
             }
-            around(random, place(c), (x, y), aside)
+            around(random, position(c), (x, y), aside)
         }
         CurveKind::Circle { c, radius } => {
-            let (x, y) = place(c);
+            let (x, y) = position(c);
             around(random, (x, y), (x + radius, y), aside)
         }
-        CurveKind::Bezier { points, .. } => place(points[0]),
-        CurveKind::Conic { apex, .. } => place(apex),
+        CurveKind::Bezier { points, .. } => position(points[0]),
+        CurveKind::Conic { apex, .. } => position(apex),
     }
 }
 
@@ -98,7 +98,7 @@ fn share(random: &mut Random) -> f64 {
     }
 }
 
-/// A place about a centre: on the rim's direction, at another angle, or the centre itself.
+/// A position about a centre: on the rim's direction, at another angle, or the centre itself.
 fn around(random: &mut Random, c: (f64, f64), rim: (f64, f64), aside: f64) -> (f64, f64) {
     let (dx, dy) = (rim.0 - c.0, rim.1 - c.1);
     let grow = 1.0 + aside * 0.1;

@@ -23,11 +23,11 @@ const DIRECTIONS: [(f64, f64); 12] = [
 ];
 
 impl Random {
-    pub fn place(&mut self) -> Vec2 {
+    pub fn position(&mut self) -> Vec2 {
         Vec2::new(self.coordinate(), self.coordinate())
     }
 
-    /// Mostly no displacement, else by a hair in one or both coordinates.
+    /// Mostly no displacement, else a small offset in one or both coordinates.
     fn displacement(&mut self) -> Vec2 {
         Vec2::new(self.jitter(), self.jitter())
     }
@@ -40,7 +40,7 @@ impl Random {
     /// A radius that an image may hold, or one too small for it.
     fn radius(&mut self) -> f64 {
         match self.below(16) {
-            0 => self.hair().abs(),
+            0 => self.small_offset().abs(),
             1 => self.pick(&[0.0, 1e-6, 1e6, 5e-324, 1e-170]),
             2 => self.unit() * 1e6,
             3..=6 => self.unit() * 12.0,
@@ -63,7 +63,7 @@ fn round(random: &mut Random, kind: Kind, c: Vec2, r: f64) -> Figure {
         Kind::Circle => Figure::circle(c, r),
         Kind::Arc => {
             let a = c + random.direction() * r + random.displacement();
-            let away = random.place();
+            let away = random.position();
             let end = c + random.direction() * r + random.displacement();
             // Ends in one direction make a full sweep.
             let b = random.weighted(&[(6, end), (2, away), (1, a), (1, c + (a - c) * 2.0)]);
@@ -73,8 +73,8 @@ fn round(random: &mut Random, kind: Kind, c: Vec2, r: f64) -> Figure {
 }
 
 fn line(random: &mut Random) -> Figure {
-    let (a, away) = (random.place(), random.place());
-    let near = a + Vec2::new(random.maybe_hair(), random.maybe_hair());
+    let (a, away) = (random.position(), random.position());
+    let near = a + Vec2::new(random.maybe_small_offset(), random.maybe_small_offset());
     let level = Vec2::new(away.x, a.y);
     Figure::line(a, random.weighted(&[(12, away), (4, level), (2, near), (1, a)]))
 }
@@ -84,7 +84,7 @@ fn arc_by_the_axis(random: &mut Random) -> Figure {
     let c = random.pick(&[Vec2::new(0.0, 0.0), Vec2::new(0.0, -0.0), Vec2::new(2.0, 1.0)]);
     let off = f64::EPSILON * random.between(-8, 8) as f64;
     let a = Vec2::new(c.x + 1.0, c.y + off);
-    let b = random.place();
+    let b = random.position();
     Figure::arc(c, a, random.pick(&[a, b, Vec2::new(c.x + 1.0, c.y - off)]))
 }
 
@@ -98,7 +98,7 @@ fn plain_figure(random: &mut Random, kind: Kind) -> Figure {
         Kind::Line => line(random),
         Kind::Arc if random.one_in(8) => arc_by_the_axis(random),
         Kind::Arc | Kind::Circle => {
-            let (c, r) = (random.place(), random.radius());
+            let (c, r) = (random.position(), random.radius());
             round(random, kind, c, r)
         }
     }
@@ -120,7 +120,7 @@ impl Figure {
     }
 }
 
-/// Two figures of these kinds, mostly placed so that crossing is a near thing.
+/// Two figures of these kinds, most of them such that they nearly cross or nearly miss each other.
 pub fn pair(random: &mut Random, first: Kind, second: Kind) -> (Figure, Figure) {
     let scale = scale(random);
     let one = plain_figure(random, first);
@@ -136,16 +136,16 @@ pub fn pair(random: &mut Random, first: Kind, second: Kind) -> (Figure, Figure) 
 
 /// Parallel, nearly so, or from one of the other's ends.
 fn line_beside(random: &mut Random, other: &Figure) -> Figure {
-    let (a, d) = (other.place(0), other.place(1) - other.place(0));
-    let away = a + random.place();
-    let start = random.pick(&[a, other.place(1), away, a + d * 0.5]);
+    let (a, d) = (other.point(0), other.point(1) - other.point(0));
+    let away = a + random.position();
+    let start = random.pick(&[a, other.point(1), away, a + d * 0.5]);
     let end = start + d * random.pick(&[1.0, -1.0, 2.0, 0.25]) + random.displacement();
     Figure::line(start, random.weighted(&[(3, end), (1, start + d.left())]))
 }
 
-/// Touching the line, within a hair of it, or around one of its ends.
+/// Touching the line, a small offset from it, or around one of its ends.
 fn round_beside_line(random: &mut Random, kind: Kind, line: &Figure) -> Figure {
-    let (a, b) = (line.place(0), line.place(1));
+    let (a, b) = (line.point(0), line.point(1));
     let r = random.radius();
     let touching = match (b - a).normalized() {
         Some(d) => a + (b - a) * random.unit() + d.left() * r + random.displacement(),
@@ -155,30 +155,30 @@ fn round_beside_line(random: &mut Random, kind: Kind, line: &Figure) -> Figure {
     round(random, kind, c, r)
 }
 
-/// Touching the round, within a hair of it, or through its centre.
+/// Touching the round, a small offset from it, or through its centre.
 fn line_beside_round(random: &mut Random, other: &Figure) -> Figure {
     let n = random.direction();
     let from_centre = radius_of(other) * random.pick(&[1.0, 1.0, 0.5, 0.0]);
-    let foot = other.place(0) + n * from_centre + random.displacement();
+    let foot = other.point(0) + n * from_centre + random.displacement();
     Figure::line(foot - n.left() * random.grid(), foot + n.left() * random.grid())
 }
 
 /// Touching from outside or inside, with the same centre or nearly, or crossing.
 fn round_beside_round(random: &mut Random, kind: Kind, other: &Figure) -> Figure {
-    let (c, r) = (other.place(0), radius_of(other));
+    let (c, r) = (other.point(0), radius_of(other));
     let radius = if random.one_in(4) { r } else { random.radius() };
     let apart = random.pick(&[r + radius, r - radius, r, 0.0, radius]);
     let centre = c + random.direction() * apart + random.displacement();
     round(random, kind, centre, radius)
 }
 
-/// A point to measure: anywhere, on the figure or off it by a hair, or one that it is made of.
+/// A point to measure: anywhere, on the figure or off it by a small offset, or one that it is made of.
 pub fn point_by(random: &mut Random, figure: &Figure) -> Vec2 {
     let on = figure.shape().point(parameter(random, figure));
-    let off = on + Vec2::new(random.maybe_hair(), random.maybe_hair());
-    let own = figure.place(random.below(3));
-    let centre = figure.place(0) + random.displacement();
-    let any = random.place();
+    let off = on + Vec2::new(random.maybe_small_offset(), random.maybe_small_offset());
+    let own = figure.point(random.below(3));
+    let centre = figure.point(0) + random.displacement();
+    let any = random.position();
     let point = random.weighted(&[(4, any), (3, on), (3, off), (2, own), (2, centre)]);
     if point.is_finite() {
         point
@@ -187,14 +187,14 @@ pub fn point_by(random: &mut Random, figure: &Figure) -> Vec2 {
     }
 }
 
-/// A line's parameter is any number. A round's lies within one turn; a hair before it too.
+/// A line's parameter is any number. A round's lies within one turn, or a small offset before it.
 pub fn parameter(random: &mut Random, figure: &Figure) -> f64 {
     if figure.kind == Kind::Line {
-        let (any, within, hair) = (random.coordinate(), random.unit(), random.hair());
-        return random.pick(&[any, within, 0.0, 1.0, hair, 1.0 + hair]);
+        let (any, within, small) = (random.coordinate(), random.unit(), random.small_offset());
+        return random.pick(&[any, within, 0.0, 1.0, small, 1.0 + small]);
     }
     let (any, quarter) = (random.unit() * FULL_TURN, random.below(5) as f64);
-    let near = (quarter + random.hair()).min(FULL_TURN);
+    let near = (quarter + random.small_offset()).min(FULL_TURN);
     let parameter = random.pick(&[any, quarter, near]);
     if has_point(figure, parameter) {
         parameter

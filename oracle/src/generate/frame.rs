@@ -1,4 +1,4 @@
-//! A place and a direction: coordinates along it and across it.
+//! A position and a direction: coordinates along it and across it.
 
 use super::random::Random;
 use cad_geom::Vec2;

@@ -3,21 +3,21 @@
 use super::scene::Scene;
 use crate::drawing::*;
 
-/// A line through some point of the scene, or past it by a hair.
+/// A line through some point of the scene, or past it by a small offset.
 pub fn through_a_point(scene: &mut Scene) {
-    let Some((x, y)) = some_place(scene) else { return };
+    let Some((x, y)) = some_position(scene) else { return };
     let (dx, dy) = (scene.random.between(-2, 2) as f64, scene.random.between(1, 3) as f64);
-    let off = scene.random.maybe_hair();
+    let off = scene.random.maybe_small_offset();
     let start = scene.point(x + off + dx, y + dy);
     let stop = scene.point(x + off - dx, y - dy);
     scene.line(start, stop);
 }
 
-/// A line beside another, as long, a hair away from it or turned by one.
+/// A line beside another, as long, moved or turned by a small offset.
 pub fn twin(scene: &mut Scene) {
     let Some((a, b)) = scene.some_line() else { return };
-    let ((ax, ay), (bx, by)) = (scene.place(a), scene.place(b));
-    let (near, far) = (scene.random.hair(), scene.random.hair());
+    let ((ax, ay), (bx, by)) = (scene.position(a), scene.position(b));
+    let (near, far) = (scene.random.small_offset(), scene.random.small_offset());
     let far = if scene.random.one_in(2) { near } else { far };
     let upright = (bx - ax).abs() < (by - ay).abs();
     let moved = |x: f64, y: f64, by: f64| if upright { (x + by, y) } else { (x, y + by) };
@@ -27,10 +27,10 @@ pub fn twin(scene: &mut Scene) {
     scene.line(start, stop);
 }
 
-/// A circle about a point of the scene, or about a place a hair away.
+/// A circle about a point of the scene, or about a position a small offset from it.
 pub fn concentric(scene: &mut Scene) {
-    let Some((x, y)) = some_place(scene) else { return };
-    let off = scene.random.maybe_hair();
+    let Some((x, y)) = some_position(scene) else { return };
+    let off = scene.random.maybe_small_offset();
     let c = scene.point(x + off, y);
     let radius = scene.random.pick(&[1.0, 2.0, 5.0]) + scene.random.jitter();
     scene.curve(CurveKind::Circle { c, radius });
@@ -75,10 +75,10 @@ pub fn giant(scene: &mut Scene) {
     }
 }
 
-fn some_place(scene: &mut Scene) -> Option<(f64, f64)> {
+fn some_position(scene: &mut Scene) -> Option<(f64, f64)> {
     if scene.drawing.points.is_empty() {
         return None;
     }
     let id = scene.any_point();
-    Some(scene.place(id))
+    Some(scene.position(id))
 }

@@ -1,4 +1,4 @@
-//! Relations that are met or missed by a hair: what they measure lies at the tolerance or beside it.
+//! Relations that are just met or just not: what they measure lies at the tolerance or beside it.
 
 use super::random::Random;
 use super::scene::Scene;
@@ -40,7 +40,7 @@ fn gap(random: &mut Random) -> f64 {
     }
 }
 
-/// A place where a gap is not lost to rounding, or one where some of it is.
+/// A position where a gap is not lost to rounding, or one where some of it is.
 fn base(random: &mut Random) -> (f64, f64) {
     let mut one = || {
         let tiny = random.unit() * 1e-6;
@@ -158,7 +158,7 @@ fn equal(scene: &mut Scene) -> Relation {
     Relation::Equal { a: one(length), b: one(length + by) }
 }
 
-/// A value beside a length, within what a relation may carry.
+/// A value beside a length, within what a relation may have.
 fn beside(random: &mut Random, length: f64) -> f64 {
     let value = (length + gap(random)).clamp(0.0, MAX_VALUE);
     if value == 0.0 {

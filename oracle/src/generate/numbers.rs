@@ -8,14 +8,14 @@ const TOLERANCES: [f64; 6] = [1e-6, 1e-7, 1e-9, 1e-10, 1e-12, 1e-15];
 const FACTORS: [f64; 7] = [0.5, 0.999, 1.0, 1.001, 2.0, 10.0, 100.0];
 
 impl Random {
-    /// A place on a small grid, so that ends, crossings and tangencies fall together.
+    /// A coordinate on a small grid, so that ends, crossings and tangencies fall together.
     pub fn grid(&mut self) -> f64 {
         let step = self.pick(&[1.0, 1.0, 1.0, 0.5, 0.25]);
         self.between(-12, 12) as f64 * step
     }
 
     /// A signed distance near one of the tolerances.
-    pub fn hair(&mut self) -> f64 {
+    pub fn small_offset(&mut self) -> f64 {
         let size = self.pick(&TOLERANCES) * self.pick(&FACTORS);
         if self.one_in(2) {
             size
@@ -24,25 +24,25 @@ impl Random {
         }
     }
 
-    /// Mostly nothing, else a hair.
+    /// Mostly 0, else a small offset.
     pub fn jitter(&mut self) -> f64 {
         if self.one_in(6) {
-            self.hair()
+            self.small_offset()
         } else {
             0.0
         }
     }
 
-    /// As often a hair as nothing.
-    pub fn maybe_hair(&mut self) -> f64 {
+    /// As often a small offset as 0.
+    pub fn maybe_small_offset(&mut self) -> f64 {
         if self.one_in(2) {
-            self.hair()
+            self.small_offset()
         } else {
             0.0
         }
     }
 
-    /// Nothing, or a signed distance about one tolerance: most often a rounding from it.
+    /// 0, or a signed distance about one tolerance: most often a rounding from it.
     pub fn near(&mut self, tolerance: f64) -> f64 {
         let edge = self.nudged(tolerance);
         let about = tolerance * self.pick(&[0.5, 0.9, 0.999, 1.0, 1.001, 1.1, 2.0]);

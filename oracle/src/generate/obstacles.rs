@@ -4,7 +4,7 @@ use super::frame::Frame;
 use super::scene::Scene;
 use crate::drawing::*;
 
-/// Adds an obstacle with a definite place.
+/// Adds an obstacle with a definite position.
 pub fn add_obstacle(scene: &mut Scene, frame: &Frame) {
     type Obstacle = fn(&mut Scene, &Frame);
     const OBSTACLES: [(usize, Obstacle); 7] =

@@ -87,7 +87,7 @@ fn factored(random: &mut Random) -> Vec<f64> {
 /// Several roots in a row, so near each other that some count as one, and a few anywhere.
 fn clustered(random: &mut Random) -> Vec<f64> {
     const GAPS: [f64; 8] = [3e-14, 1.1e-13, 6e-11, 9e-11, 1.1e-10, 3e-10, 1e-8, 1e-4];
-    let (start, gap) = (pick_place(random, &[0.0, 0.25, 0.5]), random.pick(&GAPS));
+    let (start, gap) = (pick_root(random, &[0.0, 0.25, 0.5]), random.pick(&GAPS));
     let mut product = vec![1.0];
     for place in 0..2 + random.below(6) {
         product = times_root(&product, start + gap * place as f64);
@@ -101,7 +101,7 @@ fn clustered(random: &mut Random) -> Vec<f64> {
 /// A double root lifted or lowered by about as much as still counts as zero.
 fn grazing(random: &mut Random) -> Vec<f64> {
     const SHARES: [f64; 10] = [0.0, 0.1, 0.9, 0.999, 1.0, 1.001, 1.1, 10.0, 1e3, 1e6];
-    let root = pick_place(random, &[0.5, 0.25, 1.0 / 3.0]);
+    let root = pick_root(random, &[0.5, 0.25, 1.0 / 3.0]);
     let mut product = times_root(&times_root(&[1.0], root), root);
     for _ in 0..random.below(4) {
         product = times_root(&product, random.unit() * 3.0 - 1.0);
@@ -130,12 +130,12 @@ fn spoilt(random: &mut Random) -> Vec<f64> {
     all
 }
 
-/// One of the places, or anywhere.
-fn pick_place(random: &mut Random, places: &[f64]) -> f64 {
+/// One of the given roots, or any number from 0 to below 1.
+fn pick_root(random: &mut Random, roots: &[f64]) -> f64 {
     if random.one_in(3) {
         random.unit()
     } else {
-        random.pick(places)
+        random.pick(roots)
     }
 }
 

@@ -65,7 +65,7 @@ fn lines(scene: &mut Scene) -> Option<(Id, Id)> {
 }
 
 fn gap(scene: &Scene, p: Id, q: Id) -> f64 {
-    let ((px, py), (qx, qy)) = (scene.place(p), scene.place(q));
+    let ((px, py), (qx, qy)) = (scene.position(p), scene.position(q));
     (px - qx).hypot(py - qy)
 }
 
@@ -79,7 +79,7 @@ fn line_ends(scene: &Scene, line: Id) -> (Id, Id) {
 /// How far a point is from an endless line.
 fn off_line(scene: &Scene, p: Id, line: Id) -> f64 {
     let (a, b) = line_ends(scene, line);
-    let ((px, py), (ax, ay), (bx, by)) = (scene.place(p), scene.place(a), scene.place(b));
+    let ((px, py), (ax, ay), (bx, by)) = (scene.position(p), scene.position(a), scene.position(b));
     let length = gap(scene, a, b);
     if length < 1e-12 {
         return gap(scene, p, a);
@@ -149,7 +149,7 @@ fn distance(scene: &mut Scene) -> Option<Relation> {
 fn midpoint(scene: &mut Scene, unmet_too: bool) -> Option<Relation> {
     let line = some_curve(scene, CurveKind::is_line)?;
     let (a, b) = line_ends(scene, line);
-    let ((ax, ay), (bx, by)) = (scene.place(a), scene.place(b));
+    let ((ax, ay), (bx, by)) = (scene.position(a), scene.position(b));
     let (x, y) = ((ax + bx) * 0.5, (ay + by) * 0.5);
     let middle = scene.drawing.points.iter().find(|p| (p.x - x).hypot(p.y - y) <= 1e-7);
     match middle.map(|point| point.id) {

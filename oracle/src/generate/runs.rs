@@ -4,10 +4,10 @@ use super::messages::{damage, message_bytes};
 use super::random::Random;
 use super::{bridges, cuts, edits, extensions};
 use crate::drawing::{Drawing, Id};
-use crate::exhibit::Screen;
 use crate::image;
 use crate::message::{self, Edit, Message};
 use crate::program::MAX_INPUT;
+use crate::replication::Replica;
 
 /// The most edits in a run.
 pub const MOST_EDITS: usize = 40;
@@ -24,7 +24,7 @@ pub struct Run {
 impl Run {
     pub fn any(random: &mut Random) -> Run {
         let (start, first) = start(random);
-        let mut desk = Screen::new(start.clone());
+        let mut desk = Replica::new(start.clone());
         let (mut calls, mut written) = (Vec::new(), Vec::new());
         let count = random.pick(&[0, 1, 2, 4, 8, 15, MOST_EDITS]);
         for at in 0..count {

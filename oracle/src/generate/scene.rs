@@ -56,14 +56,14 @@ impl<'r> Scene<'r> {
     pub fn point(&mut self, x: f64, y: f64) -> Id {
         let id = self.fresh(self.last_point);
         let fixed = self.random.one_in(12);
-        // Jitter and far pieces may carry a place past the bounds.
+        // Jitter and far pieces may move a point past the bounds.
         let within = |v: f64| v.clamp(-MAX_COORDINATE, MAX_COORDINATE);
         self.drawing.points.push(Point { id, x: within(x), y: within(y), fixed });
         self.last_point = id;
         id
     }
 
-    /// A point at this place, or sometimes one that stands there or elsewhere already.
+    /// A point at this position, or sometimes one that stands there or elsewhere already.
     pub fn end(&mut self, x: f64, y: f64) -> Id {
         let points = &self.drawing.points;
         if points.is_empty() || !self.random.one_in(3) {
@@ -88,7 +88,7 @@ impl<'r> Scene<'r> {
         self.drawing.points[at].id
     }
 
-    pub fn place(&self, id: Id) -> (f64, f64) {
+    pub fn position(&self, id: Id) -> (f64, f64) {
         let point = self.drawing.point(id).expect("the scene gave this id out");
         (point.x, point.y)
     }
@@ -164,9 +164,9 @@ impl<'r> Scene<'r> {
 
 /// Multiplies every measure of a drawing, within its bounds.
 fn rescale(drawing: &mut Drawing, scale: f64) {
-    let place = |v: f64| (v * scale).clamp(-MAX_COORDINATE, MAX_COORDINATE);
+    let coordinate = |v: f64| (v * scale).clamp(-MAX_COORDINATE, MAX_COORDINATE);
     for point in &mut drawing.points {
-        (point.x, point.y) = (place(point.x), place(point.y));
+        (point.x, point.y) = (coordinate(point.x), coordinate(point.y));
     }
     for curve in &mut drawing.curves {
         if let CurveKind::Circle { radius, .. } = &mut curve.kind {

@@ -69,10 +69,11 @@ fn point_at(scene: &mut Scene, p: Vec2) -> Id {
 }
 
 fn line(scene: &mut Scene, frame: &Frame) -> Target {
-    let length = if scene.random.one_in(40) { scene.random.hair() } else { size(scene.random) };
+    let length =
+        if scene.random.one_in(40) { scene.random.small_offset() } else { size(scene.random) };
     let ends = [0.0, length].map(|along| scene.put(frame, along, 0.0));
     let [a, b] = if scene.random.one_in(3) { [ends[1], ends[0]] } else { ends };
-    let shape = Shape::Line { a: place(scene, a), b: place(scene, b) };
+    let shape = Shape::Line { a: position(scene, a), b: position(scene, b) };
     Target { kind: CurveKind::Line { a, b }, shape }
 }
 
@@ -96,7 +97,7 @@ fn arc(scene: &mut Scene, frame: &Frame) -> Target {
     let c = point_at(scene, centre);
     let a = point_at(scene, rim.point(start));
     let b = point_at(scene, rim.point((start + sweep).rem_euclid(4.0)));
-    let shape = Shape::arc(place(scene, c), place(scene, a), place(scene, b));
+    let shape = Shape::arc(position(scene, c), position(scene, a), position(scene, b));
     Target { kind: CurveKind::Arc { c, a, b }, shape }
 }
 
@@ -104,11 +105,14 @@ fn circle(scene: &mut Scene, frame: &Frame) -> Target {
     let radius = size(scene.random).clamp(*RADIUS.start(), *RADIUS.end());
     let (x, y) = centre(scene.random, frame, radius);
     let c = scene.point(x, y);
-    Target { kind: CurveKind::Circle { c, radius }, shape: Shape::circle(place(scene, c), radius) }
+    Target {
+        kind: CurveKind::Circle { c, radius },
+        shape: Shape::circle(position(scene, c), radius),
+    }
 }
 
-fn place(scene: &Scene, id: Id) -> Vec2 {
-    let (x, y) = scene.place(id);
+fn position(scene: &Scene, id: Id) -> Vec2 {
+    let (x, y) = scene.position(id);
     Vec2::new(x, y)
 }
 

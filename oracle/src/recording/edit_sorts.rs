@@ -1,4 +1,4 @@
-//! What tells calls of edits apart when some of each sort are chosen.
+//! The sort of an edit's call, so that some of each sort can be chosen.
 
 use crate::call::Call;
 use crate::drawing::*;
@@ -18,13 +18,13 @@ const LARGE: usize = 12_500;
 
 /// The sort of a call, how many of that sort are recorded, and how large their images may be.
 pub fn sort(call: &Call) -> (Sort, usize, usize) {
-    let (operation, judged) = (call.operation.min(4), call.judge());
+    let (operation, outcome) = (call.operation.min(4), call.outcome());
     let Ok(before) = image::read(&call.image) else {
-        let number = judged.map_or_else(|refused| refused.refusal.number(), |_| 0);
+        let number = outcome.map_or_else(|refused| refused.refusal.number(), |_| 0);
         return ((0, 0, number, [0; 3], 0), 3, SMALL);
     };
     let kind = before.curve(call.curve).map_or(0, kind_code);
-    match judged {
+    match outcome {
         Err(Refused { refusal: Refusal::TableFull, .. }) => {
             ((operation, kind, 22, nearly_full(&before), 0), 1, LARGE)
         }

@@ -36,7 +36,7 @@ const CHOICE: usize = 60_000;
 const SPOILT: usize = 300;
 
 pub fn edits(seed: u64) -> List<()> {
-    let mut list = List::new(judge);
+    let mut list = List::new(outcome_of);
     for (drawing, edit) in examples().into_iter().chain(rare()) {
         add(&mut list, &Call::new(&drawing, &edit), usize::MAX);
     }
@@ -82,14 +82,15 @@ fn read(input: &[u8]) -> (Call, usize) {
     (Call { operation, image, curve, x, y }, u32_at(input, 26) as usize)
 }
 
-fn judge(input: &[u8]) -> Result<(), Refusal> {
+/// The outcome of the call that an entry's input holds.
+fn outcome_of(input: &[u8]) -> Result<(), Refusal> {
     let (call, room) = read(input);
-    outcome(&call, room).map(|_| ()).map_err(|refused| refused.refusal)
+    written_by(&call, room).map(|_| ()).map_err(|refused| refused.refusal)
 }
 
-/// What the call writes.
-fn outcome(call: &Call, room: usize) -> Result<Vec<u8>, Refused> {
-    let (after, report) = call.judge()?;
+/// The bytes that the call writes.
+fn written_by(call: &Call, room: usize) -> Result<Vec<u8>, Refused> {
+    let (after, report) = call.outcome()?;
     let mut out = vec![0; room];
     call::write(&after, &report, &mut out)?;
     out.truncate(call::size(&after));
@@ -98,11 +99,11 @@ fn outcome(call: &Call, room: usize) -> Result<Vec<u8>, Refused> {
 
 /// Adds a call with as much room as it needs and at most so much.
 fn add(list: &mut List<()>, call: &Call, most: usize) {
-    let needed = call.judge().map_or(0, |(after, _)| call::size(&after));
+    let needed = call.outcome().map_or(0, |(after, _)| call::size(&after));
     let room = needed.min(most);
-    let answer = outcome(call, room);
-    let place = answer.as_ref().err().and_then(|refused| refused.place).unwrap_or(0);
-    let written = answer.unwrap_or_default();
+    let outcome = written_by(call, room);
+    let place = outcome.as_ref().err().and_then(|refused| refused.place).unwrap_or(0);
+    let written = outcome.unwrap_or_default();
     let mut input = vec![0; HEADER];
     put(&mut input, 0, (place as u16).to_be_bytes());
     put(&mut input, 2, call.operation.to_be_bytes());
@@ -117,7 +118,7 @@ fn add(list: &mut List<()>, call: &Call, most: usize) {
     list.add(input);
 }
 
-/// The edits that the exhibit is agreed on.
+/// The worked examples' edits.
 fn examples() -> Vec<(Drawing, Edit)> {
     let edit = |operation, x, y| Edit { operation, curve: 3, x, y };
     let (trim, split, extend) = (Operation::Trim, Operation::Split, Operation::Extend);
@@ -185,7 +186,7 @@ fn spoilt(random: &mut Random, call: &Call) -> [Call; 3] {
 fn add_short_buffers(list: &mut List<()>) {
     for (drawing, edit) in examples() {
         let call = Call::new(&drawing, &edit);
-        let needed = call.judge().map_or(1, |(after, _)| call::size(&after));
+        let needed = call.outcome().map_or(1, |(after, _)| call::size(&after));
         for room in [0, call::REPORT_SIZE - 1, call::REPORT_SIZE, needed - 1] {
             add(list, &call, room);
         }

@@ -31,19 +31,19 @@ const HEAD: usize = 5;
 
 /// A list under construction; an input stands in it once.
 pub struct List<T> {
-    judge: fn(&[u8]) -> Result<T, Refusal>,
+    outcome_of: fn(&[u8]) -> Result<T, Refusal>,
     seen: BTreeSet<Vec<u8>>,
     bytes: Vec<u8>,
     outcomes: Vec<u8>,
 }
 
 impl<T> List<T> {
-    fn new(judge: fn(&[u8]) -> Result<T, Refusal>) -> Self {
-        List { judge, seen: BTreeSet::new(), bytes: Vec::new(), outcomes: Vec::new() }
+    fn new(outcome_of: fn(&[u8]) -> Result<T, Refusal>) -> Self {
+        List { outcome_of, seen: BTreeSet::new(), bytes: Vec::new(), outcomes: Vec::new() }
     }
 
     fn outcome(&self, input: &[u8]) -> u8 {
-        number_of(&(self.judge)(input))
+        number_of(&(self.outcome_of)(input))
     }
 
     fn add(&mut self, input: Vec<u8>) {

@@ -15,7 +15,7 @@ const HEAD: usize = 18;
 
 pub fn root_searches(seed: u64) -> List<()> {
     let mut random = Random::new(seed);
-    let mut list = List::new(judge);
+    let mut list = List::new(outcome_of);
     for (example, budget) in examples() {
         list.add(entry(&example, BUFFER, budget));
     }
@@ -51,7 +51,7 @@ fn entry(coefficients: &[f64], room: usize, budget: usize) -> Vec<u8> {
 }
 
 /// The outcome of the search that an entry records.
-fn judge(entry: &[u8]) -> Result<(), Refusal> {
+fn outcome_of(entry: &[u8]) -> Result<(), Refusal> {
     let (room, count) = (usize::from(entry[0]), usize::from(entry[1]));
     let number = |at: usize| u64::from_be_bytes(entry[at..at + 8].try_into().expect("eight"));
     let coefficients: Vec<f64> = (0..count).map(|i| f64::from_bits(number(HEAD + 8 * i))).collect();

@@ -6,12 +6,12 @@
 use super::List;
 use crate::bytes::u32_at;
 use crate::examples::{l, point, t};
-use crate::exhibit::Delivery;
 use crate::generate::{random::Random, runs};
 use crate::image::{self, HEADER_SIZE};
 use crate::message::{self, Edit, Message, Operation};
 use crate::program::{self, image_end, MAX_INPUT};
 use crate::refusal::Refusal;
+use crate::replication::Delivery;
 use std::collections::{BTreeMap, BTreeSet};
 
 /// Bytes of an entry's input before the program's.
@@ -23,7 +23,7 @@ const EACH: usize = 3;
 const LARGEST: usize = 7_000;
 
 pub fn runs(seed: u64) -> List<()> {
-    let mut list = List::new(judge);
+    let mut list = List::new(outcome_of);
     add_short_inputs(&mut list);
     add_limits(&mut list);
     let mut random = Random::new(seed);
@@ -42,7 +42,7 @@ pub fn runs(seed: u64) -> List<()> {
     list
 }
 
-/// How many runs had a delivery of each outcome: a refusal's number, 0 for an edit done, `OLD`.
+/// How many runs had a delivery of each outcome: a refusal's number, 0 for an edit applied, `OLD`.
 pub fn run_coverage(list: &List<()>) -> BTreeMap<u8, usize> {
     let mut counts = BTreeMap::new();
     for (_, entry) in list.entries() {
@@ -52,14 +52,15 @@ pub fn run_coverage(list: &List<()>) -> BTreeMap<u8, usize> {
     counts
 }
 
-/// Stands for a message that was done before.
+/// Stands for a message whose edit was applied before.
 pub const OLD: u8 = 26;
 
 fn program_input(entry: &[u8]) -> &[u8] {
     &entry[HEADER..][..u32_at(entry, 0) as usize]
 }
 
-fn judge(entry: &[u8]) -> Result<(), Refusal> {
+/// The outcome of the image that an entry's run begins with.
+fn outcome_of(entry: &[u8]) -> Result<(), Refusal> {
     let input = program_input(entry);
     image::read(&input[..image_end(input)]).map(|_| ())
 }
@@ -75,7 +76,7 @@ fn deliveries(input: &[u8]) -> Vec<u8> {
     program::run_watched(input, |delivered| {
         outcomes.push(match delivered {
             Ok(Delivery::Old) => OLD,
-            Ok(Delivery::Done(_)) => 0,
+            Ok(Delivery::Applied(_)) => 0,
             Err(refused) => refused.refusal.number(),
         });
     });
@@ -88,10 +89,10 @@ enum Sort {
     Image(u8),
     /// The outcome of a delivery, and the message's operation byte if it is long enough for one.
     Delivered(u8, Option<u8>),
-    /// A delivery and the one behind it: done, old, ahead or refused otherwise.
+    /// A delivery and the one behind it: applied, old, ahead or refused otherwise.
     Followed(u8, u8),
-    /// So many edits done, to the next four.
-    Done(usize),
+    /// The number of edits applied, in fours, rounded up.
+    Applied(usize),
     /// The last message is cut short.
     Rest,
 }
@@ -110,7 +111,9 @@ fn sorts(input: &[u8]) -> BTreeSet<Sort> {
         .collect();
     let broad = |outcome| if [0, OLD, 7].contains(&outcome) { outcome } else { 1 };
     sorts.extend(outcomes.windows(2).map(|pair| Sort::Followed(broad(pair[0]), broad(pair[1]))));
-    sorts.insert(Sort::Done(outcomes.iter().filter(|outcome| **outcome == 0).count().div_ceil(4)));
+    sorts.insert(Sort::Applied(
+        outcomes.iter().filter(|outcome| **outcome == 0).count().div_ceil(4),
+    ));
     if !messages.len().is_multiple_of(message::SIZE) {
         sorts.insert(Sort::Rest);
     }

@@ -25,8 +25,9 @@ mod interface {
     }
 }
 
-/// What an edit that was made adds to a sum beside the count after it, and what an old message adds.
-pub const MADE: u32 = 256;
+/// What an accepted call adds to a sum: an applied edit this and the count after it, an old message
+/// this alone.
+pub const ACCEPTED: u32 = 256;
 
 /// Answers how many bytes it wrote to the front of `out`.
 #[inline]
@@ -36,7 +37,7 @@ pub fn wall(input: &[u8], out: &mut [u8]) -> usize {
 }
 
 /// Reads the image once, then edits at a desk with its sketch and the count so many times. Each adds
-/// a refusal's number, or `MADE` and the count after it, to the sum that is answered.
+/// a refusal's number, or `ACCEPTED` and the count after it, to the sum that is answered.
 #[inline]
 pub fn desk_repeated(
     image: &[u8],
@@ -52,7 +53,8 @@ pub fn desk_repeated(
 }
 
 /// Reads the image once, then delivers a message to a wall with its sketch and the count so many
-/// times. Each adds a refusal's number, `MADE` where it is old, or `MADE` and the count after it.
+/// times. Each adds a refusal's number, `ACCEPTED` where it is old, or `ACCEPTED` and the count
+/// after it.
 #[inline]
 pub fn deliver_repeated(image: &[u8], count: u32, message: &[u8], times: u32) -> u32 {
     let (bytes, len) = (image.as_ptr(), image.len());

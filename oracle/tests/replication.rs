@@ -4,11 +4,11 @@
 use oracle::call::answer;
 use oracle::drawing::Drawing;
 use oracle::examples::{l, t};
-use oracle::exhibit::{Delivery, Screen};
 use oracle::generate::{bridges, edits, random::Random, runs::Run};
 use oracle::image;
 use oracle::message::{self, Edit, Operation};
 use oracle::program;
+use oracle::replication::{Delivery, Replica};
 use oracle::steps::State;
 
 const SPLIT: Edit = Edit { operation: Operation::Split, curve: 3, x: 1.0, y: 3.0 };
@@ -18,7 +18,7 @@ fn a_wall_follows_its_desk() {
     let mut random = Random::new(21);
     for _ in 0..500 {
         let start = bridges::any_drawing(&mut random);
-        let mut desk = Screen::new(start.clone());
+        let mut desk = Replica::new(start.clone());
         let (mut wall, mut out) = (desk.clone(), [0; message::SIZE]);
         let mut input = image::to_bytes(&start);
         for _ in 0..8 {
@@ -26,7 +26,7 @@ fn a_wall_follows_its_desk() {
             let before = desk.clone();
             match desk.edit(&edit, &mut out) {
                 Ok(report) => {
-                    assert_eq!(wall.deliver(&out), Ok(Delivery::Done(report)));
+                    assert_eq!(wall.deliver(&out), Ok(Delivery::Applied(report)));
                     input.extend(out);
                 }
                 Err(_) => {
@@ -43,7 +43,7 @@ fn a_wall_follows_its_desk() {
 
 #[test]
 fn a_refused_edit_writes_no_message() {
-    let mut desk = Screen::new(l());
+    let mut desk = Replica::new(l());
     let mut out = [0x55; 40];
     assert!(desk.edit(&Edit { curve: 9, ..SPLIT }, &mut out).is_err());
     assert_eq!(out, [0x55; 40]);
@@ -64,7 +64,7 @@ fn the_program_answers_a_refused_image_with_its_number() {
 
 #[test]
 fn the_program_passes_over_refused_messages_and_a_shorter_rest() {
-    let mut desk = Screen::new(l());
+    let mut desk = Replica::new(l());
     let mut out = [0; message::SIZE];
     desk.edit(&SPLIT, &mut out).expect("the example is accepted");
     let mut damaged = out;
@@ -75,7 +75,7 @@ fn the_program_passes_over_refused_messages_and_a_shorter_rest() {
 
 #[test]
 fn the_program_reads_no_further_than_its_limit() {
-    let mut desk = Screen::new(l());
+    let mut desk = Replica::new(l());
     let mut out = [0; message::SIZE];
     desk.edit(&SPLIT, &mut out).expect("the example is accepted");
     let image = image::to_bytes(&l());
@@ -94,15 +94,16 @@ fn states_in_a_callers_hands_follow_desk_and_wall() {
     let mut random = Random::new(22);
     for _ in 0..300 {
         let run = Run::any(&mut random);
-        let (mut desk, mut screen) = (state(&run.start), Screen::new(run.start.clone()));
+        let (mut desk, mut replica) = (state(&run.start), Replica::new(run.start.clone()));
         for (edit, room) in &run.calls {
             let (mut out, mut other) = (vec![0; *room], vec![0; *room]);
             let step = desk.edit(edit, &mut out);
-            let done = screen.edit(edit, &mut other);
-            assert_eq!((step.answer, step.report), (answer(&done), done.unwrap_or_default()));
+            let outcome = replica.edit(edit, &mut other);
+            let answer = answer(&outcome);
+            assert_eq!((step.answer, step.report), (answer, outcome.unwrap_or_default()));
             assert_eq!(out, other);
             desk = step.state;
-            assert_eq!(desk, State { count: screen.count, ..state(&screen.drawing) });
+            assert_eq!(desk, State { count: replica.count, ..state(&replica.drawing) });
         }
         let mut wall = state(&run.start);
         for bytes in run.input()[wall.image.len()..].chunks(message::SIZE) {

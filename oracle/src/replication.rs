@@ -1,4 +1,5 @@
-//! The desk, where edits are made, and the wall, which follows by their messages.
+//! State machine replication: the desk is the primary, where edits are made; the wall is the replica,
+//! which applies the desk's messages in the order of their numbers.
 
 use crate::drawing::Drawing;
 use crate::edit::{self, Refused, Report};
@@ -6,9 +7,9 @@ use crate::message::{self, Edit, Message};
 use crate::refusal::Refusal;
 use crate::validity;
 
-/// A drawing and how many edits it has taken: the state of a desk as of a wall.
+/// The state of a desk or of a wall: a drawing, and how many edits were applied to it.
 #[derive(Clone, Debug, PartialEq)]
-pub struct Screen {
+pub struct Replica {
     pub drawing: Drawing,
     pub count: u32,
 }
@@ -16,17 +17,17 @@ pub struct Screen {
 /// What a delivery did to a wall.
 #[derive(Clone, Copy, Debug, PartialEq, Eq)]
 pub enum Delivery {
-    /// The message's edit was done before; nothing changed.
+    /// The message's edit was applied before; nothing changed.
     Old,
-    Done(Report),
+    Applied(Report),
 }
 
-impl Screen {
+impl Replica {
     pub fn new(drawing: Drawing) -> Self {
-        Screen { drawing, count: 0 }
+        Replica { drawing, count: 0 }
     }
 
-    /// The desk's call: does an edit and writes its message to the buffer's front.
+    /// The desk's call: applies an edit and writes its message to the buffer's front.
     pub fn edit(&mut self, edit: &Edit, out: &mut [u8]) -> Result<Report, Refused> {
         validity::check(&self.drawing)?;
         if out.len() < message::SIZE {
@@ -34,12 +35,12 @@ impl Screen {
         }
         let number = self.count.checked_add(1).ok_or(Refusal::Numbers)?;
         let (drawing, report) = edit::apply_tested(&self.drawing, edit)?;
-        *self = Screen { drawing, count: number };
+        *self = Replica { drawing, count: number };
         message::write(&Message { number, edit: *edit }, out)?;
         Ok(report)
     }
 
-    /// The wall's call: does the edit of a message if it is the next one.
+    /// The wall's call: applies the edit of a message if it is the next one.
     pub fn deliver(&mut self, bytes: &[u8]) -> Result<Delivery, Refused> {
         validity::check(&self.drawing)?;
         let message = message::read(bytes)?;
@@ -50,7 +51,7 @@ impl Screen {
             return Err(Refusal::Ahead.into());
         }
         let (drawing, report) = edit::apply_tested(&self.drawing, &message.edit)?;
-        *self = Screen { drawing, count: message.number };
-        Ok(Delivery::Done(report))
+        *self = Replica { drawing, count: message.number };
+        Ok(Delivery::Applied(report))
     }
 }

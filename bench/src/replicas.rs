@@ -2,7 +2,7 @@
 
 use crate::bridge::{samples, Sample, SIZES, WORKS};
 use crate::timing::{medians_in_turn, Times};
-use engine::exhibit::{deliver_repeated, desk_repeated, MADE};
+use engine::replication::{deliver_repeated, desk_repeated, ACCEPTED};
 use oracle::drawing::Id;
 use oracle::{message, upstream};
 use std::hint::black_box;
@@ -12,8 +12,8 @@ const REPEATS: u32 = 128;
 /// Edits before this one.
 const COUNT: u32 = 5;
 const NEXT: u32 = COUNT + 1;
-/// What an edit that is made adds to the engine's sum.
-const DONE: u32 = MADE + NEXT;
+/// What an applied edit adds to the engine's sum.
+const APPLIED: u32 = ACCEPTED + NEXT;
 /// The refusals of a message beyond the next one, and of an edit of no curve.
 const AHEAD: u32 = 7;
 const NO_CURVE: u32 = 8;
@@ -28,14 +28,14 @@ pub fn run() {
             let name = format!("{}, {curves} curves", work.name);
             print(&format!("desk: {name}"), &samples, desk);
             print(&format!("wall: {name}"), &samples, |sample| {
-                deliver(sample, &sample.message(NEXT, sample.call.curve), DONE)
+                deliver(sample, &sample.message(NEXT, sample.call.curve), APPLIED)
             });
         }
     }
     SIZES.into_iter().for_each(run_without_edit);
 }
 
-/// Deliveries that make no edit.
+/// Deliveries that apply no edit.
 fn run_without_edit(curves: usize) {
     let samples = samples(curves, WORKS[0]);
     let timed = |message: &str, number, curve: fn(&Sample) -> Id, adds| {
@@ -43,7 +43,7 @@ fn run_without_edit(curves: usize) {
             deliver(sample, &sample.message(number, curve(sample)), adds)
         });
     };
-    timed("old message", COUNT, |sample| sample.call.curve, MADE);
+    timed("old message", COUNT, |sample| sample.call.curve, ACCEPTED);
     timed("message ahead", NEXT + 1, |sample| sample.call.curve, AHEAD);
     timed("no such curve", NEXT, |_| 0, NO_CURVE);
 }
@@ -63,7 +63,7 @@ fn desk(sample: &Sample) -> [f64; 2] {
         &mut || {
             let (image, pick) = (black_box(&call.image), [call.x, call.y]);
             let sum = desk_repeated(image, COUNT, call.operation, call.curve, pick, REPEATS);
-            assert_eq!(sum, DONE.wrapping_mul(REPEATS), "the engine makes the edit");
+            assert_eq!(sum, APPLIED.wrapping_mul(REPEATS), "the engine makes the edit");
         },
         &mut || {
             for _ in 0..REPEATS {
