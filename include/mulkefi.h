@@ -6,7 +6,7 @@
  *
  * Memory. No pointer is null, even where a length is 0; a length is no more than the memory has; numbers are aligned. What a call
  * may write overlaps nothing else that is lent to it. All other things about the arguments are tested: whatever the bytes, lengths,
- * counts, ids and numbers are, a call ends and answers as told here.
+ * counts, ids and numbers are, a call ends and answers as described here.
  *
  * Answers. 0 is accepted. Otherwise the low 16 bits are a refusal's number (enum mulkefi_refusal); with MULKEFI_RELATIONS_UNMET and
  * MULKEFI_RELATIONS_BROKEN the bits above are the place, from 0, of a relation that is not met, and with every other number they are
@@ -41,7 +41,7 @@ extern "C" {
 #define MULKEFI_ANSWER_SIZE 5
 
 enum mulkefi_answer {
-    MULKEFI_ANSWER_COUNT = 0, /* edits made so far */
+    MULKEFI_ANSWER_COUNT = 0, /* edits applied so far */
     MULKEFI_ANSWER_IMAGE = 1, /* the image's size in bytes */
     MULKEFI_ANSWER_CURVE = 2, /* the id of the curve that was removed, or 0 */
     MULKEFI_ANSWER_START = 3, /* the id of its start, or 0 */
@@ -94,7 +94,7 @@ uint32_t mulkefi_test(const uint8_t *image, size_t len);
 
 /* The desk: an edit of a drawing.
  *
- * The drawing is the image in the first `len` bytes of `buffer`, in all `room` bytes where `len` is larger; `count` edits made it so.
+ * The drawing is the image in the first `len` bytes of `buffer`, in all `room` bytes where `len` is larger, after `count` edits.
  * Accepted: the new image stands at the buffer's front, the edit's message in the first 30 bytes of `message`, and `answer` holds the
  * new count, the new image's size, the removed curve and its two ends. What lies beyond is left as it was.
  *
@@ -105,7 +105,7 @@ uint32_t mulkefi_desk_edit(uint8_t *buffer, size_t room, size_t len, uint32_t co
 
 /* The wall: a message of the desk's, as it came, to a drawing given as at the desk.
  *
- * Accepted, the next one: its edit is made, and buffer and answer are left as at the desk. Accepted, an old one, whose number is not
+ * Accepted, the next one: its edit is applied, and buffer and answer are left as at the desk. Accepted, an old one, whose number is not
  * above `count`: the buffer is left, and `answer` holds the count as it was, the image's size and three zeros.
  *
  * Refused, in this order: the image's numbers; the message's, 1, 2 and 6; 7 where messages before it are missing; the edit's numbers;
@@ -115,7 +115,7 @@ uint32_t mulkefi_wall_deliver(uint8_t *buffer, size_t room, size_t len, uint32_t
 /* The roots from 0 to 1 of the polynomial with these `n` coefficients in Bernstein form.
  *
  * Accepted: the roots stand in rising order at the front of `found`, and `answer` holds how many they are and what is left of the
- * budget, of which each halving takes one.
+ * budget, of which each bisection step takes one.
  *
  * Refused, in this order: 25 where `room` is below 28; 20 for the coefficients; 21 where the budget does not suffice. 25 and 20 spend
  * nothing of it, 21 all. */

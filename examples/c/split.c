@@ -1,4 +1,4 @@
-/* A line is split at the desk, and the wall repeats it from the message alone. */
+/* A line is split at the desk, and the wall applies the same edit from the message alone. */
 #include <stdio.h>
 #include <string.h>
 
@@ -16,19 +16,19 @@ int main(void)
 {
     static uint8_t desk[MULKEFI_IMAGE_SIZE], wall[MULKEFI_IMAGE_SIZE];
     uint8_t message[MULKEFI_MESSAGE_SIZE];
-    uint32_t told[MULKEFI_ANSWER_SIZE], heard[MULKEFI_ANSWER_SIZE], refusal;
+    uint32_t desk_answer[MULKEFI_ANSWER_SIZE], wall_answer[MULKEFI_ANSWER_SIZE], refusal;
 
     memcpy(desk, drawing, sizeof drawing);
     memcpy(wall, drawing, sizeof drawing);
-    refusal = mulkefi_desk_edit(desk, sizeof desk, sizeof drawing, 0, MULKEFI_SPLIT, 3, 1.0, 3.0, message, sizeof message, told);
+    refusal = mulkefi_desk_edit(desk, sizeof desk, sizeof drawing, 0, MULKEFI_SPLIT, 3, 1.0, 3.0, message, sizeof message, desk_answer);
     if (refusal == MULKEFI_ACCEPTED)
-        refusal = mulkefi_wall_deliver(wall, sizeof wall, sizeof drawing, 0, message, sizeof message, heard);
+        refusal = mulkefi_wall_deliver(wall, sizeof wall, sizeof drawing, 0, message, sizeof message, wall_answer);
     if (refusal != MULKEFI_ACCEPTED) {
         printf("refused by %u\n", (unsigned)(refusal & 0xffff));
         return 1;
     }
-    printf("desk: count %u, %u bytes\n", (unsigned)told[MULKEFI_ANSWER_COUNT], (unsigned)told[MULKEFI_ANSWER_IMAGE]);
-    printf("wall: count %u, %u bytes\n", (unsigned)heard[MULKEFI_ANSWER_COUNT], (unsigned)heard[MULKEFI_ANSWER_IMAGE]);
+    printf("desk: count %u, %u bytes\n", (unsigned)desk_answer[MULKEFI_ANSWER_COUNT], (unsigned)desk_answer[MULKEFI_ANSWER_IMAGE]);
+    printf("wall: count %u, %u bytes\n", (unsigned)wall_answer[MULKEFI_ANSWER_COUNT], (unsigned)wall_answer[MULKEFI_ANSWER_IMAGE]);
     printf("same image: %s\n", memcmp(desk, wall, sizeof desk) == 0 ? "yes" : "no");
     return 0;
 }

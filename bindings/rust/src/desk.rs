@@ -1,26 +1,26 @@
-//! The desk, where edits are made.
+//! The desk, at which edits are made: the primary.
 
 use crate::edit::{Edit, Report};
 use crate::format::{LARGEST_IMAGE, MESSAGE_SIZE};
 use crate::raw;
 use crate::refusal::Refusal;
-use crate::screen::{Answer, Screen};
+use crate::replica::{Answer, Replica};
 use std::fmt;
 
-/// A drawing's image and how many edits it has taken.
+/// A drawing's image, and how many edits were applied to it.
 #[derive(Clone)]
-pub struct Desk(Screen);
+pub struct Desk(Replica);
 
 /// What an accepted edit gives.
 #[derive(Clone, Copy, Debug, PartialEq, Eq)]
-pub struct Done {
+pub struct Accepted {
     /// For the wall.
     pub message: [u8; MESSAGE_SIZE],
     pub report: Report,
 }
 
 impl Desk {
-    /// A desk that has taken no edits yet, or the refusal of its image.
+    /// A desk with count 0, or the refusal of its image.
     ///
     /// # Panics
     ///
@@ -41,7 +41,7 @@ impl Desk {
     /// # Ok::<(), Refusal>(())
     /// ```
     pub fn resume(image: &[u8], count: u32) -> Result<Desk, Refusal> {
-        Screen::new(image, count).map(Desk)
+        Replica::new(image, count).map(Desk)
     }
 
     pub fn image(&self) -> &[u8] {
@@ -52,7 +52,7 @@ impl Desk {
         self.0.count
     }
 
-    /// Makes an edit. A refusal leaves the desk as it was.
+    /// Applies an edit. A refusal leaves the desk as it was.
     ///
     /// ```
     /// use mulkefi::{Desk, Drawing, Edit, Kind, Operation, Refusal};
@@ -71,9 +71,9 @@ impl Desk {
     /// assert_eq!(desk.count(), 1);
     /// # Ok::<(), Refusal>(())
     /// ```
-    pub fn edit(&mut self, edit: &Edit) -> Result<Done, Refusal> {
+    pub fn edit(&mut self, edit: &Edit) -> Result<Accepted, Refusal> {
         let Edit { operation, curve, x, y } = *edit;
-        let Screen { buffer, len, count } = &mut self.0;
+        let Replica { buffer, len, count } = &mut self.0;
         assert!(*len <= LARGEST_IMAGE, "an image keeps within its buffer");
         let mut message = [0; MESSAGE_SIZE];
         let mut answer: Answer = [0; 5];
@@ -95,7 +95,7 @@ impl Desk {
             )
         };
         Refusal::of_answer(refused)?;
-        Ok(Done { message, report: self.0.take(answer) })
+        Ok(Accepted { message, report: self.0.take(answer) })
     }
 }
 

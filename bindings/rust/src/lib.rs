@@ -1,7 +1,7 @@
 //! Two screens that cut one drawing alike, to the bit: the proved engine as safe Rust calls.
 //!
 //! A [`Desk`] and a [`Wall`] start from one image. Each accepted edit at the desk gives a message of
-//! thirty bytes; the wall that gets it makes the same cut. Messages may be lost, come twice or out of
+//! thirty bytes; the wall that gets it applies the same edit. Messages may be lost, come twice or out of
 //! order: the wall then waits, and asks for nothing but the message after its count.
 //!
 //! ```
@@ -15,9 +15,9 @@
 //! let mut desk = Desk::start(&image)?;
 //! let mut wall = Wall::start(&image)?;
 //! let edit = Edit { operation: Operation::Split, curve: deck, x: 1.0, y: 3.0 };
-//! let done = desk.edit(&edit)?;
-//! assert_eq!(wall.deliver(&done.message)?, Delivery::Done(done.report));
-//! assert_eq!(wall.deliver(&done.message)?, Delivery::Old);
+//! let accepted = desk.edit(&edit)?;
+//! assert_eq!(wall.deliver(&accepted.message)?, Delivery::Applied(accepted.report));
+//! assert_eq!(wall.deliver(&accepted.message)?, Delivery::Old);
 //! assert_eq!(desk.image(), wall.image());
 //! assert_eq!(desk.count(), wall.count());
 //! # Ok::<(), mulkefi::Refusal>(())
@@ -38,24 +38,24 @@ mod edit;
 mod fault;
 mod format;
 mod lend;
-mod place;
+mod position;
 mod reader;
 mod record;
 mod refusal;
 mod relation_reader;
+mod replica;
 mod roots;
-mod screen;
 mod stroke;
 mod text;
 mod wall;
 mod writer;
 
-pub use desk::{Desk, Done};
+pub use desk::{Accepted, Desk};
 pub use drawing::{Curve, Drawing, Id, Kind, Point, Relation};
 pub use edit::{Edit, Operation, Report};
 pub use fault::{Fault, Table};
 pub use format::{LARGEST_IMAGE, MESSAGE_SIZE};
-pub use place::{Bounds, Place};
+pub use position::{Bounds, Position};
 pub use reader::read;
 pub use refusal::Refusal;
 pub use roots::{roots, Roots, MOST_ROOTS};

@@ -1,4 +1,4 @@
-//! A reader that says where bytes are no image. The engine says whether they are.
+//! A reader that finds the byte at fault. Whether bytes are an image, the engine decides.
 
 use crate::drawing::{Curve, Drawing, Id, Kind, Point};
 use crate::fault::{Fault, Table};
@@ -8,7 +8,7 @@ use crate::refusal::Refusal;
 use crate::relation_reader::read_relation;
 use std::ops::Range;
 
-/// Reads an image, or tells where the first fault in it is.
+/// Reads an image, or answers where the first fault in it is.
 ///
 /// ```
 /// use mulkefi::{read, test, Drawing};

@@ -1,4 +1,4 @@
-//! Every way in which a caller is turned away.
+//! Every refusal of a call.
 
 use std::fmt;
 
@@ -187,7 +187,7 @@ mod tests {
     use super::*;
 
     #[test]
-    fn numbers_go_there_and_back() {
+    fn numbers_round_trip() {
         assert_eq!(Refusal::of_answer(0), Ok(()));
         for number in 1..=u16::MAX {
             let refusal = Refusal::of_answer(u32::from(number)).unwrap_err();

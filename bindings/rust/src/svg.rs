@@ -11,7 +11,7 @@
 //! ```
 
 use crate::drawing::{Curve, Drawing, Kind};
-use crate::place::{Bounds, Place};
+use crate::position::{Bounds, Position};
 use crate::stroke::Stroke;
 use std::fmt::Write;
 
@@ -43,7 +43,7 @@ impl Sheet {
     /// A picture of one drawing, with its points.
     pub fn of(drawing: &Drawing) -> String {
         let mut sheet = Sheet::new(800.0, 600.0);
-        let area = Bounds { low: Place::new(10.0, 10.0), high: Place::new(790.0, 590.0) };
+        let area = Bounds { low: Position::new(10.0, 10.0), high: Position::new(790.0, 590.0) };
         let mut panel = sheet.panel(area, view(drawing));
         panel.drawing(drawing);
         panel.points(drawing);
@@ -66,7 +66,7 @@ impl Sheet {
         Panel { sheet: self, area, view, scale, clip }
     }
 
-    pub fn text(&mut self, at: Place, text: &str) {
+    pub fn text(&mut self, at: Position, text: &str) {
         let text = text.replace('&', "&amp;").replace('<', "&lt;");
         self.line(&format!("<text x=\"{:.1}\" y=\"{:.1}\">{text}</text>", at.x, at.y));
     }
@@ -92,10 +92,10 @@ impl Sheet {
 /// So much of the plane that all of a drawing is seen.
 pub fn view(drawing: &Drawing) -> Bounds {
     let strokes = drawing.curves.iter().filter_map(|curve| Stroke::of(drawing, curve));
-    let lone = drawing.points.iter().map(|point| Place::new(point.x, point.y));
-    let places = strokes.flat_map(|stroke| stroke.places()).chain(lone);
-    let origin = Place::new(0.0, 0.0);
-    let bounds = Bounds::of(places).unwrap_or(Bounds { low: origin, high: origin });
+    let lone = drawing.points.iter().map(|point| Position::new(point.x, point.y));
+    let positions = strokes.flat_map(|stroke| stroke.positions()).chain(lone);
+    let origin = Position::new(0.0, 0.0);
+    let bounds = Bounds::of(positions).unwrap_or(Bounds { low: origin, high: origin });
     // Room about it, and some for a drawing without any extent.
     let size = bounds.width().max(bounds.height());
     bounds.grown(if size > 0.0 { 0.05 * size } else { 1.0 })
@@ -124,7 +124,7 @@ impl Panel<'_> {
     /// A dot for every point.
     pub fn points(&mut self, drawing: &Drawing) {
         for point in &drawing.points {
-            let at = self.map(Place::new(point.x, point.y));
+            let at = self.map(Position::new(point.x, point.y));
             let radius = if point.fixed { 4.0 } else { 2.5 };
             self.circle(at, radius, "point");
         }
@@ -139,27 +139,27 @@ impl Panel<'_> {
         if let Stroke::Circle { centre, radius } = stroke {
             return self.circle(self.map(*centre), radius * self.scale, class);
         }
-        let data = stroke.path_data(|place| self.map(place), self.scale);
+        let data = stroke.path_data(|position| self.map(position), self.scale);
         let clip = self.clip;
         let line = format!("<path class=\"{class}\" clip-path=\"url(#c{clip})\" d=\"{data}\"/>");
         self.sheet.line(&line);
     }
 
-    fn circle(&mut self, at: Place, radius: f64, class: &str) {
-        let place = format!("cx=\"{:.2}\" cy=\"{:.2}\" r=\"{radius:.2}\"", at.x, at.y);
+    fn circle(&mut self, at: Position, radius: f64, class: &str) {
+        let attributes = format!("cx=\"{:.2}\" cy=\"{:.2}\" r=\"{radius:.2}\"", at.x, at.y);
         let clip = self.clip;
         self.sheet
-            .line(&format!("<circle class=\"{class}\" clip-path=\"url(#c{clip})\" {place}/>"));
+            .line(&format!("<circle class=\"{class}\" clip-path=\"url(#c{clip})\" {attributes}/>"));
     }
 
-    /// Where a place of the plane lies on the sheet.
-    fn map(&self, place: Place) -> Place {
+    /// Where a position of the plane lies on the sheet.
+    fn map(&self, position: Position) -> Position {
         let (area, view) = (self.area, self.view);
         let spare_x = area.width() - view.width() * self.scale;
         let spare_y = area.height() - view.height() * self.scale;
-        Place::new(
-            area.low.x + spare_x / 2.0 + (place.x - view.low.x) * self.scale,
-            area.low.y + spare_y / 2.0 + (view.high.y - place.y) * self.scale,
+        Position::new(
+            area.low.x + spare_x / 2.0 + (position.x - view.low.x) * self.scale,
+            area.low.y + spare_y / 2.0 + (view.high.y - position.y) * self.scale,
         )
     }
 }

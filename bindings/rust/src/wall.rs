@@ -1,27 +1,27 @@
-//! The wall, which follows a desk by its messages.
+//! The wall, which applies a desk's messages in the order of their numbers: the replica.
 
 use crate::edit::Report;
 use crate::format::LARGEST_IMAGE;
 use crate::lend;
 use crate::raw;
 use crate::refusal::Refusal;
-use crate::screen::{Answer, Screen};
+use crate::replica::{Answer, Replica};
 use std::fmt;
 
-/// A drawing's image and how many edits it has taken.
+/// A drawing's image, and how many edits were applied to it.
 #[derive(Clone)]
-pub struct Wall(Screen);
+pub struct Wall(Replica);
 
 /// What an accepted delivery did.
 #[derive(Clone, Copy, Debug, PartialEq, Eq)]
 pub enum Delivery {
-    /// The message's edit was made before; nothing changed.
+    /// The message's edit was applied before; nothing changed.
     Old,
-    Done(Report),
+    Applied(Report),
 }
 
 impl Wall {
-    /// A wall that has taken no edits yet, or the refusal of its image.
+    /// A wall with count 0, or the refusal of its image.
     ///
     /// # Panics
     ///
@@ -32,14 +32,14 @@ impl Wall {
 
     /// A wall as it was left: its image and count.
     pub fn resume(image: &[u8], count: u32) -> Result<Wall, Refusal> {
-        Screen::new(image, count).map(Wall)
+        Replica::new(image, count).map(Wall)
     }
 
     pub fn image(&self) -> &[u8] {
         self.0.image()
     }
 
-    /// The number of the last edit made. The wall waits for the message with the number after it.
+    /// The number of the last edit applied. The wall waits for the message with the number after it.
     pub fn count(&self) -> u32 {
         self.0.count
     }
@@ -60,7 +60,7 @@ impl Wall {
     /// # Ok::<(), Refusal>(())
     /// ```
     pub fn deliver(&mut self, message: &[u8]) -> Result<Delivery, Refusal> {
-        let Screen { buffer, len, count } = &mut self.0;
+        let Replica { buffer, len, count } = &mut self.0;
         assert!(*len <= LARGEST_IMAGE, "an image keeps within its buffer");
         let (bytes, size) = lend::bytes(message);
         let before = *count;
@@ -80,7 +80,7 @@ impl Wall {
         };
         Refusal::of_answer(refused)?;
         let report = self.0.take(answer);
-        Ok(if self.0.count == before { Delivery::Old } else { Delivery::Done(report) })
+        Ok(if self.0.count == before { Delivery::Old } else { Delivery::Applied(report) })
     }
 }
 

@@ -70,9 +70,9 @@ fn reader_and_engine_agree_on_generated_images() {
         let outcome = read(&bytes);
         let refused = outcome.as_ref().err().map(|fault| fault.refusal);
         assert_eq!(test(&bytes).err(), refused, "{bytes:02x?}");
-        let judged = image::read(&bytes).err().map(|refusal| u16::from(refusal.number()));
-        assert_eq!(refused.map(Refusal::number), judged);
-        numbers[usize::from(judged.unwrap_or(0))] += 1;
+        let expected = image::read(&bytes).err().map(|refusal| u16::from(refusal.number()));
+        assert_eq!(refused.map(Refusal::number), expected);
+        numbers[usize::from(expected.unwrap_or(0))] += 1;
         match outcome {
             Ok(drawing) => assert_eq!(drawing.to_image(), bytes, "written again, the same bytes"),
             Err(fault) => {

@@ -62,11 +62,11 @@ fn a_bad_image_is_refused_at_its_byte() {
     // The second curve's kind.
     image[15 + 3 * 21 + 47 + 4] = 9;
     let output = show(&[], &image);
-    let told = "\
+    let expected = "\
 refused by 4: A field holds what it may not, or one not in use isn't zero.
 byte 129, in curve 1 of its table: unknown kind of curve
 ";
-    assert_eq!((output.status.code(), text(&output.stderr)), (Some(1), told));
+    assert_eq!((output.status.code(), text(&output.stderr)), (Some(1), expected));
     assert!(output.stdout.is_empty());
 }
 
@@ -82,7 +82,7 @@ fn where_no_single_byte_is_to_blame_it_says_so() {
 }
 
 #[test]
-fn files_are_read_and_wrong_calls_told() {
+fn files_are_read_and_wrong_calls_are_refused() {
     let file = std::env::temp_dir().join(format!("mulkefi-show-{}", std::process::id()));
     std::fs::write(&file, example().to_image()).expect("a file for the image");
     let named = file.to_str().expect("a plain name");

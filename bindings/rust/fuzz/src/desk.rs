@@ -1,17 +1,17 @@
 //! `mulkefi_desk_edit`.
 
-use crate::asked::{number, words, ANSWER_BEFORE, MESSAGE_SIZE};
+use crate::answers::{number, words, ANSWER_BEFORE, MESSAGE_SIZE};
+use crate::buffers::Buffers;
 use crate::calls::Calls;
 use crate::inputs;
-use crate::lent::Lent;
 use mulkefi::{Delivery, Wall};
 use oracle::generate::random::Random;
 
-pub struct Subject(Lent);
+pub struct Subject(Buffers);
 
 impl Subject {
     pub fn new() -> Subject {
-        Subject(Lent::new())
+        Subject(Buffers::new())
     }
 
     /// Answers the number of the outcome.
@@ -26,7 +26,7 @@ impl Subject {
         let answer = self.0.answer.lend(&ANSWER_BEFORE, inputs::edge(random)).cast();
         let (operation, curve, x, y) = (call.operation, call.curve, call.x, call.y);
         // SAFETY: three buffers apart, with their own lengths; the answer has five numbers.
-        let told = number(unsafe {
+        let outcome = number(unsafe {
             (calls.desk_edit)(
                 buffer,
                 held.len(),
@@ -41,9 +41,9 @@ impl Subject {
                 answer,
             )
         })?;
-        match told {
+        match outcome {
             0 => self.accepted(&held[..len.min(held.len())], count).map(|()| 0),
-            _ => self.untouched().map(|()| told),
+            _ => self.untouched().map(|()| outcome),
         }
     }
 
@@ -53,7 +53,8 @@ impl Subject {
         self.0.answer.check("the answer, on refusal", 0)
     }
 
-    /// The image, the message and five numbers are written; the message brings a wall as far.
+    /// The image, the message and five numbers are written; a wall that gets the message has the
+    /// same image.
     fn accepted(&self, image: &[u8], count: u32) -> Result<(), String> {
         self.0.answer.check("the answer", ANSWER_BEFORE.len())?;
         let words = words(self.0.answer.bytes());
@@ -66,8 +67,8 @@ impl Subject {
         let after = &self.0.buffer.bytes()[..len];
         let wrong = |refusal| format!("at a wall: {refusal}");
         let mut wall = Wall::resume(image, count).map_err(wrong)?;
-        let done = wall.deliver(&self.0.message.bytes()[..MESSAGE_SIZE]).map_err(wrong)?;
-        let same = matches!(done, Delivery::Done(_)) && wall.image() == after;
+        let delivery = wall.deliver(&self.0.message.bytes()[..MESSAGE_SIZE]).map_err(wrong)?;
+        let same = matches!(delivery, Delivery::Applied(_)) && wall.image() == after;
         if same {
             Ok(())
         } else {

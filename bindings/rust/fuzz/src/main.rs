@@ -5,18 +5,18 @@
 //! write has changed, a refused one has changed nothing, and the call has ended in time. A planted
 //! fault stands in for the engine's call, to show that it is seen.
 
-mod asked;
+mod answers;
+mod buffers;
 mod calls;
 mod desk;
 mod guard;
 mod inputs;
-mod lent;
 mod planted;
 mod roots;
 mod tally;
 mod test;
 mod wall;
-mod watch;
+mod watchdog;
 
 use calls::{Calls, ENGINE};
 use oracle::generate::random::Random;
@@ -25,16 +25,16 @@ use std::time::{Duration, Instant};
 use tally::Tally;
 
 const SECONDS: u64 = 40;
-/// How long a single call may take.
-const PATIENCE: u32 = 30;
+/// How many seconds a single call may take.
+const TIME_LIMIT: u32 = 30;
 /// A planted fault is to be seen sooner.
-const PATIENCE_WITH_A_FAULT: u32 = 2;
+const TIME_LIMIT_WITH_A_FAULT: u32 = 2;
 
 struct Options {
     seconds: u64,
     seed: u64,
     calls: Calls,
-    patience: u32,
+    time_limit: u32,
 }
 
 fn main() -> ExitCode {
@@ -43,7 +43,7 @@ fn main() -> ExitCode {
         planted::ALL.iter().for_each(|(name, what)| eprintln!("  {name:<18} {what}"));
         return ExitCode::from(2);
     };
-    watch::begin(options.seed, options.patience);
+    watchdog::begin(options.seed, options.time_limit);
     let mut tally = Tally::default();
     let outcome = run(&options, &mut tally);
     print!("{tally}");
@@ -53,7 +53,7 @@ fn main() -> ExitCode {
             ExitCode::SUCCESS
         }
         Err(fault) => {
-            println!("fault in case {}, seed {}: {fault}", watch::case(), options.seed);
+            println!("fault in case {}, seed {}: {fault}", watchdog::case(), options.seed);
             ExitCode::FAILURE
         }
     }
@@ -61,10 +61,10 @@ fn main() -> ExitCode {
 
 fn options() -> Option<Options> {
     let mut arguments: Vec<String> = std::env::args().skip(1).collect();
-    let (mut calls, mut patience) = (ENGINE, PATIENCE);
+    let (mut calls, mut time_limit) = (ENGINE, TIME_LIMIT);
     if let Some(at) = arguments.iter().position(|argument| argument == "--planted") {
         calls = planted::by_name(arguments.get(at + 1)?)?;
-        patience = PATIENCE_WITH_A_FAULT;
+        time_limit = TIME_LIMIT_WITH_A_FAULT;
         arguments.drain(at..at + 2);
     }
     let number = |at: usize, default: u64| match arguments.get(at) {
@@ -73,7 +73,7 @@ fn options() -> Option<Options> {
     };
     let seconds = number(0, SECONDS)?;
     let seed = number(1, 1)?;
-    (arguments.len() <= 2).then_some(Options { seconds, seed, calls, patience })
+    (arguments.len() <= 2).then_some(Options { seconds, seed, calls, time_limit })
 }
 
 fn run(options: &Options, tally: &mut Tally) -> Result<(), String> {
@@ -89,7 +89,7 @@ fn run(options: &Options, tally: &mut Tally) -> Result<(), String> {
             return Err("mulkefi_versions: other versions".into());
         }
         for _ in 0..64 {
-            watch::next_case();
+            watchdog::next_case();
             let (name, outcome) = match random.below(8) {
                 0..=2 => ("desk_edit", desk.try_one(calls, &mut random)),
                 3..=5 => ("wall_deliver", wall.try_one(calls, &mut random)),

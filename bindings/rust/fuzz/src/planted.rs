@@ -49,7 +49,7 @@ unsafe extern "C" fn edit_with<const FAULT: u8>(
     message_room: usize,
     answer: *mut u32,
 ) -> u32 {
-    let told = raw::mulkefi_desk_edit(
+    let result = raw::mulkefi_desk_edit(
         buffer,
         room,
         len,
@@ -62,7 +62,7 @@ unsafe extern "C" fn edit_with<const FAULT: u8>(
         message_room,
         answer,
     );
-    match (FAULT, told) {
+    match (FAULT, result) {
         (WRITES_BEHIND, 0) => buffer.add(room).write_volatile(0),
         (WRITES_BEFORE, 0) => buffer.sub(1).write_volatile(0),
         (WRITES_REST, 0) if (*answer.add(1) as usize) < room => {
@@ -72,7 +72,7 @@ unsafe extern "C" fn edit_with<const FAULT: u8>(
         (REFUSED_MESSAGE, 1..) if message_room > 0 => message.write_volatile(0),
         _ => {}
     }
-    told
+    result
 }
 
 unsafe extern "C" fn refused_answer(
@@ -84,11 +84,11 @@ unsafe extern "C" fn refused_answer(
     message_len: usize,
     answer: *mut u32,
 ) -> u32 {
-    let told = raw::mulkefi_wall_deliver(buffer, room, len, count, message, message_len, answer);
-    if told != 0 {
+    let result = raw::mulkefi_wall_deliver(buffer, room, len, count, message, message_len, answer);
+    if result != 0 {
         answer.write_volatile(count);
     }
-    told
+    result
 }
 
 unsafe extern "C" fn reads_behind(
@@ -105,12 +105,12 @@ unsafe extern "C" fn reads_behind(
 }
 
 unsafe extern "C" fn writes_input(image: *const u8, len: usize) -> u32 {
-    let told = raw::mulkefi_test(image, len);
+    let result = raw::mulkefi_test(image, len);
     if len > 0 {
         // The byte that is there already: only the page's protection can tell.
         image.cast_mut().write_volatile(image.read());
     }
-    told
+    result
 }
 
 unsafe extern "C" fn writes_roots(
@@ -121,11 +121,11 @@ unsafe extern "C" fn writes_roots(
     budget: usize,
     answer: *mut u64,
 ) -> u32 {
-    let told = raw::mulkefi_roots(coefficients, n, found, room, budget, answer);
-    if told == 0 && (*answer as usize) < room {
+    let result = raw::mulkefi_roots(coefficients, n, found, room, budget, answer);
+    if result == 0 && (*answer as usize) < room {
         found.add(*answer as usize).write_volatile(0.5);
     }
-    told
+    result
 }
 
 unsafe extern "C" fn endless(image: *const u8, len: usize) -> u32 {

@@ -1,6 +1,6 @@
 //! `mulkefi_roots`.
 
-use crate::asked::number;
+use crate::answers::number;
 use crate::calls::Calls;
 use crate::guard::Guarded;
 use crate::inputs;
@@ -39,12 +39,12 @@ impl Subject {
         let found = self.found.lend(&vec![0x5b; FLOAT * room], inputs::edge(random)).cast();
         let answer = self.answer.lend(&ANSWER_BEFORE, inputs::edge(random)).cast();
         // SAFETY: three buffers apart, with their own lengths; the answer has two numbers.
-        let told =
+        let outcome =
             number(unsafe { (calls.roots)(given, numbers.len(), found, room, budget, answer) })?;
-        if told != 0 {
+        if outcome != 0 {
             self.found.check("the roots, on refusal", 0)?;
             self.answer.check("the answer, on refusal", 0)?;
-            return Ok(told);
+            return Ok(outcome);
         }
         self.answer.check("the answer", ANSWER_BEFORE.len())?;
         let words = self.answer.bytes().as_chunks().0.iter();

@@ -1,6 +1,6 @@
 //! `mulkefi_test`.
 
-use crate::asked::number;
+use crate::answers::number;
 use crate::calls::Calls;
 use crate::guard::Guarded;
 use crate::inputs::{self, BUFFER};
@@ -20,12 +20,12 @@ impl Subject {
         let bytes = inputs::image(random);
         let image = self.image.lend_to_read(&bytes, inputs::edge(random));
         // SAFETY: one buffer with its own length.
-        let told = number(unsafe { (calls.test)(image, bytes.len()) })?;
+        let outcome = number(unsafe { (calls.test)(image, bytes.len()) })?;
         self.image.check("the image", 0)?;
         let read = mulkefi::read(&bytes).err().map_or(0, |fault| u32::from(fault.refusal.number()));
-        match read == told {
-            true => Ok(told),
-            false => Err(format!("the engine says {told}, the reader {read}")),
+        match read == outcome {
+            true => Ok(outcome),
+            false => Err(format!("the engine says {outcome}, the reader {read}")),
         }
     }
 }

@@ -1,17 +1,17 @@
 //! `mulkefi_wall_deliver`.
 
-use crate::asked::{number, words, ANSWER_BEFORE};
+use crate::answers::{number, words, ANSWER_BEFORE};
+use crate::buffers::Buffers;
 use crate::calls::Calls;
 use crate::inputs;
-use crate::lent::Lent;
 use crate::tally::OLD;
 use oracle::generate::random::Random;
 
-pub struct Subject(Lent);
+pub struct Subject(Buffers);
 
 impl Subject {
     pub fn new() -> Subject {
-        Subject(Lent::new())
+        Subject(Buffers::new())
     }
 
     /// Answers the number of the outcome.
@@ -25,15 +25,15 @@ impl Subject {
         let message = self.0.message.lend_to_read(&sent, inputs::edge(random));
         let answer = self.0.answer.lend(&ANSWER_BEFORE, inputs::edge(random)).cast();
         // SAFETY: three buffers apart, with their own lengths; the answer has five numbers.
-        let told = number(unsafe {
+        let outcome = number(unsafe {
             (calls.wall_deliver)(buffer, held.len(), len, count, message, sent.len(), answer)
         })?;
-        match told {
+        match outcome {
             0 => self.accepted(len.min(held.len()), count),
             _ => {
                 self.0.buffer.check("the buffer, on refusal", 0)?;
                 self.0.answer.check("the answer, on refusal", 0)?;
-                Ok(told)
+                Ok(outcome)
             }
         }
     }

@@ -5,8 +5,8 @@ use std::process::{Command, Output};
 fn fuzz(arguments: &[&str]) -> (Output, String) {
     let output = Command::new(env!("CARGO_BIN_EXE_fuzz")).args(arguments).output();
     let output = output.expect("the program runs");
-    let said = String::from_utf8_lossy(&output.stdout).into_owned();
-    (output, said)
+    let printed = String::from_utf8_lossy(&output.stdout).into_owned();
+    (output, printed)
 }
 
 #[test]
@@ -25,17 +25,17 @@ fn planted_faults_are_seen() {
         ("endless", ["did not end"; 2]),
     ];
     for (fault, expected) in faults {
-        let (output, said) = fuzz(&["20", "1", "--planted", fault]);
-        assert_eq!(output.status.code(), Some(1), "{fault}: {said}");
-        let told = expected.iter().any(|words| said.contains(words));
-        assert!(said.contains("fault in case ") && told, "{fault}: {said}");
+        let (output, printed) = fuzz(&["20", "1", "--planted", fault]);
+        assert_eq!(output.status.code(), Some(1), "{fault}: {printed}");
+        let named = expected.iter().any(|words| printed.contains(words));
+        assert!(printed.contains("fault in case ") && named, "{fault}: {printed}");
     }
 }
 
 #[test]
 fn the_engine_passes() {
-    let (output, said) = fuzz(&["2"]);
-    assert_eq!(output.status.code(), Some(0), "{said}");
+    let (output, printed) = fuzz(&["2"]);
+    assert_eq!(output.status.code(), Some(0), "{printed}");
 }
 
 #[test]

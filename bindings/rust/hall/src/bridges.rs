@@ -177,11 +177,11 @@ mod tests {
     fn refusals(bridge: &Bridge) -> Vec<u16> {
         let mut desk = Desk::start(&bridge.drawing.to_image()).expect("a bridge is a good image");
         let outcomes = bridge.script.iter().map(|edit| desk.edit(edit));
-        outcomes.filter_map(|done| done.err().map(|refusal| refusal.number())).collect()
+        outcomes.filter_map(|outcome| outcome.err().map(|refusal| refusal.number())).collect()
     }
 
     #[test]
-    fn scripts_are_carried_out() {
+    fn scripts_are_applied() {
         assert_eq!(refusals(&round_arch()), []);
         assert_eq!(refusals(&free_arch()), [11, 11]);
     }

@@ -1,6 +1,6 @@
 //! The stroke of a piece that an edit removed, from the drawings before and after it.
 
-use mulkefi::{Curve, Drawing, Id, Kind, Place, Report, Stroke};
+use mulkefi::{Curve, Drawing, Id, Kind, Position, Report, Stroke};
 
 /// The removed piece of an edited curve, or none where nothing went.
 pub fn cut_away(before: &Drawing, after: &Drawing, curve: Id, report: &Report) -> Option<Stroke> {
@@ -14,7 +14,7 @@ pub fn cut_away(before: &Drawing, after: &Drawing, curve: Id, report: &Report) -
     }
     let at = |id: Id| {
         let point = before.point(id).or(after.point(id))?;
-        Some(Place::new(point.x, point.y))
+        Some(Position::new(point.x, point.y))
     };
     let (start, end) = (at(report.start)?, at(report.end)?);
     match centre(target) {

@@ -11,17 +11,19 @@ pub fn random(random: &mut Random, drawing: &Drawing) -> Edit {
         _ => Operation::Split,
     };
     let curve = &drawing.curves[random.below(drawing.curves.len())];
-    let places = Stroke::of(drawing, curve).map_or(Vec::new(), |stroke| stroke.places());
-    let Some(last) = places.last().copied() else {
+    let positions = Stroke::of(drawing, curve).map_or(Vec::new(), |stroke| stroke.positions());
+    let Some(last) = positions.last().copied() else {
         return Edit { operation, curve: curve.id, x: f64::NAN, y: 0.0 };
     };
-    let place = match curve.kind {
+    let position = match curve.kind {
         // A finger next to an end, or anywhere along a line.
-        Kind::Line { .. } if operation == Operation::Extend => places[random.below(places.len())],
-        Kind::Line { .. } => places[0].towards(last, random.unit()),
-        _ => places[random.below(places.len())],
+        Kind::Line { .. } if operation == Operation::Extend => {
+            positions[random.below(positions.len())]
+        }
+        Kind::Line { .. } => positions[0].towards(last, random.unit()),
+        _ => positions[random.below(positions.len())],
     };
-    let (x, y) = (place.x + random.unit() - 0.5, place.y + random.unit() - 0.5);
+    let (x, y) = (position.x + random.unit() - 0.5, position.y + random.unit() - 0.5);
     match random.below(12) {
         0 => Edit { operation, curve: drawing.next, x, y },
         1 => Edit { operation, curve: curve.id, x: x * 1e6, y },

@@ -20,7 +20,7 @@ impl Radio {
     }
 
     /// Takes a message, and gives those that arrive now.
-    pub fn carry(&mut self, message: Message) -> Vec<Message> {
+    pub fn transmit(&mut self, message: Message) -> Vec<Message> {
         match self.random.below(10) {
             0 | 1 => self.lost += 1,
             2 | 3 => {

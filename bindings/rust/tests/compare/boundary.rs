@@ -11,7 +11,7 @@ use oracle::steps::{State, Step};
 
 const COUNT: u32 = 41;
 /// What buffers hold before a call.
-const LENT: u8 = 0xa5;
+const FILL: u8 = 0xa5;
 
 /// All that was lent, after a call.
 #[derive(Clone, Debug, PartialEq)]
@@ -26,8 +26,8 @@ pub fn compare(random: &mut Random, count: usize, seen: &mut Coverage) -> Result
         let call = if random.one_in(2) { calls::cut(random) } else { calls::extension(random) };
         let at_desk = random.one_in(2);
         let memory = memory(random, &call);
-        let expected = expected(&call, at_desk, &memory);
-        let found = asked(&call, at_desk, memory.clone());
+        let expected = by_oracle(&call, at_desk, &memory);
+        let found = by_engine(&call, at_desk, memory.clone());
         if expected != found {
             return Err(format!("{call:?}, {memory:?}\n  oracle {expected:?}\n  engine {found:?}"));
         }
@@ -39,14 +39,14 @@ pub fn compare(random: &mut Random, count: usize, seen: &mut Coverage) -> Result
 /// Room for the image that will be there, one byte less or more, or just the image that is there.
 fn memory(random: &mut Random, call: &Call) -> Memory {
     let held = call.image.len();
-    let after = call.judge().map_or(held, |(drawing, _)| image::size(&drawing));
+    let after = call.outcome().map_or(held, |(drawing, _)| image::size(&drawing));
     let exact = after.max(held);
     let short = after.saturating_sub(1).max(held);
     let room = random.pick(&[exact, exact, short, held, exact + 1, held + 300, image::MAX_SIZE]);
-    let mut buffer = vec![LENT; room.max(held)];
+    let mut buffer = vec![FILL; room.max(held)];
     buffer[..held].copy_from_slice(&call.image);
     let lent = random.weighted(&[(12, 30), (2, 31), (2, 64), (1, 29), (1, 0)]);
-    Memory { buffer, message: vec![LENT; lent], answer: [7; 5] }
+    Memory { buffer, message: vec![FILL; lent], answer: [7; 5] }
 }
 
 fn next_message(call: &Call) -> Vec<u8> {
@@ -57,8 +57,8 @@ fn next_message(call: &Call) -> Vec<u8> {
     bytes
 }
 
-/// By the oracle, with the order that the interface has: image, operation, edit, then room.
-fn expected(call: &Call, at_desk: bool, before: &Memory) -> (u32, Memory) {
+/// What the oracle expects, in the order that the interface has: image, operation, edit, then room.
+fn by_oracle(call: &Call, at_desk: bool, before: &Memory) -> (u32, Memory) {
     if let number @ 1.. = number_of(&image::read(&call.image)) {
         return (number.into(), before.clone());
     }
@@ -85,7 +85,7 @@ fn expected(call: &Call, at_desk: bool, before: &Memory) -> (u32, Memory) {
     (0, after)
 }
 
-fn asked(call: &Call, at_desk: bool, mut memory: Memory) -> (u32, Memory) {
+fn by_engine(call: &Call, at_desk: bool, mut memory: Memory) -> (u32, Memory) {
     let Call { operation, curve, x, y, .. } = *call;
     let len = call.image.len();
     let Memory { buffer, message, answer } = &mut memory;

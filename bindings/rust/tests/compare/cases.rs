@@ -1,6 +1,6 @@
 //! Single calls at desk and wall.
 
-use super::side::{Outcome, Side};
+use super::implementations::{Implementation, Outcome};
 use oracle::generate::random::Random;
 use oracle::generate::{calls, messages};
 use oracle::message::{self, Edit, Message, Operation};
@@ -19,10 +19,10 @@ pub struct Case {
 }
 
 impl Case {
-    pub fn put_to<S: Side>(&self) -> Outcome {
+    pub fn outcome_of<I: Implementation>(&self) -> Outcome {
         match &self.asked {
-            Asked::Edit(edit) => S::edit(&self.state, edit),
-            Asked::Deliver(message) => S::deliver(&self.state, message),
+            Asked::Edit(edit) => I::edit(&self.state, edit),
+            Asked::Deliver(message) => I::deliver(&self.state, message),
         }
     }
 

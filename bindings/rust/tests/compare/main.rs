@@ -7,14 +7,14 @@
 mod boundary;
 mod cases;
 mod coverage;
+mod implementations;
 mod runs;
 mod searches;
-mod side;
 
 use coverage::Coverage;
+use implementations::{Engine, Implementation, Oracle, Planted};
 use oracle::generate::random::Random;
 use oracle::upstream;
-use side::{Engine, Oracle, Planted, Side};
 use std::process::ExitCode;
 
 const CASES: usize = 20_000;
@@ -60,7 +60,7 @@ fn report(
 }
 
 /// Single calls, each from a state of its own.
-fn steps<S: Side>(
+fn steps<I: Implementation>(
     random: &mut Random,
     count: usize,
     case: fn(&mut Random) -> cases::Case,
@@ -68,7 +68,7 @@ fn steps<S: Side>(
 ) -> Result<(), String> {
     for _ in 0..count {
         let case = case(random);
-        let (expected, found) = (case.put_to::<Oracle>(), case.put_to::<S>());
+        let (expected, found) = (case.outcome_of::<Oracle>(), case.outcome_of::<I>());
         if expected != found {
             return Err(format!("{case:?}\n  oracle {expected:?}\n  engine {found:?}"));
         }

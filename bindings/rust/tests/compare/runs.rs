@@ -1,7 +1,7 @@
 //! Whole runs on one desk and one wall, whose buffers keep what earlier and longer images left.
 
 use super::coverage::Coverage;
-use super::side::{Engine, Oracle, Outcome, Side};
+use super::implementations::{Engine, Implementation, Oracle, Outcome};
 use mulkefi::{Desk, Wall};
 use oracle::generate::{random::Random, runs::Run};
 use oracle::image;

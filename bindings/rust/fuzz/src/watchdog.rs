@@ -17,14 +17,14 @@ const ALARM: c_int = 14;
 
 static CASE: AtomicU64 = AtomicU64::new(0);
 static SEED: AtomicU64 = AtomicU64::new(0);
-static PATIENCE: AtomicU32 = AtomicU32::new(0);
+static TIME_LIMIT: AtomicU32 = AtomicU32::new(0);
 
 /// The status that a caught signal ends with.
 const CAUGHT: c_int = 1;
 
-pub fn begin(seed: u64, patience: u32) {
+pub fn begin(seed: u64, time_limit: u32) {
     SEED.store(seed, Relaxed);
-    PATIENCE.store(patience, Relaxed);
+    TIME_LIMIT.store(time_limit, Relaxed);
     for number in [BUS, SEGMENT, ALARM] {
         // SAFETY: the handler only writes a line and ends the program.
         unsafe { signal(number, caught) };
@@ -35,7 +35,7 @@ pub fn begin(seed: u64, patience: u32) {
 pub fn next_case() {
     CASE.fetch_add(1, Relaxed);
     // SAFETY: the call sets a timer, whose signal is handled.
-    unsafe { alarm(PATIENCE.load(Relaxed)) };
+    unsafe { alarm(TIME_LIMIT.load(Relaxed)) };
 }
 
 pub fn case() -> u64 {
@@ -47,24 +47,24 @@ extern "C" fn caught(number: c_int) {
         ALARM => b"a call did not end",
         _ => b"a call touched memory that it was not lent",
     };
-    say(b"fault in case ");
-    say_number(CASE.load(Relaxed));
-    say(b", seed ");
-    say_number(SEED.load(Relaxed));
-    say(b": ");
-    say(what);
-    say(b"\n");
+    print(b"fault in case ");
+    print_number(CASE.load(Relaxed));
+    print(b", seed ");
+    print_number(SEED.load(Relaxed));
+    print(b": ");
+    print(what);
+    print(b"\n");
     // SAFETY: ends the program without running anything more of it.
     unsafe { _exit(CAUGHT) }
 }
 
 /// A handler may not allocate, nor use locked streams.
-fn say(text: &[u8]) {
+fn print(text: &[u8]) {
     // SAFETY: the bytes are lent for the call. That it may fail leaves nothing to be done.
     let _ = unsafe { write(1, text.as_ptr(), text.len()) };
 }
 
-fn say_number(mut number: u64) {
+fn print_number(mut number: u64) {
     let mut digits = [0; 20];
     let mut first = digits.len();
     loop {
@@ -72,7 +72,7 @@ fn say_number(mut number: u64) {
         digits[first] = b'0' + (number % 10) as u8;
         number /= 10;
         if number == 0 {
-            return say(&digits[first..]);
+            return print(&digits[first..]);
         }
     }
 }

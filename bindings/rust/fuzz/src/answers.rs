@@ -1,4 +1,4 @@
-//! What every call's answer is tested for.
+//! Tests that every call's answer passes.
 
 use oracle::message::SIZE;
 

@@ -1,4 +1,4 @@
-//! One bridge with its desk, its wall and the radio between them.
+//! A run of one bridge's desk and wall, with the radio between them.
 
 use crate::bridges::Bridge;
 use crate::cut_away::cut_away;
@@ -8,9 +8,9 @@ use crate::random::Random;
 use mulkefi::{read, Delivery, Desk, Drawing, Edit, Refusal, Report, Stroke, Wall};
 use std::collections::BTreeMap;
 
-/// How many random edits are asked after the list.
+/// How many random edits are asked for after the script.
 const RANDOM_EDITS: usize = 24;
-/// How many messages are sent again before the wall's count is asked.
+/// How many messages are sent again before the wall's count is looked at.
 const AT_A_TIME: usize = 3;
 
 #[derive(Default)]
@@ -37,37 +37,37 @@ impl Tally {
     }
 }
 
-/// A screen's pieces that were cut away, and its drawing.
-pub struct Shown {
+/// The drawing that a device shows, and the pieces that were cut away from it.
+pub struct Snapshot {
     pub drawing: Drawing,
-    pub away: Vec<Stroke>,
+    pub cut_away: Vec<Stroke>,
 }
 
-pub struct Exhibit {
+pub struct Simulation {
     bridge: Bridge,
     desk: Desk,
     wall: Wall,
     radio: Radio,
     random: Random,
-    /// What the desk wrote, kept until the wall has it.
+    /// The desk's messages, kept so that they can be sent again.
     messages: Vec<Message>,
-    desk_away: Vec<Stroke>,
-    wall_away: Vec<Stroke>,
+    desk_cut_away: Vec<Stroke>,
+    wall_cut_away: Vec<Stroke>,
     pub tally: Tally,
 }
 
-impl Exhibit {
-    pub fn open(bridge: Bridge, seed: u64) -> Result<Exhibit, Refusal> {
+impl Simulation {
+    pub fn new(bridge: Bridge, seed: u64) -> Result<Simulation, Refusal> {
         let image = bridge.drawing.to_image();
-        Ok(Exhibit {
+        Ok(Simulation {
             desk: Desk::start(&image)?,
             wall: Wall::start(&image)?,
             radio: Radio::new(seed ^ 0x5eed),
             random: Random::new(seed),
             bridge,
             messages: Vec::new(),
-            desk_away: Vec::new(),
-            wall_away: Vec::new(),
+            desk_cut_away: Vec::new(),
+            wall_cut_away: Vec::new(),
             tally: Tally::default(),
         })
     }
@@ -77,10 +77,10 @@ impl Exhibit {
             self.ask(&edit)?;
         }
         for _ in 0..RANDOM_EDITS {
-            let edit = edits::random(&mut self.random, &shown(self.desk.image()));
+            let edit = edits::random(&mut self.random, &drawing_of(self.desk.image()));
             self.ask(&edit)?;
         }
-        self.radio.rest().iter().try_for_each(|message| self.arrive(message))?;
+        self.radio.rest().iter().try_for_each(|message| self.deliver(message))?;
         self.tally.wall_before = self.wall.count();
         self.catch_up()
     }
@@ -88,17 +88,17 @@ impl Exhibit {
     /// The desk's host: an accepted edit's message goes to the radio, and some arrive.
     fn ask(&mut self, edit: &Edit) -> Result<(), Refusal> {
         self.tally.asked += 1;
-        let before = shown(self.desk.image());
+        let before = drawing_of(self.desk.image());
         match self.desk.edit(edit) {
             Err(refusal) => *self.tally.refused.entry(refusal.number()).or_default() += 1,
-            Ok(done) => {
+            Ok(accepted) => {
                 self.tally.accepted += 1;
-                let after = shown(self.desk.image());
-                let away = cut_away(&before, &after, edit.curve, &done.report);
-                self.tally.cut_away += usize::from(away.is_some());
-                self.desk_away.extend(away);
-                self.messages.push(done.message);
-                self.send(done.message)?;
+                let after = drawing_of(self.desk.image());
+                let piece = cut_away(&before, &after, edit.curve, &accepted.report);
+                self.tally.cut_away += usize::from(piece.is_some());
+                self.desk_cut_away.extend(piece);
+                self.messages.push(accepted.message);
+                self.send(accepted.message)?;
             }
         }
         Ok(())
@@ -106,28 +106,28 @@ impl Exhibit {
 
     fn send(&mut self, message: Message) -> Result<(), Refusal> {
         self.tally.sent += 1;
-        let arrived = self.radio.carry(message);
+        let arrived = self.radio.transmit(message);
         (self.tally.lost, self.tally.repeated) = (self.radio.lost, self.radio.repeated);
         self.tally.overtaken = self.radio.overtaken;
-        arrived.iter().try_for_each(|message| self.arrive(message))
+        arrived.iter().try_for_each(|message| self.deliver(message))
     }
 
-    /// The wall's host. That a message is ahead is told by number and waited out.
-    fn arrive(&mut self, message: &Message) -> Result<(), Refusal> {
-        let before = shown(self.wall.image());
+    /// The wall's host. A message that is ahead is refused; it comes again when the wall catches up.
+    fn deliver(&mut self, message: &Message) -> Result<(), Refusal> {
+        let before = drawing_of(self.wall.image());
         match self.wall.deliver(message) {
             Ok(Delivery::Old) => self.tally.old += 1,
-            Ok(Delivery::Done(report)) => self.note_at_wall(&before, message, &report),
+            Ok(Delivery::Applied(report)) => self.keep_cut_away_at_wall(&before, message, &report),
             Err(Refusal::Ahead) => self.tally.ahead += 1,
             Err(refusal) => return Err(refusal),
         }
         Ok(())
     }
 
-    fn note_at_wall(&mut self, before: &Drawing, message: &Message, report: &Report) {
+    fn keep_cut_away_at_wall(&mut self, before: &Drawing, message: &Message, report: &Report) {
         let curve = u32::from_be_bytes([message[10], message[11], message[12], message[13]]);
-        let after = shown(self.wall.image());
-        self.wall_away.extend(cut_away(before, &after, curve, report));
+        let after = drawing_of(self.wall.image());
+        self.wall_cut_away.extend(cut_away(before, &after, curve, report));
     }
 
     /// Sends again from the wall's count on, a few at a time and by the same radio, until nothing is
@@ -137,7 +137,7 @@ impl Exhibit {
             let missing = self.messages.iter().skip(self.wall.count() as usize);
             let missing: Vec<Message> = missing.take(AT_A_TIME).copied().collect();
             missing.into_iter().try_for_each(|message| self.send(message))?;
-            self.radio.rest().iter().try_for_each(|message| self.arrive(message))?;
+            self.radio.rest().iter().try_for_each(|message| self.deliver(message))?;
         }
         Ok(())
     }
@@ -158,16 +158,16 @@ impl Exhibit {
         self.wall.count()
     }
 
-    pub fn desk_shown(&self) -> Shown {
-        Shown { drawing: shown(self.desk.image()), away: self.desk_away.clone() }
+    pub fn desk_snapshot(&self) -> Snapshot {
+        Snapshot { drawing: drawing_of(self.desk.image()), cut_away: self.desk_cut_away.clone() }
     }
 
-    pub fn wall_shown(&self) -> Shown {
-        Shown { drawing: shown(self.wall.image()), away: self.wall_away.clone() }
+    pub fn wall_snapshot(&self) -> Snapshot {
+        Snapshot { drawing: drawing_of(self.wall.image()), cut_away: self.wall_cut_away.clone() }
     }
 }
 
-fn shown(image: &[u8]) -> Drawing {
+fn drawing_of(image: &[u8]) -> Drawing {
     read(image).expect("desk and wall hold good images")
 }
 
@@ -180,11 +180,12 @@ mod tests {
     fn walls_catch_up_whatever_the_radio_does() {
         for seed in 0..100 {
             for bridge in bridges::all() {
-                let mut exhibit = Exhibit::open(bridge, seed).expect("a bridge is a good image");
-                exhibit.run().expect("the wall is refused nothing but what is ahead");
-                assert!(exhibit.agrees(), "seed {seed}");
-                assert_eq!(exhibit.desk_away, exhibit.wall_away, "seed {seed}");
-                assert!(exhibit.tally.lost > 0 && exhibit.tally.repeated > 0, "seed {seed}");
+                let mut simulation =
+                    Simulation::new(bridge, seed).expect("a bridge is a good image");
+                simulation.run().expect("the wall is refused nothing but what is ahead");
+                assert!(simulation.agrees(), "seed {seed}");
+                assert_eq!(simulation.desk_cut_away, simulation.wall_cut_away, "seed {seed}");
+                assert!(simulation.tally.lost > 0 && simulation.tally.repeated > 0, "seed {seed}");
             }
         }
     }

@@ -1,4 +1,4 @@
-//! What desk and wall are made of: an image, in a buffer with room for the largest, and a count.
+//! The state of a desk or of a wall: an image, in a buffer with room for the largest, and a count.
 
 use crate::edit::Report;
 use crate::format::LARGEST_IMAGE;
@@ -6,7 +6,7 @@ use crate::refusal::Refusal;
 
 /// The first `len` bytes of the buffer are an image that the engine accepts.
 #[derive(Clone)]
-pub struct Screen {
+pub struct Replica {
     pub buffer: Box<[u8; LARGEST_IMAGE]>,
     pub len: usize,
     pub count: u32,
@@ -15,18 +15,18 @@ pub struct Screen {
 /// Count, image's length, removed curve, its start and its end.
 pub type Answer = [u32; 5];
 
-impl Screen {
+impl Replica {
     /// # Panics
     ///
     /// If the library is of other versions than the sizes of this crate's buffers.
-    pub fn new(image: &[u8], count: u32) -> Result<Screen, Refusal> {
+    pub fn new(image: &[u8], count: u32) -> Result<Replica, Refusal> {
         assert_eq!(crate::versions(), crate::VERSIONS, "the library is of the crate's versions");
         crate::test(image)?;
         let mut buffer = Box::new([0; LARGEST_IMAGE]);
         // The engine accepts nothing longer; were it otherwise, that is a refusal too.
         let front = buffer.get_mut(..image.len()).ok_or(Refusal::Buffer)?;
         front.copy_from_slice(image);
-        Ok(Screen { buffer, len: image.len(), count })
+        Ok(Replica { buffer, len: image.len(), count })
     }
 
     pub fn image(&self) -> &[u8] {

@@ -1,11 +1,11 @@
-//! The two sides, as calls that take a state and give the next one.
+//! Engine and oracle as calls that take a state and give the next one.
 
 use mulkefi::{Delivery, Desk, Report, Wall, MESSAGE_SIZE};
 use oracle::message::{Edit, Operation};
 use oracle::steps::{State, Step};
 use std::fmt;
 
-/// All that a call tells and leaves.
+/// All that a call answers and leaves.
 #[derive(Clone, PartialEq)]
 pub struct Outcome {
     /// 0, or the refusal's number and 65,536 times the place that comes with it.
@@ -44,7 +44,7 @@ impl fmt::Debug for Outcome {
     }
 }
 
-pub trait Side {
+pub trait Implementation {
     fn edit(state: &State, edit: &Edit) -> Outcome;
     fn deliver(state: &State, message: &[u8]) -> Outcome;
 }
@@ -59,7 +59,7 @@ impl Oracle {
     }
 }
 
-impl Side for Oracle {
+impl Implementation for Oracle {
     fn edit(state: &State, edit: &Edit) -> Outcome {
         let mut message = vec![0; MESSAGE_SIZE];
         let step = state.edit(edit, &mut message);
@@ -90,30 +90,30 @@ pub struct Engine;
 
 impl Engine {
     pub fn edit_at(desk: &mut Desk, edit: &Edit) -> Outcome {
-        let done = desk.edit(&edit_of(edit));
+        let outcome = desk.edit(&edit_of(edit));
         let state = State { image: desk.image().to_vec(), count: desk.count() };
-        match done {
+        match outcome {
             Err(refusal) => Outcome::refused(refusal, &state),
-            Ok(done) => {
-                let (report, message) = (numbers(done.report), done.message.to_vec());
+            Ok(accepted) => {
+                let (report, message) = (numbers(accepted.report), accepted.message.to_vec());
                 Outcome { answer: 0, old: false, report, message, state }
             }
         }
     }
 
     pub fn deliver_to(wall: &mut Wall, message: &[u8]) -> Outcome {
-        let done = wall.deliver(message);
+        let outcome = wall.deliver(message);
         let state = State { image: wall.image().to_vec(), count: wall.count() };
-        let (old, report) = match done {
+        let (old, report) = match outcome {
             Err(refusal) => return Outcome::refused(refusal, &state),
             Ok(Delivery::Old) => (true, [0; 3]),
-            Ok(Delivery::Done(report)) => (false, numbers(report)),
+            Ok(Delivery::Applied(report)) => (false, numbers(report)),
         };
         Outcome { answer: 0, old, report, message: Vec::new(), state }
     }
 }
 
-impl Side for Engine {
+impl Implementation for Engine {
     fn edit(state: &State, edit: &Edit) -> Outcome {
         match Desk::resume(&state.image, state.count) {
             Ok(mut desk) => Engine::edit_at(&mut desk, edit),
@@ -129,7 +129,7 @@ impl Side for Engine {
     }
 }
 
-/// The crate with a fault: a removed piece's ends are told the wrong way round.
+/// The crate with a fault: it reports a removed piece's ends the wrong way round.
 pub struct Planted;
 
 impl Planted {
@@ -139,7 +139,7 @@ impl Planted {
     }
 }
 
-impl Side for Planted {
+impl Implementation for Planted {
     fn edit(state: &State, edit: &Edit) -> Outcome {
         Planted::swapped(Engine::edit(state, edit))
     }
