@@ -1,4 +1,4 @@
-//! Drawings of a size, several of them, so that no side gets used to one.
+//! Drawings of a size, several of them, so that no figure rests on one alone.
 
 use oracle::drawing::Drawing;
 use oracle::generate::bridges::{self, Size};

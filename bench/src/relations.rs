@@ -70,7 +70,7 @@ pub fn run() {
         black_box(first_unmet(&to_sketch(&drawing)));
     });
     whole.print("  read, test, relations met");
-    // The two calls of the engine take turns, so that their difference is of one spell.
+    // The two calls of the engine take turns, so that a change of the clock shows in both.
     let calls = both(searched, tested);
     let engine = calls.engine - calls.oracle;
     let converted = both(

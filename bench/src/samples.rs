@@ -1,4 +1,4 @@
-//! Small inputs in a ring, enough of them that no side gets used to one.
+//! Small inputs in a ring, so many that no figure rests on one alone.
 
 use oracle::generate::random::Random;
 

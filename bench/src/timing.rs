@@ -19,7 +19,7 @@ impl Times {
         self.print_with(name, 0);
     }
 
-    /// With tenths, for work of a few nanoseconds.
+    /// Prints tenths of a nanosecond too, for work of a few nanoseconds.
     pub fn print_fine(self, name: &str) {
         self.print_with(name, 1);
     }
@@ -35,7 +35,7 @@ pub fn print_heading() {
     println!("{:<44} {:>10} {:>10} {:>7}", "ns a call, medians", "engine", "Rust", "ratio");
 }
 
-/// The medians of many rounds, the sides taking turns so that a slow spell meets both.
+/// The medians of many rounds; the sides take turns, so that a change of the clock shows in both.
 pub fn measure(mut engine: impl FnMut(), mut oracle: impl FnMut()) -> Times {
     let (engine_calls, oracle_calls) = (calls_a_round(&mut engine), calls_a_round(&mut oracle));
     let (mut engine_times, mut oracle_times) = (Vec::new(), Vec::new());

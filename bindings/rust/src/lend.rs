@@ -1,6 +1,7 @@
 //! Slices as the engine takes them: a pointer and a length.
 
-/// An empty slice may point anywhere, so a real address stands in for it.
+/// Bytes as pointer and length; a real address stands in for that of an empty slice, which may be
+/// any.
 pub fn bytes(slice: &[u8]) -> (*const u8, usize) {
     static NOTHING: u8 = 0;
     match slice.is_empty() {
@@ -9,7 +10,8 @@ pub fn bytes(slice: &[u8]) -> (*const u8, usize) {
     }
 }
 
-/// The same for floats.
+/// Floats as pointer and length; a real address stands in for that of an empty slice, which may be
+/// any.
 pub fn floats(slice: &[f64]) -> (*const f64, usize) {
     static NOTHING: f64 = 0.0;
     match slice.is_empty() {

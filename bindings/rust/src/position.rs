@@ -56,7 +56,7 @@ impl Bounds {
         self.high.y - self.low.y
     }
 
-    /// With so much more on every side.
+    /// The rectangle with so much more at each of its four edges.
     pub fn grown(&self, by: f64) -> Bounds {
         Bounds {
             low: Position::new(self.low.x - by, self.low.y - by),

@@ -28,7 +28,9 @@ extern "C" {
         answer: *mut u32,
     ) -> u32;
 
-    /// The wall's call, likewise. An old message is accepted and leaves count and image.
+    /// The wall's call on the image in the first `len` of `room` bytes. Accepted, it writes the new
+    /// image to the buffer's front and gives count, image's length, removed curve, its start and its
+    /// end. An old message is accepted and leaves count and image.
     pub fn mulkefi_wall_deliver(
         buffer: *mut u8,
         room: usize,

@@ -10,7 +10,7 @@ pub fn edit(random: &mut Random, drawing: &Drawing) -> Edit {
     edit_by(random, drawing, operation)
 }
 
-/// The same for a given operation.
+/// An edit by a given operation; it mostly names a curve of the drawing and picks a position on it.
 pub fn edit_by(random: &mut Random, drawing: &Drawing, operation: Operation) -> Edit {
     let (curve, (x, y)) = match some_curve(random, drawing, operation) {
         Some(curve) if !random.one_in(60) => {

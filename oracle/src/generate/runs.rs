@@ -70,7 +70,7 @@ fn start(random: &mut Random) -> (Drawing, Option<Edit>) {
     }
 }
 
-/// The messages as they were written, or with a few of the mishaps that can befall them.
+/// The messages as they were written, or some of them lost, repeated, reordered, foreign or damaged.
 fn deliveries(random: &mut Random, mut messages: Vec<Vec<u8>>) -> Vec<Vec<u8>> {
     if messages.is_empty() || random.one_in(4) {
         return messages;

@@ -21,7 +21,7 @@ pub struct Scene<'r> {
 enum Numbering {
     /// One rising number for points and curves, as edits give them.
     Shared,
-    /// The same, with numbers left out.
+    /// One rising number for points and curves, with numbers left out.
     Gaps,
     /// A number of its own for each table, so that one number stands in both.
     Apart,

@@ -1,4 +1,4 @@
-//! The list of runs of the wall's program: good ones, and every mishap of images and messages.
+//! The list of runs of the wall's program: good ones, and every fault of images and messages.
 //!
 //! The input of an entry is the size of the program's input in four big-endian bytes, the program's
 //! input, and the bytes that the program writes for it. The outcome is that of the image.
@@ -125,7 +125,8 @@ fn message(number: u32, operation: Operation, x: f64) -> Vec<u8> {
     message::to_bytes(&Message { number, edit: Edit { operation, curve: 3, x, y: 0.0 } }).to_vec()
 }
 
-/// An image cut at each length of its header and one short of its end; a message cut likewise.
+/// An image cut at each length of its header and one short of its end; a message cut at several
+/// lengths.
 fn add_short_inputs(list: &mut List<()>) {
     let image = image::to_bytes(&l());
     let whole = [&image[..], &message(1, Operation::Split, 1.0)].concat();
