@@ -8,7 +8,7 @@ use lib.Dec.{leb, ltb}
 use borrow.Author.Tests.{ltb-true}
 use Rattle.edit_plan.specs.Outcome.{Outcome, refused, accepted}
 use Rattle.edit_plan.proofs.Tables.{Holds, holds-need}
-use Rattle.agreement.specs.Machines.{State, Protocol, maxNumber, Call, withCount, stateAfter, Entry, callOutcome, referenceAfter, appendAccepted, acceptedLog}
+use Rattle.agreement.specs.Machines.{State, Protocol, maxEditNumber, Call, withCount, stateAfter, Entry, callOutcome, referenceAfter, appendAccepted, acceptedLog}
 use Rattle.agreement.specs.Agreement.{stateAt}
 
 module _ {D E R : Type 0} (p : Protocol D E R) where
@@ -16,7 +16,7 @@ module _ {D E R : Type 0} (p : Protocol D E R) where
   pub record Step (s : State D) (e : E) (t : State D) (r : R) : Type 0 where
     pub gives : p .edit (s .drawing) e ≡ accepted (t .drawing) r
     pub next : t .count ≡ s .count + 1
-    pub fits : s .count < maxNumber
+    pub fits : s .count < maxEditNumber
 
   abbrev pub Linked : State D → List (Entry D E R) → Type 0
   Linked s [] = Unit {0}
@@ -25,10 +25,10 @@ module _ {D E R : Type 0} (p : Protocol D E R) where
   -- what an accepted call was
   pub called : (s : State D) (c : Call E) → Holds (Step s (c .edit)) (callOutcome p s c)
   called s c =
-      holds-need (Step s (c .edit)) (leb 30 (c .room)) 25 _ λ a.
-      holds-need (Step s (c .edit)) (ltb (s .count) maxNumber) 23 _ λ b. given (p .edit (s .drawing) (c .edit)) refl (ltb-true _ _ b)
+      holds-need (Step s (c .edit)) (leb (p .messageSize) (c .room)) 25 _ λ a.
+      holds-need (Step s (c .edit)) (ltb (s .count) maxEditNumber) 23 _ λ b. given (p .edit (s .drawing) (c .edit)) refl (ltb-true _ _ b)
     where
-      given : (o : Outcome D R) → p .edit (s .drawing) (c .edit) ≡ o → s .count < maxNumber → Holds (Step s (c .edit)) (withCount (s .count + 1) o)
+      given : (o : Outcome D R) → p .edit (s .drawing) (c .edit) ≡ o → s .count < maxEditNumber → Holds (Step s (c .edit)) (withCount (s .count + 1) o)
       given (refused k) e h = tt
       given (accepted d r) e h = record { gives = e; next = refl; fits = h }
 

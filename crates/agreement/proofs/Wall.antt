@@ -13,7 +13,7 @@ use lib.Dec.{ltb}
 use borrow.Author.Tests.{lt-ltb, le-ltb, le-leb, lt-leb, eq-eqb, ne-eqb}
 use Rattle.sketch.specs.Lists.{ite}
 use Rattle.edit_plan.specs.Outcome.{accepted}
-use Rattle.agreement.specs.Machines.{State, message, Protocol, maxNumber, Entry, WallReply, wallRefused, wallOld, wallApplied, WallStep, wallAfter, Delivered, wallTransition, WallStepValid, WallRun}
+use Rattle.agreement.specs.Machines.{State, message, Protocol, maxEditNumber, Entry, WallReply, wallRefused, wallOld, wallApplied, WallStep, wallAfter, Delivered, wallTransition, WallStepValid, WallRun}
 use Rattle.agreement.specs.Agreement.{stateAt, appliedReplies, Subsequence, CountStep}
 use Rattle.agreement.proofs.Orders.{some-inj, lookup-below, take-more, drop-end, order-nil, order-stay, order-next}
 use Rattle.agreement.proofs.Reference.{Linked, side-count}
@@ -30,7 +30,7 @@ module _ {D E R : Type 0} (p : Protocol D E R) (Valid : D → Type 0) where
 
   -- its message, whatever the number, is read as that edit and number
   abbrev pub Read : Type 0
-  Read = (d : D) (e : E) (d′ : D) (r : R) → Valid d → p .edit d e ≡ accepted d′ r → (n : ℕ) → 0 < n → n ≤ maxNumber → p .decode (p .encode n e) ≡ message n e
+  Read = (d : D) (e : E) (d′ : D) (r : R) → Valid d → p .edit d e ≡ accepted d′ r → (n : ℕ) → 0 < n → n ≤ maxEditNumber → p .decode (p .encode n e) ≡ message n e
 
 module _ {D E R : Type 0} (p : Protocol D E R) (Valid : D → Type 0) (keeps : Keeping p Valid) where
   -- where among the entries a message stands, and the edit there
@@ -39,7 +39,7 @@ module _ {D E R : Type 0} (p : Protocol D E R) (Valid : D → Type 0) (keeps : K
     e : E
     d : D
     r : R
-    fits : s .count + i < maxNumber
+    fits : s .count + i < maxEditNumber
     is : m ≡ p .encode (s .count + i + 1) e
     valid : Valid (stateAt s l i .drawing)
     gives : p .edit (stateAt s l i .drawing) e ≡ accepted d r
@@ -97,7 +97,7 @@ module _ {D E R : Type 0} (p : Protocol D E R) (Valid : D → Type 0) (keeps : K
     d : D
     r : R
     gives : p .edit before e ≡ accepted d r
-    fits : s .count + k < maxNumber
+    fits : s .count + k < maxEditNumber
 
   numbered : (s : State D) (l : List (Entry D E R)) → Linked p s l → Valid (s .drawing) → (k : ℕ) (m : List ℕ) → getElem? (map (written p) l) k ≡ some m → Numbered s k m
   numbered s [] h y k m q = let z : _≡_ {A = ℕ} 0 1 = cc in absurd (omega arith)

@@ -21,15 +21,16 @@ pub data Decoded (E : Type 0) : Type 0 where
   invalid : ℕ → Decoded E
   message : ℕ → E → Decoded E
 
--- what the machines are built over: the edit function, and the message format's encoder and decoder
+-- what the machines are built over: the edit function, and the message format's size, encoder and decoder
 pub record Protocol (D E R : Type 0) : Type 0 where
   pub edit : D → E → Outcome D R
+  pub messageSize : ℕ
   pub encode : ℕ → E → List ℕ
   pub decode : List ℕ → Decoded E
 
 -- the largest edit number
-abbrev pub maxNumber : ℕ
-maxNumber = 4_294_967_295
+abbrev pub maxEditNumber : ℕ
+maxEditNumber = 4_294_967_295
 
 -- ---- the desk
 
@@ -63,7 +64,7 @@ module _ {D E R : Type 0} (p : Protocol D E R) where
   -- the outcome of a call in a state: 25 for a buffer too short, 23 where no number is left, then the edit's outcome
   abbrev pub callOutcome : State D → Call E → Outcome (State D) R
   callOutcome s c =
-      guard (leb 30 (c .room)) 25 (guard (ltb (s .count) maxNumber) 23 (withCount (s .count + 1) (p .edit (s .drawing) (c .edit))))
+      guard (leb (p .messageSize) (c .room)) 25 (guard (ltb (s .count) maxEditNumber) 23 (withCount (s .count + 1) (p .edit (s .drawing) (c .edit))))
 
   -- an accepted call replies with its report, and the message of its edit and number
   abbrev pub replyTo : E → Outcome (State D) R → DeskReply R

@@ -17,9 +17,10 @@ use crate::gather::cut_points;
 use crate::nearest::nearest;
 use geom::Vec2;
 use shape::Shape;
+use sketch::Id;
 
 // The cut at a place of the columns.
-fn cut_at<'a>(i: usize, ts: &'a [f64], px: &'a [f64], py: &'a [f64], who: &'a [u32]) -> Cut
+fn cut_at<'a>(i: usize, ts: &'a [f64], px: &'a [f64], py: &'a [f64], who: &'a [Id]) -> Cut
     requires { ⌜ (i < length (now ts)) × (i < length (now px)) × (i < length (now py)) × (i < length (now who)) ⌝ }
     ensures { λ r. ⌜ r ≡ cutAt (now (ts .entry)) (now (px .entry)) (now (py .entry)) (now (who .entry)) i ⌝ }
 {
@@ -38,7 +39,7 @@ fn beside<'a>(
     ts: &'a [f64],
     px: &'a [f64],
     py: &'a [f64],
-    who: &'a [u32],
+    who: &'a [Id],
 ) -> Neighbours
     requires { ⌜ Room n (now ts) (now px) (now py) (now who) ⌝ }
     requires { ⌜ isFull sh ≡ false ⌝ }
@@ -83,7 +84,7 @@ fn around<'a>(
     ts: &'a [f64],
     px: &'a [f64],
     py: &'a [f64],
-    who: &'a [u32],
+    who: &'a [Id],
 ) -> Neighbours
     requires { ⌜ Room n (now ts) (now px) (now py) (now who) ⌝ }
     requires { ⌜ isFull sh ≡ true ⌝ }
@@ -110,7 +111,7 @@ pub fn bracket(sh: Shape, tq: f64, others: [Cutter; 128], n: usize) -> Neighbour
     let mut ts = [0.0; 512];
     let mut px = [0.0; 512];
     let mut py = [0.0; 512];
-    let mut who = [0u32; 512];
+    let mut who: [Id; 512] = [0; 512];
     let found = cut_points(sh, others, n, &mut ts, &mut px, &mut py, &mut who);
     if sh.is_full() {
         return around(sh, tq, found, &ts, &px, &py, &who);

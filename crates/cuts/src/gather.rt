@@ -16,6 +16,7 @@ use crate::bounded::slack;
 use geom::Vec2;
 use shape::Crossings;
 use shape::Shape;
+use sketch::Id;
 
 // Whether one of the first n places is nearer than 1e-6 to q.
 fn seen<'a>(px: &'a [f64], py: &'a [f64], n: usize, q: Vec2) -> bool
@@ -43,7 +44,7 @@ fn candidate<'a>(
     ts: &'a mut [f64],
     px: &'a mut [f64],
     py: &'a mut [f64],
-    who: &'a mut [u32],
+    who: &'a mut [Id],
 ) -> usize
     requires { ⌜ slack ≡ B.slack sh ⌝ }
     requires { ⌜ Room (n + 1) (now ts) (now px) (now py) (now who) ⌝ }
@@ -133,7 +134,7 @@ fn cuts_by<'a>(
     ts: &'a mut [f64],
     px: &'a mut [f64],
     py: &'a mut [f64],
-    who: &'a mut [u32],
+    who: &'a mut [Id],
 ) -> usize
     requires { ⌜ slack ≡ B.slack sh ⌝ }
     requires { ⌜ Room (n + 4) (now ts) (now px) (now py) (now who) ⌝ }
@@ -172,7 +173,7 @@ pub(crate) fn cut_points<'a>(
     ts: &'a mut [f64],
     px: &'a mut [f64],
     py: &'a mut [f64],
-    who: &'a mut [u32],
+    who: &'a mut [Id],
 ) -> usize
     requires { ⌜ Room 512 (now ts) (now px) (now py) (now who) ⌝ }
     ensures { λ r. ⌜ cutsIn r (now (ts .exit)) (now (px .exit)) (now (py .exit)) (now (who .exit)) ≡ cutPoints sh (take n others) ⌝ }

@@ -8,7 +8,7 @@ use borrow.Author.Tests.{ltb-true}
 use Rattle.sketch.specs.declared.Curve.{Curve}
 use Rattle.sketch.specs.declared.Sketch.{Sketch}
 use Rattle.sketch.specs.Lists.{ite}
-use Rattle.sketch.specs.Drawing.{view}
+use Rattle.sketch.specs.Drawing.{view, limits}
 use Rattle.sketch.proofs.Bools.{never}
 use Rattle.sketch.proofs.Facts.{rule-none}
 use Rattle.edit_plan.specs.declared.Plan.{Plan}
@@ -26,7 +26,7 @@ not-both false h = h
 
 module _ (s : Sketch) (e : Extent) where
   record Space (d : Additions) : Type 0 where
-    ids : suc (s .next + d .points) + d .curves < 4294967295
+    ids : suc (s .next + d .points) + d .curves < limits .ids
     points : s .npoints + d .points < 512
     curves : s .ncurves + d .curves < 128
     relations : leftOver e (view s .relations) + d .relations < 256
@@ -35,15 +35,15 @@ module _ (s : Sketch) (e : Extent) where
   unfolding roomWith
   space d h =
       let full = not (ltb (leftOver e (view s .relations) + d .relations) 256) in
-      let a = rule-none (ltb (s .next) 4294967295) 23 _ (omega arith) h in
+      let a = rule-none (ltb (s .next) (limits .ids)) 23 _ (omega arith) h in
       let b = rule-none (ltb (s .npoints) 512) 22 _ (omega arith) (a .1) in
       let c = rule-none (okPosition (d .first)) 24 _ (omega arith) (b .1) in
-      let i = rule-none (ltb (s .next + d .points) 4294967295) 23 _ (omega arith) (c .1) in
+      let i = rule-none (ltb (s .next + d .points) (limits .ids)) 23 _ (omega arith) (c .1) in
       let j = rule-none (ltb (s .npoints + d .points) 512) 22 _ (omega arith) (i .1) in
       let k = rule-none (okPosition (d .second)) 24 _ (omega arith) (j .1) in
-      let l = rule-none (ltb (suc (s .next + d .points)) 4294967295) 23 _ (omega arith) (k .1) in
+      let l = rule-none (ltb (suc (s .next + d .points)) (limits .ids)) 23 _ (omega arith) (k .1) in
       let m = rule-none (ltb (s .ncurves) 128) 22 _ (omega arith) (l .1) in
-      let n = rule-none (ltb (suc (s .next + d .points) + d .curves) 4294967295) 23 _ (omega arith) (m .1) in
+      let n = rule-none (ltb (suc (s .next + d .points) + d .curves) (limits .ids)) 23 _ (omega arith) (m .1) in
       let o = rule-none (ltb (s .ncurves + d .curves) 128) 22 _ (omega arith) (n .1) in
       let p = rule-none (not full) 22 0 (omega arith) (o .1) in
       record {
@@ -77,13 +77,13 @@ module _ (s : Sketch) (e : Extent) where
         record { points = u .points; place = omega (arith, u .curves); curves = omega (arith, u .curves); order = omega arith; relations = u .relations }
     roomy (Move b v w) z h = absurd (omega arith)
 
-  pub ids-left : (c : Curve) (plan : Plan) → refusalFor s (c .kind) e plan ≡ 0 → s .next ≤ 4294967295 → s .next + takes (c .kind) plan ≤ 4294967295
+  pub ids-left : (c : Curve) (plan : Plan) → refusalFor s (c .kind) e plan ≡ 0 → s .next ≤ limits .ids → s .next + takes (c .kind) plan ≤ limits .ids
   unfolding refusalFor additionsFor takes
   ids-left c Whole z h = omega arith
   ids-left c (Cut w b) z h = let u = space (mkAdditions (w .at) (w .at) 0 0 0) z in omega (arith, u .ids)
   ids-left c (CutTwo w v b) z h = go (isCircle (c .kind)) z
     where
-      go : (x : Bool) → roomOf s e (ite x (mkAdditions (w .at) (v .at) 1 0 1) (mkAdditions (w .at) (v .at) 1 1 2)) ≡ 0 → s .next + ite x 3 4 ≤ 4294967295
+      go : (x : Bool) → roomOf s e (ite x (mkAdditions (w .at) (v .at) 1 0 1) (mkAdditions (w .at) (v .at) 1 1 2)) ≡ 0 → s .next + ite x 3 4 ≤ limits .ids
       go true z = let u = space (mkAdditions (w .at) (v .at) 1 0 1) z in omega (arith, u .ids)
       go false z = let u = space (mkAdditions (w .at) (v .at) 1 1 2) z in omega (arith, u .ids)
   ids-left c (Divide v) z h = let u = space (mkAdditions v v 0 0 0) z in omega (arith, u .ids)

@@ -24,10 +24,11 @@ ghost use mathlib.Core.Path.{_≡_};
 ghost use Prim.Native.Nat.{suc, _+_, _≤_};
 ghost use Rattle.edit_plan.specs.Changes.{pinned, halvesOf, halfCircles, noHalves, cutOnce, divideOnce, cutMiddle, changeFor};
 ghost use Rattle.edit_plan.specs.Room.{takes};
+ghost use Rattle.sketch.specs.Drawing.{limits};
 
 // A line or an arc in two, at v.
 fn halves(kind: CurveKind, v: Vec2, next: Id) -> Halves
-    requires { ⌜ next + 2 ≤ 4294967295 ⌝ }
+    requires { ⌜ next + 2 ≤ limits .ids ⌝ }
     ensures { λ x. ⌜ x ≡ halvesOf kind v next ⌝ }
 {
     let p = new_point(next, v);
@@ -45,7 +46,7 @@ fn halves(kind: CurveKind, v: Vec2, next: Id) -> Halves
 
 // A circle in two: from v to u, and back.
 fn half_circles(v: Vec2, u: Vec2, next: Id) -> Halves
-    requires { ⌜ next + 3 ≤ 4294967295 ⌝ }
+    requires { ⌜ next + 3 ≤ limits .ids ⌝ }
     ensures { λ x. ⌜ x ≡ halfCircles v u next ⌝ }
 {
     let i = next + 1;
@@ -136,7 +137,7 @@ fn divide_once(c: Curve, n: usize, h: Halves) -> Change
 
 // A circle becomes the arc between its cuts, or the other one.
 fn cut_circle(c: Curve, k: usize, w: PinnedPoint, v: PinnedPoint, lead: bool, next: Id) -> Change
-    requires { ⌜ next + 3 ≤ 4294967295 ⌝ }
+    requires { ⌜ next + 3 ≤ limits .ids ⌝ }
     ensures { λ x. ⌜ x ≡ cutOnce c k (halfCircles (w .at) (v .at) next) lead (pinned (w .pin) next) (pinned (v .pin) (suc next)) ⌝ }
 {
     let x = w.at;
@@ -150,7 +151,7 @@ fn cut_circle(c: Curve, k: usize, w: PinnedPoint, v: PinnedPoint, lead: bool, ne
 
 // The middle piece of a line or an arc goes; its last piece is new, and comes after n curves.
 fn cut_middle(c: Curve, n: usize, w: PinnedPoint, v: PinnedPoint, next: Id) -> Change
-    requires { ⌜ next + 4 ≤ 4294967295 ⌝ }
+    requires { ⌜ next + 4 ≤ limits .ids ⌝ }
     ensures { λ x. ⌜ x ≡ cutMiddle c n w v next ⌝ }
 {
     let kind = c.kind;
@@ -189,7 +190,7 @@ fn cut_middle(c: Curve, n: usize, w: PinnedPoint, v: PinnedPoint, next: Id) -> C
 
 // What the plan writes for the curve c, which stands at place k of n.
 pub(crate) fn change_for(c: Curve, k: usize, n: usize, plan: Plan, next: Id) -> Change
-    requires { ⌜ next + takes (c .kind) plan ≤ 4294967295 ⌝ }
+    requires { ⌜ next + takes (c .kind) plan ≤ limits .ids ⌝ }
     ensures { λ x. ⌜ x ≡ changeFor c k n plan next ⌝ }
 {
     let kind = c.kind;

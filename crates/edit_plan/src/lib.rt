@@ -98,8 +98,8 @@ enum Kept {
 struct Additions {
     first: Vec2,
     second: Vec2,
-    points: u32,
-    curves: u32,
+    points: Id,
+    curves: Id,
     relations: usize,
 }
 

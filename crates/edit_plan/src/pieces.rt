@@ -119,7 +119,7 @@ pub(crate) fn new_point(id: Id, v: Vec2) -> Point
 pub(crate) fn new_curve(id: Id, kind: CurveKind, construction: bool) -> Curve
     ensures { λ x. ⌜ x ≡ newCurve id kind construction ⌝ }
 {
-    let slots = [0u32; 8];
+    let slots: [Id; 8] = [0; 8];
     Curve {
         id: id,
         construction: construction,

@@ -8,6 +8,7 @@ use crate::removal::release_extent;
 use geom::Vec2;
 use sketch::CurveKind;
 use sketch::Id;
+use sketch::MAX_NEXT_ID;
 use sketch::Sketch;
 use sketch::coordinate_ok;
 ghost use mathlib.Core.Path.{_≡_};
@@ -17,7 +18,7 @@ ghost use lib.Dec.{ltb};
 ghost use Rattle.sketch.specs.Drawing.{view, limits};
 ghost use Rattle.edit_plan.specs.Room.{mkAdditions, additionsFor, pointRoom, curveRoom, roomWith, leftOver, refusalFor};
 
-fn additions(first: Vec2, second: Vec2, points: u32, curves: u32, relations: usize) -> Additions
+fn additions(first: Vec2, second: Vec2, points: Id, curves: Id, relations: usize) -> Additions
     ensures { λ x. ⌜ x ≡ mkAdditions first second points curves relations ⌝ }
 {
     Additions {
@@ -49,7 +50,7 @@ fn additions_for(kind: CurveKind, plan: Plan) -> Additions
 fn point_room(next: Id, n: usize, v: Vec2) -> u8
     ensures { λ x. ⌜ x ≡ pointRoom limits next n v 0 ⌝ }
 {
-    if next >= 4294967295 {
+    if next >= MAX_NEXT_ID {
         return 23;
     }
     if n >= 512 {
@@ -65,7 +66,7 @@ fn point_room(next: Id, n: usize, v: Vec2) -> u8
 fn curve_room(next: Id, n: usize) -> u8
     ensures { λ x. ⌜ x ≡ curveRoom limits next n 0 ⌝ }
 {
-    if next >= 4294967295 {
+    if next >= MAX_NEXT_ID {
         return 23;
     }
     if n >= 128 {

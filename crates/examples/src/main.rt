@@ -1,13 +1,12 @@
 // Worked examples that no theorem states, run on the engine.
 use bernstein::Roots;
+use image::MESSAGE_SIZE;
 use image::Operation;
 use libc::STDOUT_FILENO;
 use replication::DeskReply;
 
 // Room for an image.
 const IMAGE: usize = 1024;
-
-const MESSAGE: usize = 30;
 
 // Room for roots, and a budget.
 const ROOTS: usize = 28;
@@ -37,7 +36,7 @@ fn extend(words: &[u8], path: &[u8], x: f64, y: f64) {
         return;
     }
     let mut bytes = [0u8; IMAGE];
-    let mut message = [0u8; MESSAGE];
+    let mut message = [0u8; MESSAGE_SIZE];
     let n = io::read_full(fd, &mut bytes);
     libc::close(fd);
     let started = replication::start(&bytes[..n]);

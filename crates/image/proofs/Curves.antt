@@ -18,7 +18,7 @@ use Rattle.sketch.specs.declared.Curve.{Curve}
 use Rattle.sketch.specs.declared.CurveKind.{CurveKind}
 use Rattle.sketch.specs.declared.CurveKind.the-variants.{Line, Arc, Circle, Bezier, Conic}
 use Rattle.sketch.specs.Valid.{okCurve, okNumber, okRadius, okRho, inSlots, sortOf, isLineSort}
-use Rattle.image.specs.Records.{idsAt, slotsOf, usedSlots, curveFields, curveForm, kindOf, noSlots, curveOf}
+use Rattle.image.specs.Records.{idsAt, slotsOf, usedSlots, curveFields, curveForm, kindOf, noSlots, curveOf, curveSize}
 use Rattle.image.specs.Encode.{bit, bits, kindByte, degreeOf, numberBits, slotIds, flagByte, encodeCurve}
 use Rattle.image.specs.Stored.{Each, Id, StoredKind, StoredCurve}
 use Rattle.image.proofs.Floats.{bits-back, radius-rejects, rho-rejects}
@@ -166,7 +166,7 @@ fields-there (Conic a p b rho) f s t h = rw (le-leb f 7 h)
 pub length-slots : (k : CurveKind) (s : List ℕ) → length s ≡ 8 → length (concatMap (bytes 4) (slotIds k s)) ≡ 32
 length-slots k s h = length-spread (bytes 4) 4 (slotIds k s) (sized-all (bytes 4) 4 (length-bytes 4) (slotIds k s)) ∙ rw (eight-ids k s h)
 
-pub length-curve : (c : Curve) → length (c .slots) ≡ 8 → length (encodeCurve c) ≡ 47
+pub length-curve : (c : Curve) → length (c .slots) ≡ 8 → length (encodeCurve c) ≡ curveSize
 unfolding encodeCurve
 length-curve c h = simp (length-append, length-bytes) (rw (length-slots (c .kind) (c .slots) h))
 
@@ -277,7 +277,7 @@ kind-back (suc (suc (suc (suc (suc zero))))) flags degree number a b c d e f g h
     }
 kind-back (suc (suc (suc (suc (suc (suc k)))))) flags degree number a b c d e f g h v t ok r1 r2 = absurd (omega (arith, t .high))
 
-pub curve-back : (r : List ℕ) → Bytes r → length r ≡ 47 → curveForm r ≡ true → okCurve (curveOf r) ≡ true → encodeCurve (curveOf r) ≡ r
+pub curve-back : (r : List ℕ) → Bytes r → length r ≡ curveSize → curveForm r ≡ true → okCurve (curveOf r) ≡ true → encodeCurve (curveOf r) ≡ r
 unfolding encodeCurve flagByte idsAt
 curve-back r b l form ok =
     let v = ofBits binary64 (field r 39 8) in
@@ -306,4 +306,4 @@ curve-back r b l form ok =
       part-join r 4 1 42,
       part-join r 0 4 43,
     )
-    (take-all 47 r (omega arith))
+    (take-all curveSize r (omega arith))

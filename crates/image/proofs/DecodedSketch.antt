@@ -13,8 +13,8 @@ use Rattle.sketch.specs.Drawing.{view, limits}
 use Rattle.sketch.specs.declared.Sketch.{Sketch}
 use Rattle.sketch.specs.Valid.{okPoint, okCurve, okRelation, faultOf, sketchFault}
 use Rattle.sketch.proofs.Facts.{none-rule}
-use Rattle.image.specs.Records.{pointForm, pointOf, curveForm, curveOf, relationForm, relationOf}
-use Rattle.image.specs.Image.{nextAt, rowsAt, pointCount, curveCount, relationCount, pointRows, curveRows, relationRows, drawingOf, recordsFault, imageFault}
+use Rattle.image.specs.Records.{pointForm, pointOf, curveForm, curveOf, relationForm, relationOf, curveSize, pointSize, relationSize}
+use Rattle.image.specs.Image.{nextAt, rowsAt, pointCount, curveCount, relationCount, pointRows, curveRows, relationRows, drawingOf, recordsFault, imageFault, headerSize}
 use Rattle.image.specs.Decode.{plainPoint, plainCurve, plainRelation}
 use Rattle.image.specs.Contracts.{goodPoint, goodCurve, goodRelation}
 use Rattle.image.proofs.Tables.{both}
@@ -64,9 +64,9 @@ module _ (s : List ℕ) (e : imageFault s ≡ 0) where
 
   -- the sketch made of the header's numbers and the records' values
   pub spelled : Bytes s → (sk : Sketch) → sk .next ≡ nextAt s → sk .npoints ≡ pointCount s → sk .ncurves ≡ curveCount s → sk .nrelations ≡ relationCount s
-      → take (sk .npoints) (sk .points) ≡ map pointOf (rowsAt 21 (sk .npoints) s 15)
-      → take (sk .ncurves) (sk .curves) ≡ map curveOf (rowsAt 47 (sk .ncurves) s (15 + sk .npoints * 21))
-      → map (λ t. t .relation) (take (sk .nrelations) (sk .relations)) ≡ map relationOf (rowsAt 17 (sk .nrelations) s (15 + sk .npoints * 21 + sk .ncurves * 47))
+      → take (sk .npoints) (sk .points) ≡ map pointOf (rowsAt pointSize (sk .npoints) s headerSize)
+      → take (sk .ncurves) (sk .curves) ≡ map curveOf (rowsAt curveSize (sk .ncurves) s (headerSize + sk .npoints * pointSize))
+      → map (λ t. t .relation) (take (sk .nrelations) (sk .relations)) ≡ map relationOf (rowsAt relationSize (sk .nrelations) s (headerSize + sk .npoints * pointSize + sk .ncurves * curveSize))
       → (view sk ≡ drawingOf s) × (sketchFault sk ≡ 0)
   spelled b sk n p q r x y z =
       let v : view sk ≡ drawingOf s = rw (x, y, z, n, p, q, r) in

@@ -11,8 +11,9 @@ use Rattle.big_endian.specs.Fields.{field, bytes, part}
 use Rattle.big_endian.specs.Laws.{Bytes, length-bytes, field-in, field-lt, bytes-field, part-join}
 use Rattle.sketch.specs.Lists.{guardNumber}
 use Rattle.sketch.proofs.Facts.{rule-none}
-use Rattle.image.specs.Image.{version, nextAt, pointCount, curveCount, relationCount, sizeOf, curvesFrom, relationsFrom, headFault}
+use Rattle.image.specs.Image.{version, nextAt, pointCount, curveCount, relationCount, sizeOf, curvesFrom, relationsFrom, headFault, headerSize}
 use Rattle.image.specs.Encode.{header}
+use Rattle.image.specs.Stored.{Id}
 use Rattle.image.proofs.Tables.{both}
 
 pub rule-kept : (b : Bool) (n rest : ℕ) → guardNumber b (suc n) rest ≡ 0 → (b ≡ true) × (rest ≡ 0)
@@ -20,7 +21,7 @@ rule-kept b n rest e = rule-none b (suc n) rest (omega arith) e
 
 -- what the header of an image that is not refused for it says
 pub record Head (s : List ℕ) : Type 0 where
-  pub long : 15 ≤ length s
+  pub long : headerSize ≤ length s
   pub version-is : field s 4 1 ≡ version
   pub told : field s 0 4 + 4 ≡ length s
   pub few-points : pointCount s ≤ 512
@@ -60,7 +61,7 @@ head-passes s rest h =
     rw (
       le-leb 5 (length s) (omega (arith, h .long)),
       eq-eqb (field s 4 1) version (h .version-is),
-      le-leb 15 (length s) (h .long),
+      le-leb headerSize (length s) (h .long),
       eq-eqb (field s 0 4 + 4) (length s) (h .told),
       le-leb (pointCount s) 512 (h .few-points),
       le-leb (curveCount s) 128 (h .few-curves),
@@ -69,7 +70,7 @@ head-passes s rest h =
       le-leb 1 (nextAt s) (h .next-low),
     )
 
-pub length-header : (next np nc nr : ℕ) → length (header next np nc nr) ≡ 15
+pub length-header : (next np nc nr : ℕ) → length (header next np nc nr) ≡ headerSize
 unfolding header
 length-header next np nc nr = simp (length-append, length-bytes)
 
@@ -82,7 +83,7 @@ pub record Fields (s : List ℕ) (next np nc nr : ℕ) : Type 0 where
   pub curves-are : curveCount s ≡ nc
   pub relations-are : relationCount s ≡ nr
 
-pub header-there : (s post : List ℕ) (next np nc nr : ℕ) → s ≡ header next np nc nr ++ post → next < 2 ^ 32 → np < 2 ^ 16 → nc < 2 ^ 16 → nr < 2 ^ 16
+pub header-there : (s post : List ℕ) (next np nc nr : ℕ) → s ≡ header next np nc nr ++ post → Id next → np < 2 ^ 16 → nc < 2 ^ 16 → nr < 2 ^ 16
     → Fields s next np nc nr
 unfolding header
 header-there s post next np nc nr e hn hp hc hr =
@@ -101,7 +102,7 @@ header-there s post next np nc nr e hn hp hc hr =
       relations-are = field-in s (b0 ++ (b1 ++ (b2 ++ (b3 ++ b4)))) post 13 2 nr (e ∙ simp append-assoc) (simp (length-append, length-bytes)) hr;
     }
 
-pub header-back : (s : List ℕ) → Bytes s → Head s → header (nextAt s) (pointCount s) (curveCount s) (relationCount s) ≡ part s 0 15
+pub header-back : (s : List ℕ) → Bytes s → Head s → header (nextAt s) (pointCount s) (curveCount s) (relationCount s) ≡ part s 0 headerSize
 unfolding header
 header-back s b h =
     let e : sizeOf (pointCount s) (curveCount s) (relationCount s) - 4 ≡ field s 0 4 = omega (arith, h .size, h .told) in

@@ -16,7 +16,7 @@ use Rattle.image.specs.declared.Operation.the-variants.{Trim, Split, Ext
 use Rattle.image.specs.declared.Message.{Message}
 use Rattle.image.specs.declared.MessageRead.the-variants.{Accepted, Refused}
 use Rattle.image.specs.Stored.{StoredMessage}
-use Rattle.image.specs.Message.{version, messageFault, operationOf, operationByte, messageOf, resultOf, parse, encode}
+use Rattle.image.specs.Message.{version, messageFault, operationOf, operationByte, messageOf, resultOf, parse, encode, messageLength, messageSize}
 use Rattle.image.proofs.Tables.{both}
 use Rattle.image.proofs.Headers.{rule-kept}
 
@@ -42,27 +42,27 @@ byte-back (suc (suc zero)) l h = refl
 byte-back (suc (suc (suc zero))) l h = refl
 byte-back (suc (suc (suc (suc b)))) l h = absurd (omega arith)
 
-pub length-message : (m : Message) → length (encode m) ≡ 30
+pub length-message : (m : Message) → length (encode m) ≡ messageSize
 unfolding encode
 length-message m = simp (length-append, length-bytes)
 
 -- ---- there: the bytes of a message are refused by 6 where its number is 0, and give the message where it is not
 
 module _ (m : Message) (w : StoredMessage m) (s : List ℕ)
-    (e : s ≡ bytes 4 26 ++ (bytes 1 version ++ (bytes 4 (m .number) ++ (bytes 1 (operationByte (m .operation)) ++ (bytes 4 (m .curve) ++ (bytes 8 (m .x) ++ bytes 8 (m .y))))))) where
+    (e : s ≡ bytes 4 messageLength ++ (bytes 1 version ++ (bytes 4 (m .number) ++ (bytes 1 (operationByte (m .operation)) ++ (bytes 4 (m .curve) ++ (bytes 8 (m .x) ++ bytes 8 (m .y))))))) where
   parsed : parse s ≡ resultOf (guardNumber (leb 1 (m .number)) 6 0) m
   unfolding messageFault guardNumber
   parsed =
       let o = known (m .operation) in
-      let b0 = bytes 4 26 in
+      let b0 = bytes 4 messageLength in
       let b1 = bytes 1 version in
       let b2 = bytes 4 (m .number) in
       let b3 = bytes 1 (operationByte (m .operation)) in
       let b4 = bytes 4 (m .curve) in
       let b5 = bytes 8 (m .x) in
       let b6 = bytes 8 (m .y) in
-      let l : length s ≡ 30 = ap length e ∙ simp (length-append, length-bytes) in
-      let f0 : field s 0 4 ≡ 26 = field-in s [] (b1 ++ (b2 ++ (b3 ++ (b4 ++ (b5 ++ b6))))) 0 4 26 e refl (lit< tt) in
+      let l : length s ≡ messageSize = ap length e ∙ simp (length-append, length-bytes) in
+      let f0 : field s 0 4 ≡ messageLength = field-in s [] (b1 ++ (b2 ++ (b3 ++ (b4 ++ (b5 ++ b6))))) 0 4 messageLength e refl (lit< tt) in
       let f1 : field s 4 1 ≡ version = field-in s b0 (b2 ++ (b3 ++ (b4 ++ (b5 ++ b6)))) 4 1 version e (length-bytes 4 _) (lit< tt) in
       let f2 : field s 5 4 ≡ m .number = field-in s (b0 ++ b1) (b3 ++ (b4 ++ (b5 ++ b6))) 5 4 (m .number) (e ∙ simp append-assoc) (simp (length-append, length-bytes)) (w .number-fits) in
       let f3 : field s 9 1 ≡ operationByte (m .operation) =
@@ -91,8 +91,8 @@ verdict-refused (suc n) m₀ k e = let q : k ≡ suc n = cc in (q, λ h. omega a
 -- a message without a fault, as facts
 pub record Sound (s : List ℕ) : Type 0 where
   pub version-is : field s 4 1 ≡ version
-  pub long : length s ≡ 30
-  pub told : field s 0 4 ≡ 26
+  pub long : length s ≡ messageSize
+  pub told : field s 0 4 ≡ messageLength
   pub numbered : 1 ≤ field s 5 4
   pub low : 1 ≤ field s 9 1
   pub high : field s 9 1 ≤ 3
@@ -120,7 +120,7 @@ pub encode-back : (s : List ℕ) → Bytes s → Sound s → encode (messageOf s
 unfolding encode
 encode-back s b w =
     let l = w .long in
-    let t : bytes 4 26 ≡ part s 0 4 = ap (bytes 4) (sym (w .told)) ∙ bytes-field s 0 4 b (omega arith) in
+    let t : bytes 4 messageLength ≡ part s 0 4 = ap (bytes 4) (sym (w .told)) ∙ bytes-field s 0 4 b (omega arith) in
     let v : bytes 1 version ≡ part s 4 1 = ap (bytes 1) (sym (w .version-is)) ∙ bytes-field s 4 1 b (omega arith) in
     rw (
       t,
@@ -138,7 +138,7 @@ encode-back s b w =
       part-join s 4 1 25,
       part-join s 0 4 26,
     )
-    (take-all 30 s (omega arith))
+    (take-all messageSize s (omega arith))
 
 pub encode-parse : (s : List ℕ) (m : Message) → Bytes s → parse s ≡ Accepted m → encode m ≡ s
 encode-parse s m b e =

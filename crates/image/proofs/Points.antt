@@ -14,7 +14,7 @@ use Rattle.big_endian.specs.Fields.{field, bytes, part}
 use Rattle.big_endian.specs.Laws.{Bytes, length-bytes, field-in, bytes-field, part-join}
 use Rattle.sketch.specs.declared.Point.{Point}
 use Rattle.sketch.specs.Valid.{okPoint, okCoordinate}
-use Rattle.image.specs.Records.{pointForm, pointOf}
+use Rattle.image.specs.Records.{pointForm, pointOf, pointSize}
 use Rattle.image.specs.Encode.{bit, bits, encodePoint}
 use Rattle.image.specs.Stored.{StoredPoint}
 use Rattle.image.proofs.Floats.{bits-back, coordinate-rejects}
@@ -41,7 +41,7 @@ bit-back zero h = refl
 bit-back (suc zero) h = refl
 bit-back (suc (suc n)) h = absurd (omega arith)
 
-pub length-point : (p : Point) → length (encodePoint p) ≡ 21
+pub length-point : (p : Point) → length (encodePoint p) ≡ pointSize
 unfolding encodePoint
 length-point p = simp (length-append, length-bytes)
 
@@ -60,7 +60,7 @@ point-there p w =
     let o : pointOf s ≡ p = rw (f1, f2, f3, f4, ofBits-toBits binary64 (p .x) (w .x-fits), ofBits-toBits binary64 (p .y) (w .y-fits), bit-is (p .fixed)) in
     record { tested = rw (f4, bit-le (p .fixed)) (ap okPoint o); spelled = o }
 
-pub point-back : (r : List ℕ) → Bytes r → length r ≡ 21 → pointForm r ≡ true → okPoint (pointOf r) ≡ true → encodePoint (pointOf r) ≡ r
+pub point-back : (r : List ℕ) → Bytes r → length r ≡ pointSize → pointForm r ≡ true → okPoint (pointOf r) ≡ true → encodePoint (pointOf r) ≡ r
 unfolding encodePoint
 point-back r b l form ok =
     let k = both (okCoordinate (ofBits binary64 (field r 4 8))) _ ok in
@@ -76,4 +76,4 @@ point-back r b l form ok =
       part-join r 4 8 9,
       part-join r 0 4 17,
     )
-    (take-all 21 r (omega arith))
+    (take-all pointSize r (omega arith))

@@ -15,13 +15,13 @@ use Rattle.big_endian.specs.Laws.{Bytes, length-bytes, field-in, bytes-field, p
 use Rattle.sketch.specs.declared.Relation.{Relation}
 use Rattle.sketch.specs.declared.Relation.the-variants.{Coincident, PointOnCurve, Collinear, Equal, Length, Distance, Midpoint, ArcLength, ArcSweep}
 use Rattle.sketch.specs.Valid.{okRelation, okMeasure}
-use Rattle.image.specs.Records.{single, valued, relationFields, relationForm, relationBy, relationOf}
+use Rattle.image.specs.Records.{single, valued, relationFields, relationForm, relationBy, relationOf, relationSize}
 use Rattle.image.specs.Encode.{bits, relationByte, firstId, secondId, valueBits, encodeRelation}
 use Rattle.image.specs.Stored.{Id, StoredRelation}
 use Rattle.image.proofs.Floats.{bits-back, measure-rejects}
 use Rattle.image.proofs.Tables.{Spells, both}
 
-pub length-relation : (r : Relation) → length (encodeRelation r) ≡ 17
+pub length-relation : (r : Relation) → length (encodeRelation r) ≡ relationSize
 unfolding encodeRelation
 length-relation r = simp (length-append, length-bytes)
 
@@ -108,7 +108,7 @@ made (suc (suc (suc (suc (suc (suc (suc (suc zero)))))))) a b number v t ok m = 
 made (suc (suc (suc (suc (suc (suc (suc (suc (suc zero))))))))) a b number v t ok m = record { kind-is = refl; first-is = refl; second-is = sym (eqb-true b 0 (t .lone)); value-is = m ok }
 made (suc (suc (suc (suc (suc (suc (suc (suc (suc (suc k)))))))))) a b number v t ok m = absurd (omega (arith, t .high))
 
-pub relation-back : (r : List ℕ) → Bytes r → length r ≡ 17 → relationForm r ≡ true → okRelation (relationOf r) ≡ true → encodeRelation (relationOf r) ≡ r
+pub relation-back : (r : List ℕ) → Bytes r → length r ≡ relationSize → relationForm r ≡ true → okRelation (relationOf r) ≡ true → encodeRelation (relationOf r) ≡ r
 unfolding encodeRelation
 relation-back r b l form ok =
     let t = tests (field r 0 1) (field r 5 4) (field r 9 8) form in
@@ -126,4 +126,4 @@ relation-back r b l form ok =
       part-join r 1 4 12,
       part-join r 0 1 16,
     )
-    (take-all 17 r (omega arith))
+    (take-all relationSize r (omega arith))

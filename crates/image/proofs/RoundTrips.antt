@@ -14,10 +14,10 @@ use Rattle.sketch.specs.Lists.{every, concatMap, guardNumber}
 use Rattle.sketch.specs.Drawing.{Drawing, limits}
 use Rattle.sketch.specs.Valid.{okPoint, okCurve, okRelation, soundCurve, soundRelation, hasPoint, sortIn, tableFault, listFault, faultOf}
 use Rattle.sketch.proofs.Facts.{table-facts, list-facts}
-use Rattle.image.specs.Records.{pointForm, pointOf, curveForm, curveOf, relationForm, relationOf}
-use Rattle.image.specs.Image.{version, nextAt, pointCount, curveCount, relationCount, sizeOf, curvesFrom, relationsFrom, headFault, rowsAt, pointRows, curveRows, relationRows, drawingOf, rowId, recordsFault, imageFault, ParseResult, refused, accepted, resultOf, parse}
+use Rattle.image.specs.Records.{pointForm, pointOf, curveForm, curveOf, relationForm, relationOf, curveSize, pointSize, relationSize}
+use Rattle.image.specs.Image.{version, nextAt, pointCount, curveCount, relationCount, sizeOf, curvesFrom, relationsFrom, headFault, rowsAt, pointRows, curveRows, relationRows, drawingOf, rowId, recordsFault, imageFault, ParseResult, refused, accepted, resultOf, parse, headerSize}
 use Rattle.image.specs.Encode.{encodePoint, encodeCurve, encodeRelation, header, drawingSize, encode}
-use Rattle.image.specs.Stored.{Each, Stored, StoredPoint, StoredCurve, StoredRelation}
+use Rattle.image.specs.Stored.{Each, Stored, StoredPoint, StoredCurve, StoredRelation, Id}
 use Rattle.image.proofs.Tables.{length-rows, rows-join, rows-proper, spread-back, Sized, sized-all, length-spread, rows-spread, Spells, of-rows, table-there, list-there, both, every-true, table-whole, list-whole}
 use Rattle.image.proofs.Points.{length-point, point-there, point-back}
 use Rattle.image.proofs.Curves.{length-curve, curve-there, curve-back}
@@ -37,10 +37,10 @@ pub records-agree : (s : List ℕ) → every pointForm (pointRows s) ≡ true �
 unfolding guardNumber
 records-agree s p c r b h =
     let d = drawingOf s in
-    let np : length (d .points) ≡ pointCount s = length-map (pointRows s) pointOf ∙ length-rows 21 (pointCount s) s 15 in
-    let nc : length (d .curves) ≡ curveCount s = length-map (curveRows s) curveOf ∙ length-rows 47 (curveCount s) s (curvesFrom (pointCount s)) in
-    let nr : length (d .relations) ≡ relationCount s = length-map (relationRows s) relationOf ∙ length-rows 17 (relationCount s) s (relationsFrom (pointCount s) (curveCount s)) in
-    let nx : nextAt s < 2 ^ 32 = field-lt s 5 4 b in
+    let np : length (d .points) ≡ pointCount s = length-map (pointRows s) pointOf ∙ length-rows pointSize (pointCount s) s headerSize in
+    let nc : length (d .curves) ≡ curveCount s = length-map (curveRows s) curveOf ∙ length-rows curveSize (curveCount s) s (curvesFrom (pointCount s)) in
+    let nr : length (d .relations) ≡ relationCount s = length-map (relationRows s) relationOf ∙ length-rows relationSize (relationCount s) s (relationsFrom (pointCount s) (curveCount s)) in
+    let nx : Id (nextAt s) = field-lt s 5 4 b in
     let low = h .next-low in
     let t1 = table-whole pointOf pointForm pointForm (λ p. p .id) okPoint (λ p. true) (formed pointForm) (unformed pointForm okPoint pointOf) (λ r. refl) (d .next) 0
     (tableFault rowId (λ r. curveForm r && okCurve (curveOf r)) (λ r. soundCurve (hasPoint (d .points)) (curveOf r)) (d .next) 0 (curveRows s)
@@ -59,7 +59,7 @@ records-agree s p c r b h =
       le-leb (curveCount s) 128 (h .few-curves),
       le-leb (relationCount s) 256 (h .few-relations),
       le-leb 1 (nextAt s) low,
-      le-leb (nextAt s) 4294967295 (omega arith),
+      le-leb (nextAt s) (limits .ids) (omega arith),
     )
 
 -- ---- there
@@ -74,14 +74,14 @@ and-true false = refl
 
 module _ (s : List ℕ) (d : Drawing) (w : Stored d)
     (e : s ≡ header (d .next) (length (d .points)) (length (d .curves)) (length (d .relations)) ++ (concatMap encodePoint (d .points) ++ (concatMap encodeCurve (d .curves) ++ concatMap encodeRelation (d .relations)))) where
-  written-points : Sized encodePoint 21 (d .points)
-  written-points = sized-all encodePoint 21 length-point (d .points)
+  written-points : Sized encodePoint pointSize (d .points)
+  written-points = sized-all encodePoint pointSize length-point (d .points)
 
-  written-curves : Sized encodeCurve 47 (d .curves)
+  written-curves : Sized encodeCurve curveSize (d .curves)
   written-curves = each-map (λ c v. length-curve c (v .eight)) (d .curves) (w .curves-fit)
 
-  written-relations : Sized encodeRelation 17 (d .relations)
-  written-relations = sized-all encodeRelation 17 length-relation (d .relations)
+  written-relations : Sized encodeRelation relationSize (d .relations)
+  written-relations = sized-all encodeRelation relationSize length-relation (d .relations)
 
   fields : Fields s (d .next) (length (d .points)) (length (d .curves)) (length (d .relations))
   fields =
@@ -92,28 +92,28 @@ module _ (s : List ℕ) (d : Drawing) (w : Stored d)
   length-image =
       ap length e
       ∙ simp (length-append, length-header)
-      (rw (length-spread encodePoint 21 (d .points) written-points, length-spread encodeCurve 47 (d .curves) written-curves, length-spread encodeRelation 17 (d .relations) written-relations) (omega arith))
+      (rw (length-spread encodePoint pointSize (d .points) written-points, length-spread encodeCurve curveSize (d .curves) written-curves, length-spread encodeRelation relationSize (d .relations) written-relations) (omega arith))
 
   point-rows : pointRows s ≡ map encodePoint (d .points)
   point-rows =
       rw (fields .points-are)
-      (rows-spread encodePoint 21 (d .points) written-points s (header (d .next) (length (d .points)) (length (d .curves)) (length (d .relations)))
-      (concatMap encodeCurve (d .curves) ++ concatMap encodeRelation (d .relations)) 15 e (length-header _ _ _ _))
+      (rows-spread encodePoint pointSize (d .points) written-points s (header (d .next) (length (d .points)) (length (d .curves)) (length (d .relations)))
+      (concatMap encodeCurve (d .curves) ++ concatMap encodeRelation (d .relations)) headerSize e (length-header _ _ _ _))
 
   curve-rows : curveRows s ≡ map encodeCurve (d .curves)
   curve-rows =
       rw (fields .points-are, fields .curves-are)
-      (rows-spread encodeCurve 47 (d .curves) written-curves s (header (d .next) (length (d .points)) (length (d .curves)) (length (d .relations)) ++ concatMap encodePoint (d .points))
+      (rows-spread encodeCurve curveSize (d .curves) written-curves s (header (d .next) (length (d .points)) (length (d .curves)) (length (d .relations)) ++ concatMap encodePoint (d .points))
       (concatMap encodeRelation (d .relations)) (curvesFrom (length (d .points))) (e ∙ simp append-assoc)
-      (simp (length-append, length-header) (rw (length-spread encodePoint 21 (d .points) written-points))))
+      (simp (length-append, length-header) (rw (length-spread encodePoint pointSize (d .points) written-points))))
 
   relation-rows : relationRows s ≡ map encodeRelation (d .relations)
   relation-rows =
       rw (fields .points-are, fields .curves-are, fields .relations-are)
-      (rows-spread encodeRelation 17 (d .relations) written-relations s
+      (rows-spread encodeRelation relationSize (d .relations) written-relations s
       (header (d .next) (length (d .points)) (length (d .curves)) (length (d .relations)) ++ (concatMap encodePoint (d .points) ++ concatMap encodeCurve (d .curves)))
       [] (relationsFrom (length (d .points)) (length (d .curves))) (e ∙ simp (append-assoc, append-nil))
-      (simp (length-append, length-header) (rw (length-spread encodePoint 21 (d .points) written-points, length-spread encodeCurve 47 (d .curves) written-curves) (omega arith))))
+      (simp (length-append, length-header) (rw (length-spread encodePoint pointSize (d .points) written-points, length-spread encodeCurve curveSize (d .curves) written-curves) (omega arith))))
 
   points-again : map pointOf (pointRows s) ≡ d .points
   points-again = rw point-rows (of-rows encodePoint pointOf pointForm okPoint (λ p. true) (d .points) (each-map point-there (d .points) (w .points-fit)))
@@ -161,7 +161,7 @@ module _ (s : List ℕ) (d : Drawing) (w : Stored d)
         length-image,
         le-leb 5 size (omega arith),
         fields .version-is,
-        le-leb 15 size (omega arith),
+        le-leb headerSize size (omega arith),
         fields .told-is,
         eq-eqb (size - 4 + 4) size (omega arith),
         fields .points-are,
@@ -169,7 +169,7 @@ module _ (s : List ℕ) (d : Drawing) (w : Stored d)
         fields .relations-are,
         eq-eqb size size refl,
         fields .next-is,
-        le-leb (d .next) 4294967295 (omega (arith, w .next-fits)),
+        le-leb (d .next) (limits .ids) (omega (arith, w .next-fits)),
         and-true (leb (length (d .points)) 512 && leb (length (d .curves)) 128 && leb (length (d .relations)) 256),
         and-true (leb 1 (d .next)),
       )
@@ -219,16 +219,16 @@ encode-back s b w =
     let nc = curveCount s in
     let nr = relationCount s in
     let size = h .size in
-    let lp : length (map pointOf (pointRows s)) ≡ np = length-map (pointRows s) pointOf ∙ length-rows 21 np s 15 in
-    let lc : length (map curveOf (curveRows s)) ≡ nc = length-map (curveRows s) curveOf ∙ length-rows 47 nc s (curvesFrom np) in
-    let lr : length (map relationOf (relationRows s)) ≡ nr = length-map (relationRows s) relationOf ∙ length-rows 17 nr s (relationsFrom np nc) in
-    let p : concatMap encodePoint (map pointOf (pointRows s)) ≡ part s 15 (np * 21) =
-    spread-back encodePoint pointOf pointForm okPoint 21 point-back (pointRows s) (rows-proper 21 np s 15 b (omega arith)) (w .points-pass) ∙ rows-join 21 np s 15 in
-    let c : concatMap encodeCurve (map curveOf (curveRows s)) ≡ part s (curvesFrom np) (nc * 47) =
-    spread-back encodeCurve curveOf curveForm okCurve 47 curve-back (curveRows s) (rows-proper 47 nc s (curvesFrom np) b (omega arith)) (w .curves-pass) ∙ rows-join 47 nc s (curvesFrom np) in
-    let r : concatMap encodeRelation (map relationOf (relationRows s)) ≡ part s (relationsFrom np nc) (nr * 17) =
-    spread-back encodeRelation relationOf relationForm okRelation 17 relation-back (relationRows s) (rows-proper 17 nr s (relationsFrom np nc) b (omega arith)) (w .relations-pass)
-    ∙ rows-join 17 nr s (relationsFrom np nc) in
+    let lp : length (map pointOf (pointRows s)) ≡ np = length-map (pointRows s) pointOf ∙ length-rows pointSize np s headerSize in
+    let lc : length (map curveOf (curveRows s)) ≡ nc = length-map (curveRows s) curveOf ∙ length-rows curveSize nc s (curvesFrom np) in
+    let lr : length (map relationOf (relationRows s)) ≡ nr = length-map (relationRows s) relationOf ∙ length-rows relationSize nr s (relationsFrom np nc) in
+    let p : concatMap encodePoint (map pointOf (pointRows s)) ≡ part s headerSize (np * pointSize) =
+    spread-back encodePoint pointOf pointForm okPoint pointSize point-back (pointRows s) (rows-proper pointSize np s headerSize b (omega arith)) (w .points-pass) ∙ rows-join pointSize np s headerSize in
+    let c : concatMap encodeCurve (map curveOf (curveRows s)) ≡ part s (curvesFrom np) (nc * curveSize) =
+    spread-back encodeCurve curveOf curveForm okCurve curveSize curve-back (curveRows s) (rows-proper curveSize nc s (curvesFrom np) b (omega arith)) (w .curves-pass) ∙ rows-join curveSize nc s (curvesFrom np) in
+    let r : concatMap encodeRelation (map relationOf (relationRows s)) ≡ part s (relationsFrom np nc) (nr * relationSize) =
+    spread-back encodeRelation relationOf relationForm okRelation relationSize relation-back (relationRows s) (rows-proper relationSize nr s (relationsFrom np nc) b (omega arith)) (w .relations-pass)
+    ∙ rows-join relationSize nr s (relationsFrom np nc) in
     rw (
       lp,
       lc,
@@ -237,18 +237,18 @@ encode-back s b w =
       p,
       c,
       r,
-      part-join s (curvesFrom np) (nc * 47) (nr * 17),
-      part-join s 15 (np * 21) (nc * 47 + nr * 17),
-      part-join s 0 15 (np * 21 + (nc * 47 + nr * 17)),
+      part-join s (curvesFrom np) (nc * curveSize) (nr * relationSize),
+      part-join s 15 (np * pointSize) (nc * curveSize + nr * relationSize),
+      part-join s 0 15 (np * pointSize + (nc * curveSize + nr * relationSize)),
     )
-    (take-all (15 + (np * 21 + (nc * 47 + nr * 17))) s (omega arith))
+    (take-all (headerSize + (np * pointSize + (nc * curveSize + nr * relationSize))) s (omega arith))
 
 -- a drawing's image is as long as the bytes that it was read from
 pub size-back : (s : List ℕ) → Sound s → drawingSize (drawingOf s) ≡ length s
 size-back s w =
-    let lp = length-map (pointRows s) pointOf ∙ length-rows 21 (pointCount s) s 15 in
-    let lc = length-map (curveRows s) curveOf ∙ length-rows 47 (curveCount s) s (curvesFrom (pointCount s)) in
-    let lr = length-map (relationRows s) relationOf ∙ length-rows 17 (relationCount s) s (relationsFrom (pointCount s) (curveCount s)) in
+    let lp = length-map (pointRows s) pointOf ∙ length-rows pointSize (pointCount s) s headerSize in
+    let lc = length-map (curveRows s) curveOf ∙ length-rows curveSize (curveCount s) s (curvesFrom (pointCount s)) in
+    let lr = length-map (relationRows s) relationOf ∙ length-rows relationSize (relationCount s) s (relationsFrom (pointCount s) (curveCount s)) in
     rw (lp, lc, lr) (w .head .size)
 
 -- an accepted image, written again, is the same bytes

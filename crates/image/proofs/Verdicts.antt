@@ -12,8 +12,8 @@ use Rattle.sketch.specs.Columns.{sortsOf}
 use Rattle.sketch.specs.Valid.{soundCurve, hasPoint, tableFault, listFault}
 use Rattle.sketch.proofs.Facts.{table-first, table-later, table-ascends, sort-among}
 use Rattle.image.specs.declared.ImageRead.{ImageRead}
-use Rattle.image.specs.Records.{pointOf, curveOf, relationOf}
-use Rattle.image.specs.Image.{nextAt, pointCount, curveCount, headFault, pointRows, curveRows, relationRows, drawingOf, rowId, recordsFault, imageFault, resultOf, parse}
+use Rattle.image.specs.Records.{pointOf, curveOf, relationOf, curveSize, pointSize}
+use Rattle.image.specs.Image.{nextAt, pointCount, curveCount, headFault, pointRows, curveRows, relationRows, drawingOf, rowId, recordsFault, imageFault, resultOf, parse, headerSize}
 use Rattle.image.specs.Decode.{outcome}
 use Rattle.image.specs.Contracts.{goodPoint, goodCurve, goodRelation, rowSort, PointsTested, CurvesTested, SortsFilled, relationsTested, relationsAfter, shapesAfter}
 use Rattle.image.proofs.Tables.{length-rows}
@@ -66,7 +66,7 @@ module _ (s : List ℕ) (z : headFault s 0 ≡ 0) {before ids : List ℕ} {p : �
   past-points e f = f ∙ sym (header-kept ∙ table-later rowId goodPoint sure (nextAt s) 0 (pointRows s) (shapesAfter s) (sym (t .number) ∙ e))
 
   pub points-listed : p ≡ 0 → take (pointCount s) ids ≡ map rowId (pointRows s)
-  points-listed e = ap (λ (n : ℕ). take n ids) (sym (length-rows 21 (pointCount s) s 15)) ∙ t .column e
+  points-listed e = ap (λ (n : ℕ). take n ids) (sym (length-rows pointSize (pointCount s) s headerSize)) ∙ t .column e
 
   pub points-rise : p ≡ 0 → Ascends (take (pointCount s) ids)
   points-rise e = table-ascends rowId goodPoint sure (nextAt s) 0 (pointRows s) (take (pointCount s) ids) (sym (t .number) ∙ e) (points-listed e)
@@ -88,10 +88,10 @@ module _ (s : List ℕ) {points : List ℕ} (g : points ≡ map rowId (pointRows
   by-curve h = sym (table-first rowId goodCurve (sound (pointIds (drawingOf s .points))) (nextAt s) 0 (curveRows s) (relationsAfter s) c curves-number h)
 
   pub curves-listed : c ≡ 0 → take (curveCount s) ids ≡ map rowId (curveRows s)
-  curves-listed e = ap (λ (n : ℕ). take n ids) (sym (length-rows 47 (curveCount s) s _)) ∙ t .column e
+  curves-listed e = ap (λ (n : ℕ). take n ids) (sym (length-rows curveSize (curveCount s) s _)) ∙ t .column e
 
   pub sorts-listed : c ≡ 0 → take (curveCount s) sorts ≡ map rowSort (curveRows s)
-  sorts-listed e = ap (λ (n : ℕ). take n sorts) (sym (length-rows 47 (curveCount s) s _)) ∙ u .beside e
+  sorts-listed e = ap (λ (n : ℕ). take n sorts) (sym (length-rows curveSize (curveCount s) s _)) ∙ u .beside e
 
   pub curves-rise : c ≡ 0 → Ascends (take (curveCount s) ids)
   curves-rise e = table-ascends rowId goodCurve (sound (pointIds (drawingOf s .points))) (nextAt s) 0 (curveRows s) (take (curveCount s) ids) (sym curves-number ∙ e) (curves-listed e)

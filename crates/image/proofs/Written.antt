@@ -21,8 +21,9 @@ use Rattle.sketch.specs.Valid.{okPoint, okCurve, okRelation, sketchFault}
 use Rattle.sketch.specs.Facts.{Sized, Valid}
 use Rattle.sketch.specs.declared.Sketch.{Sketch}
 use Rattle.sketch.proofs.Sketches.{sketch-valid}
-use Rattle.image.specs.Image.{sizeOf}
+use Rattle.image.specs.Image.{sizeOf, headerSize}
 use Rattle.image.specs.Encode.{encodePoint, encodeCurve, encodeRelation, header, encode, drawingSize, writeFault, ImageWritten}
+use Rattle.image.specs.Records.{curveSize, pointSize, relationSize}
 
 -- a sketch without a fault: its counts, and the values that become bits
 pub record Ready (sk : Sketch) : Type 0 where
@@ -72,10 +73,10 @@ module _ (sk : Sketch) (before : List ℕ) {r : ℕ} (e : r ≡ sketchFault sk) 
 
     -- the image, part by part
     pub wrote : {b1 b2 b3 b4 : List ℕ} → sizeOf (sk .npoints) (sk .ncurves) (sk .nrelations) ≤ length before → b1 ≡ over before 0 (header (sk .next) (sk .npoints) (sk .ncurves) (sk .nrelations))
-        → b2 ≡ over b1 15 (concatMap encodePoint (take (sk .npoints) (sk .points)))
-        → b3 ≡ over b2 (15 + sk .npoints * 21) (concatMap encodeCurve (take (sk .ncurves) (sk .curves)))
-        → length (concatMap encodeCurve (take (sk .ncurves) (sk .curves))) ≡ sk .ncurves * 47
-        → b4 ≡ over b3 (15 + sk .npoints * 21 + sk .ncurves * 47) (concatMap encodeRelation (map (λ r. r .relation) (take (sk .nrelations) (sk .relations))))
+        → b2 ≡ over b1 headerSize (concatMap encodePoint (take (sk .npoints) (sk .points)))
+        → b3 ≡ over b2 (headerSize + sk .npoints * pointSize) (concatMap encodeCurve (take (sk .ncurves) (sk .curves)))
+        → length (concatMap encodeCurve (take (sk .ncurves) (sk .curves))) ≡ sk .ncurves * curveSize
+        → b4 ≡ over b3 (headerSize + sk .npoints * pointSize + sk .ncurves * curveSize) (concatMap encodeRelation (map (λ r. r .relation) (take (sk .nrelations) (sk .relations))))
         → ImageWritten sk before b4 0
     unfolding guardNumber encode
     wrote {b1} {b2} {b3} {b4} h e1 e2 e3 n3 e4 =
@@ -88,12 +89,12 @@ module _ (sk : Sketch) (before : List ℕ) {r : ℕ} (e : r ≡ sketchFault sk) 
         let lp : length ps ≡ np = length-take-le np (sk .points) (omega (arith, w .few-points)) in
         let lc : length (take nc (sk .curves)) ≡ nc = length-take-le nc (sk .curves) (omega (arith, w .few-curves)) in
         let lr : length rs ≡ nr = length-map (take nr (sk .relations)) (λ r. r .relation) ∙ length-take-le nr (sk .relations) (omega (arith, w .few-relations)) in
-        let n2 : length (concatMap encodePoint ps) ≡ np * 21 = length-spread encodePoint 21 ps (sized-all encodePoint 21 length-point ps) ∙ rw lp in
-        let n4 : length (concatMap encodeRelation rs) ≡ nr * 17 = length-spread encodeRelation 17 rs (sized-all encodeRelation 17 length-relation rs) ∙ rw lr in
-        let r1 : Run before 0 15 (header (sk .next) np nc nr) b1 = record { is = e1; long = length-header (sk .next) np nc nr } in
-        let r2 = run-over before 0 15 (np * 21) (header (sk .next) np nc nr) (concatMap encodePoint ps) b1 b2 (omega arith) n2 r1 e2 in
-        let r3 = run-over before 0 (15 + np * 21) (nc * 47) (header (sk .next) np nc nr ++ concatMap encodePoint ps) (concatMap encodeCurve (take nc (sk .curves))) b2 b3 (omega arith) n3 r2 (rw zero-add e3) in
-        let r4 = run-over before 0 (15 + np * 21 + nc * 47) (nr * 17) ((header (sk .next) np nc nr ++ concatMap encodePoint ps) ++ concatMap encodeCurve (take nc (sk .curves))) (concatMap encodeRelation rs) b3 b4 (omega arith) n4 r3 (rw zero-add e4) in
+        let n2 : length (concatMap encodePoint ps) ≡ np * pointSize = length-spread encodePoint pointSize ps (sized-all encodePoint pointSize length-point ps) ∙ rw lp in
+        let n4 : length (concatMap encodeRelation rs) ≡ nr * relationSize = length-spread encodeRelation relationSize rs (sized-all encodeRelation relationSize length-relation rs) ∙ rw lr in
+        let r1 : Run before 0 headerSize (header (sk .next) np nc nr) b1 = record { is = e1; long = length-header (sk .next) np nc nr } in
+        let r2 = run-over before 0 headerSize (np * pointSize) (header (sk .next) np nc nr) (concatMap encodePoint ps) b1 b2 (omega arith) n2 r1 e2 in
+        let r3 = run-over before 0 (headerSize + np * pointSize) (nc * curveSize) (header (sk .next) np nc nr ++ concatMap encodePoint ps) (concatMap encodeCurve (take nc (sk .curves))) b2 b3 (omega arith) n3 r2 (rw zero-add e3) in
+        let r4 = run-over before 0 (headerSize + np * pointSize + nc * curveSize) (nr * relationSize) ((header (sk .next) np nc nr ++ concatMap encodePoint ps) ++ concatMap encodeCurve (take nc (sk .curves))) (concatMap encodeRelation rs) b3 b4 (omega arith) n4 r3 (rw zero-add e4) in
         let t : eqb (sketchFault sk) 0 ≡ true = eq-eqb (sketchFault sk) 0 (sym e ∙ z) in
         let u : leb (drawingSize (view sk)) (length before) ≡ true = le-leb (drawingSize (view sk)) (length before) (rw size h) in
         record { number = rw (t, u); buffer = rw (t, u) (r4 .is ∙ rw (lp, lc, lr) (simp append-assoc)) }

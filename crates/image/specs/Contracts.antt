@@ -9,7 +9,7 @@ use Rattle.big_endian.specs.Fields.{field}
 use Rattle.sketch.specs.Lists.{ite, every}
 use Rattle.sketch.specs.Lookup.{among, sortAmong}
 use Rattle.sketch.specs.Valid.{okPoint, okCurve, okRelation, okNumber, inSlots, isLineSort, soundCurve, soundRelation, hasPoint, sortIn, sortOf, tableFault, listFault}
-use Rattle.image.specs.Records.{floatAt, slotsOf, noSlots, kindOf, pointForm, pointOf, curveFields, curveForm, curveOf, relationForm, relationOf}
+use Rattle.image.specs.Records.{curveFlagsAt, degreeAt, curveNumberAt, floatAt, slotsOf, noSlots, kindOf, pointForm, pointOf, curveFields, curveForm, curveOf, relationForm, relationOf}
 use Rattle.image.specs.Image.{rowId, curveRows, relationRows, drawingOf}
 
 -- records that spell something whose values are in range
@@ -22,9 +22,9 @@ goodCurve r = curveForm r && okCurve (curveOf r)
 -- the same of a curve whose kind's byte is k
 abbrev pub goodAs : ℕ → List ℕ → Bool
 goodAs k r =
-    let kind = kindOf k (field r 6 1) (slotsOf r) (floatAt r 39) in
-    curveFields k (field r 5 1) (field r 6 1) (slotsOf r) (field r 39 8)
-    && ((not (eqb (field r 5 1 / 4 % 2) 1) || isLineSort (sortOf kind)) && okNumber kind && every (λ i. eqb i 0) (drop (inSlots kind) (ite (eqb k 4) (slotsOf r) noSlots)))
+    let kind = kindOf k (field r degreeAt 1) (slotsOf r) (floatAt r curveNumberAt) in
+    curveFields k (field r curveFlagsAt 1) (field r degreeAt 1) (slotsOf r) (field r curveNumberAt 8)
+    && ((not (eqb (field r curveFlagsAt 1 / 4 % 2) 1) || isLineSort (sortOf kind)) && okNumber kind && every (λ i. eqb i 0) (drop (inSlots kind) (ite (eqb k 4) (slotsOf r) noSlots)))
 
 abbrev pub goodRelation : List ℕ → Bool
 goodRelation r = relationForm r && okRelation (relationOf r)

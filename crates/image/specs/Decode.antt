@@ -8,7 +8,7 @@ use Rattle.big_endian.specs.Fields.{field}
 use Rattle.sketch.specs.Drawing.{view}
 use Rattle.sketch.specs.Valid.{sketchFault}
 use Rattle.image.specs.declared.ImageRead.{ImageRead}
-use Rattle.image.specs.Records.{pointForm, curveForm, relationForm}
+use Rattle.image.specs.Records.{pointXAt, pointYAt, curveNumberAt, valueAt, pointForm, curveForm, relationForm}
 use Rattle.image.specs.Image.{ParseResult, resultOf, parse}
 
 -- eight bytes that are no NaN's
@@ -17,13 +17,13 @@ numberAt r at = not (nanBits binary64 (field r at 8))
 
 -- records whose floats are numbers: only these are made into values; the others are out of range in any case
 abbrev pub plainPoint : List ℕ → Bool
-plainPoint r = pointForm r && numberAt r 4 && numberAt r 12
+plainPoint r = pointForm r && numberAt r pointXAt && numberAt r pointYAt
 
 abbrev pub plainCurve : List ℕ → Bool
-plainCurve r = curveForm r && numberAt r 39
+plainCurve r = curveForm r && numberAt r curveNumberAt
 
 abbrev pub plainRelation : List ℕ → Bool
-plainRelation r = relationForm r && numberAt r 9
+plainRelation r = relationForm r && numberAt r valueAt
 
 -- what the reader's answer stands for
 abbrev pub outcome : ImageRead → ParseResult

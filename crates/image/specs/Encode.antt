@@ -17,6 +17,7 @@ use Rattle.sketch.specs.declared.CurveKind.{CurveKind}
 use Rattle.sketch.specs.declared.CurveKind.the-variants.{Line, Arc, Circle, Bezier, Conic}
 use Rattle.sketch.specs.declared.Relation.{Relation}
 use Rattle.sketch.specs.declared.Relation.the-variants.{Coincident, PointOnCurve, Collinear, Equal, Length, Distance, Midpoint, ArcLength, ArcSweep}
+use Rattle.image.specs.Records.{idSize}
 use Rattle.image.specs.Image.{version, sizeOf}
 
 abbrev pub bits : Float → ℕ
@@ -30,7 +31,7 @@ bit false = 0
 -- ---- a point
 
 unfoldable pub encodePoint : Point → List ℕ
-encodePoint p = bytes 4 (p .id) ++ (bytes 8 (bits (p .x)) ++ (bytes 8 (bits (p .y)) ++ bytes 1 (bit (p .fixed))))
+encodePoint p = bytes idSize (p .id) ++ (bytes 8 (bits (p .x)) ++ (bytes 8 (bits (p .y)) ++ bytes 1 (bit (p .fixed))))
 
 -- ---- a curve: the byte of its kind, its degree, its slots, its number
 
@@ -68,8 +69,8 @@ flagByte c = bit (c .construction) + 2 * bit (c .centerline) + 4 * bit (c .infin
 
 unfoldable pub encodeCurve : Curve → List ℕ
 encodeCurve c =
-    bytes 4 (c .id) ++ (bytes 1 (kindByte (c .kind)) ++ (bytes 1 (flagByte c) ++ (bytes 1 (degreeOf (c .kind))
-    ++ (concatMap (bytes 4) (slotIds (c .kind) (c .slots)) ++ bytes 8 (numberBits (c .kind))))))
+    bytes idSize (c .id) ++ (bytes 1 (kindByte (c .kind)) ++ (bytes 1 (flagByte c) ++ (bytes 1 (degreeOf (c .kind))
+    ++ (concatMap (bytes idSize) (slotIds (c .kind) (c .slots)) ++ bytes 8 (numberBits (c .kind))))))
 
 -- ---- a relation: the byte of its kind, its ids, the second 0 where there is none, its value or zero bits
 
@@ -118,7 +119,7 @@ valueBits (ArcLength c v) = bits v
 valueBits (ArcSweep c v) = bits v
 
 unfoldable pub encodeRelation : Relation → List ℕ
-encodeRelation r = bytes 1 (relationByte r) ++ (bytes 4 (firstId r) ++ (bytes 4 (secondId r) ++ bytes 8 (valueBits r)))
+encodeRelation r = bytes 1 (relationByte r) ++ (bytes idSize (firstId r) ++ (bytes idSize (secondId r) ++ bytes 8 (valueBits r)))
 
 -- ---- the image
 
@@ -126,7 +127,7 @@ abbrev pub drawingSize : Drawing → ℕ
 drawingSize d = sizeOf (length (d .points)) (length (d .curves)) (length (d .relations))
 
 unfoldable pub header : ℕ → ℕ → ℕ → ℕ → List ℕ
-header next np nc nr = bytes 4 (sizeOf np nc nr - 4) ++ (bytes 1 version ++ (bytes 4 next ++ (bytes 2 np ++ (bytes 2 nc ++ bytes 2 nr))))
+header next np nc nr = bytes 4 (sizeOf np nc nr - 4) ++ (bytes 1 version ++ (bytes idSize next ++ (bytes 2 np ++ (bytes 2 nc ++ bytes 2 nr))))
 
 unfoldable pub encode : Drawing → List ℕ
 encode d =

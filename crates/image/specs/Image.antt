@@ -8,41 +8,56 @@ use Rattle.big_endian.specs.Fields.{field, part}
 use Rattle.sketch.specs.Lists.{ite, guardNumber}
 use Rattle.sketch.specs.Drawing.{Drawing, limits}
 use Rattle.sketch.specs.Valid.{okPoint, okCurve, okRelation, soundCurve, soundRelation, hasPoint, sortIn, tableFault, listFault}
-use Rattle.image.specs.Records.{pointForm, pointOf, curveForm, curveOf, relationForm, relationOf}
+use Rattle.image.specs.Records.{idSize, pointSize, curveSize, relationSize, pointForm, pointOf, curveForm, curveOf, relationForm, relationOf}
 
 abbrev pub version : ℕ
 version = 1
 
--- ---- the header, 15 bytes: length of all that follows 4, version, next id 4, counts of points, curves, relations 2 each
+-- ---- the header: length of all that follows 4, version, next id, counts of points, curves, relations 2 each
+
+abbrev pub nextIdAt : ℕ
+nextIdAt = 5
+
+abbrev pub pointCountAt : ℕ
+pointCountAt = nextIdAt + idSize
+
+abbrev pub curveCountAt : ℕ
+curveCountAt = pointCountAt + 2
+
+abbrev pub relationCountAt : ℕ
+relationCountAt = curveCountAt + 2
+
+abbrev pub headerSize : ℕ
+headerSize = relationCountAt + 2
 
 abbrev pub nextAt : List ℕ → ℕ
-nextAt s = field s 5 4
+nextAt s = field s nextIdAt idSize
 
 abbrev pub pointCount : List ℕ → ℕ
-pointCount s = field s 9 2
+pointCount s = field s pointCountAt 2
 
 abbrev pub curveCount : List ℕ → ℕ
-curveCount s = field s 11 2
+curveCount s = field s curveCountAt 2
 
 abbrev pub relationCount : List ℕ → ℕ
-relationCount s = field s 13 2
+relationCount s = field s relationCountAt 2
 
 -- where each table starts, and how long an image is, by its counts
 abbrev pub curvesFrom : ℕ → ℕ
-curvesFrom np = 15 + np * 21
+curvesFrom np = headerSize + np * pointSize
 
 abbrev pub relationsFrom : ℕ → ℕ → ℕ
-relationsFrom np nc = curvesFrom np + nc * 47
+relationsFrom np nc = curvesFrom np + nc * curveSize
 
 abbrev pub sizeOf : ℕ → ℕ → ℕ → ℕ
-sizeOf np nc nr = relationsFrom np nc + nr * 17
+sizeOf np nc nr = relationsFrom np nc + nr * relationSize
 
 -- too short for a version, the version, the rest of the length, the counts, the next id; then what the records give
 unfoldable pub headFault : List ℕ → ℕ → ℕ
 headFault s rest =
     guardNumber (leb 5 (length s)) 1
     (guardNumber (eqb (field s 4 1) version) 2
-    (guardNumber (leb 15 (length s) && eqb (field s 0 4 + 4) (length s)) 1
+    (guardNumber (leb headerSize (length s) && eqb (field s 0 4 + 4) (length s)) 1
     (guardNumber (leb (pointCount s) (limits .points) && leb (curveCount s) (limits .curves) && leb (relationCount s) (limits .relations)
     && eqb (sizeOf (pointCount s) (curveCount s) (relationCount s)) (length s)) 3
     (guardNumber (leb 1 (nextAt s)) 4 rest))))
@@ -55,13 +70,13 @@ rowsAt size zero s at = []
 rowsAt size (suc n) s at = part s at size ∷ rowsAt size n s (at + size)
 
 abbrev pub pointRows : List ℕ → List (List ℕ)
-pointRows s = rowsAt 21 (pointCount s) s 15
+pointRows s = rowsAt pointSize (pointCount s) s headerSize
 
 abbrev pub curveRows : List ℕ → List (List ℕ)
-curveRows s = rowsAt 47 (curveCount s) s (curvesFrom (pointCount s))
+curveRows s = rowsAt curveSize (curveCount s) s (curvesFrom (pointCount s))
 
 abbrev pub relationRows : List ℕ → List (List ℕ)
-relationRows s = rowsAt 17 (relationCount s) s (relationsFrom (pointCount s) (curveCount s))
+relationRows s = rowsAt relationSize (relationCount s) s (relationsFrom (pointCount s) (curveCount s))
 
 -- what the bytes spell
 abbrev pub drawingOf : List ℕ → Drawing
@@ -74,7 +89,7 @@ drawingOf s =
     }
 
 abbrev pub rowId : List ℕ → ℕ
-rowId r = field r 0 4
+rowId r = field r 0 idSize
 
 -- the records in order: of each first that it spells something and its values, then its id and its references
 abbrev pub recordsFault : List ℕ → ℕ

@@ -1,5 +1,5 @@
--- Edit messages, 30 bytes: length 26 in 4, version, edit number 4, operation, curve id 4, pick x and y 8 each.
-use Prim.Native.Nat.{ℕ, zero, suc}
+-- Edit messages: length of all that follows 4, version, edit number, operation, curve id, pick x and y 8 each.
+use Prim.Native.Nat.{ℕ, zero, suc, _+_, _-_}
 use mathlib.Core.Path.{_≡_}
 use mathlib.Core.Bool.{Bool, true, false, _&&_}
 use mathlib.Core.List.{List, _++_}
@@ -7,6 +7,7 @@ use lib.ListN.{length}
 use lib.Dec.{leb, eqb}
 use Rattle.big_endian.specs.Fields.{field, bytes, over}
 use Rattle.sketch.specs.Lists.{ite, guardNumber}
+use Rattle.image.specs.Records.{idSize}
 use Rattle.image.specs.declared.Operation.{Operation}
 use Rattle.image.specs.declared.Operation.the-variants.{Trim, Split, Extend}
 use Rattle.image.specs.declared.Message.{Message}
@@ -16,13 +17,40 @@ use Rattle.image.specs.declared.MessageRead.the-variants.{Accepted, Refu
 abbrev pub version : ℕ
 version = 1
 
+-- how many bytes an edit number has
+abbrev pub editNumberSize : ℕ
+editNumberSize = 4
+
+-- where its fields stand, and how many bytes a message has
+abbrev pub editNumberAt : ℕ
+editNumberAt = 5
+
+abbrev pub operationAt : ℕ
+operationAt = editNumberAt + editNumberSize
+
+abbrev pub curveAt : ℕ
+curveAt = operationAt + 1
+
+abbrev pub xAt : ℕ
+xAt = curveAt + idSize
+
+abbrev pub yAt : ℕ
+yAt = xAt + 8
+
+abbrev pub messageSize : ℕ
+messageSize = yAt + 8
+
+-- what a message's length field holds: the bytes behind it
+abbrev pub messageLength : ℕ
+messageLength = messageSize - 4
+
 -- too short for a version, the version, the rest of the length, then an edit number from 1 and a known operation
 unfoldable pub messageFault : List ℕ → ℕ
 messageFault s =
     guardNumber (leb 5 (length s)) 1
     (guardNumber (eqb (field s 4 1) version) 2
-    (guardNumber (eqb (length s) 30 && eqb (field s 0 4) 26) 1
-    (guardNumber (leb 1 (field s 5 4) && leb 1 (field s 9 1) && leb (field s 9 1) 3) 6 0)))
+    (guardNumber (eqb (length s) messageSize && eqb (field s 0 4) messageLength) 1
+    (guardNumber (leb 1 (field s editNumberAt editNumberSize) && leb 1 (field s operationAt 1) && leb (field s operationAt 1) 3) 6 0)))
 
 -- the operation by its byte
 unfoldable pub operationOf : ℕ → Operation
@@ -35,7 +63,7 @@ operationByte Extend = 3
 
 -- the pick stays bits: a NaN's are carried on
 abbrev pub messageOf : List ℕ → Message
-messageOf s = record { number = field s 5 4; operation = operationOf (field s 9 1); curve = field s 10 4; x = field s 14 8; y = field s 22 8 }
+messageOf s = record { number = field s editNumberAt editNumberSize; operation = operationOf (field s operationAt 1); curve = field s curveAt idSize; x = field s xAt 8; y = field s yAt 8 }
 
 unfoldable pub resultOf : ℕ → Message → MessageRead
 resultOf zero m = Accepted m
@@ -46,12 +74,12 @@ parse s = resultOf (messageFault s) (messageOf s)
 
 unfoldable pub encode : Message → List ℕ
 encode m =
-    bytes 4 26 ++ (bytes 1 version ++ (bytes 4 (m .number) ++ (bytes 1 (operationByte (m .operation)) ++ (bytes 4 (m .curve)
+    bytes 4 messageLength ++ (bytes 1 version ++ (bytes editNumberSize (m .number) ++ (bytes 1 (operationByte (m .operation)) ++ (bytes idSize (m .curve)
     ++ (bytes 8 (m .x) ++ bytes 8 (m .y))))))
 
 -- a write: a message that no bytes give, its number being 0, is refused as its bytes would be, then a buffer that is too short by 25
 abbrev pub writeFault : Message → ℕ → ℕ
-writeFault m room = guardNumber (leb 1 (m .number)) 6 (guardNumber (leb 30 room) 25 0)
+writeFault m room = guardNumber (leb 1 (m .number)) 6 (guardNumber (leb messageSize room) 25 0)
 
 pub record MessageWritten (m : Message) (before later : List ℕ) (r : ℕ) : Type 0 where
   pub number : r ≡ writeFault m (length before)

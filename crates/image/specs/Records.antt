@@ -1,5 +1,5 @@
 -- The records of an image: what the bytes of each spell, and which bytes spell nothing.
-use Prim.Native.Nat.{ℕ, zero, suc, _+_, _/_, _%_}
+use Prim.Native.Nat.{ℕ, zero, suc, _+_, _*_, _/_, _%_}
 use mathlib.Core.Bool.{Bool, true, false, not, _&&_, _||_}
 use mathlib.Core.List.{List, [], _∷_}
 use lib.ListN.{getD, drop}
@@ -14,28 +14,62 @@ use Rattle.sketch.specs.declared.CurveKind.the-variants.{Line, Arc, Circle, Bez
 use Rattle.sketch.specs.declared.Relation.{Relation}
 use Rattle.sketch.specs.declared.Relation.the-variants.{Coincident, PointOnCurve, Collinear, Equal, Length, Distance, Midpoint, ArcLength, ArcSweep}
 
+-- how many bytes an id has
+abbrev pub idSize : ℕ
+idSize = 4
+
 -- the number that eight bytes spell as binary64
 abbrev pub floatAt : List ℕ → ℕ → Float
 floatAt r at = ofBits binary64 (field r at 8)
 
--- ---- a point, 21 bytes: id 4, x 8, y 8, flags
+-- ---- a point: id, x 8, y 8, flags
+
+abbrev pub pointXAt : ℕ
+pointXAt = idSize
+
+abbrev pub pointYAt : ℕ
+pointYAt = pointXAt + 8
+
+abbrev pub pointFlagsAt : ℕ
+pointFlagsAt = pointYAt + 8
+
+abbrev pub pointSize : ℕ
+pointSize = pointFlagsAt + 1
 
 -- bit 0 is the only flag
 abbrev pub pointForm : List ℕ → Bool
-pointForm r = leb (field r 20 1) 1
+pointForm r = leb (field r pointFlagsAt 1) 1
 
 abbrev pub pointOf : List ℕ → Point
-pointOf r = record { id = field r 0 4; fixed = eqb (field r 20 1) 1; x = floatAt r 4; y = floatAt r 12 }
+pointOf r = record { id = field r 0 idSize; fixed = eqb (field r pointFlagsAt 1) 1; x = floatAt r pointXAt; y = floatAt r pointYAt }
 
--- ---- a curve, 47 bytes: id 4, kind, flags, degree, eight slots of 4, number 8
+-- ---- a curve: id, kind, flags, degree, eight slots for ids, number 8
 
--- n ids of four bytes each
+abbrev pub curveKindAt : ℕ
+curveKindAt = idSize
+
+abbrev pub curveFlagsAt : ℕ
+curveFlagsAt = curveKindAt + 1
+
+abbrev pub degreeAt : ℕ
+degreeAt = curveFlagsAt + 1
+
+abbrev pub slotsAt : ℕ
+slotsAt = degreeAt + 1
+
+abbrev pub curveNumberAt : ℕ
+curveNumberAt = slotsAt + 8 * idSize
+
+abbrev pub curveSize : ℕ
+curveSize = curveNumberAt + 8
+
+-- n ids, one behind the other
 unfoldable pub idsAt : List ℕ → ℕ → ℕ → List ℕ
 idsAt r at zero = []
-idsAt r at (suc n) = field r at 4 ∷ idsAt r (at + 4) n
+idsAt r at (suc n) = field r at idSize ∷ idsAt r (at + idSize) n
 
 abbrev pub slotsOf : List ℕ → List ℕ
-slotsOf r = idsAt r 7 8
+slotsOf r = idsAt r slotsAt 8
 
 -- how many slots a kind uses: a line 2, an arc 3, a circle 1, a Bézier curve one more than its degree, a conic 3
 unfoldable pub usedSlots : ℕ → ℕ → ℕ
@@ -48,7 +82,7 @@ curveFields kind flags degree slots number =
     && every (λ i. eqb i 0) (drop (usedSlots kind degree) slots)
 
 abbrev pub curveForm : List ℕ → Bool
-curveForm r = curveFields (field r 4 1) (field r 5 1) (field r 6 1) (slotsOf r) (field r 39 8)
+curveForm r = curveFields (field r curveKindAt 1) (field r curveFlagsAt 1) (field r degreeAt 1) (slotsOf r) (field r curveNumberAt 8)
 
 -- the kind by its byte
 unfoldable pub kindOf : ℕ → ℕ → List ℕ → Float → CurveKind
@@ -66,15 +100,27 @@ noSlots = 0 ∷ 0 ∷ 0 ∷ 0 ∷ 0 ∷ 0 ∷ 0 ∷ 0 ∷ []
 abbrev pub curveOf : List ℕ → Curve
 curveOf r =
     record {
-      id = field r 0 4;
-      construction = eqb (field r 5 1 % 2) 1;
-      centerline = eqb (field r 5 1 / 2 % 2) 1;
-      infinite = eqb (field r 5 1 / 4 % 2) 1;
-      kind = kindOf (field r 4 1) (field r 6 1) (slotsOf r) (floatAt r 39);
-      slots = ite (eqb (field r 4 1) 4) (slotsOf r) noSlots;
+      id = field r 0 idSize;
+      construction = eqb (field r curveFlagsAt 1 % 2) 1;
+      centerline = eqb (field r curveFlagsAt 1 / 2 % 2) 1;
+      infinite = eqb (field r curveFlagsAt 1 / 4 % 2) 1;
+      kind = kindOf (field r curveKindAt 1) (field r degreeAt 1) (slotsOf r) (floatAt r curveNumberAt);
+      slots = ite (eqb (field r curveKindAt 1) 4) (slotsOf r) noSlots;
     }
 
--- ---- a relation, 17 bytes: kind, two ids of 4, value 8
+-- ---- a relation: kind, two ids, value 8
+
+abbrev pub firstIdAt : ℕ
+firstIdAt = 1
+
+abbrev pub secondIdAt : ℕ
+secondIdAt = firstIdAt + idSize
+
+abbrev pub valueAt : ℕ
+valueAt = secondIdAt + idSize
+
+abbrev pub relationSize : ℕ
+relationSize = valueAt + 8
 
 -- kinds with one id: Length, ArcLength, ArcSweep
 abbrev pub single : ℕ → Bool
@@ -89,7 +135,7 @@ unfoldable pub relationFields : ℕ → ℕ → ℕ → Bool
 relationFields kind second value = leb 1 kind && leb kind 9 && (not (single kind) || eqb second 0) && (valued kind || eqb value 0)
 
 abbrev pub relationForm : List ℕ → Bool
-relationForm r = relationFields (field r 0 1) (field r 5 4) (field r 9 8)
+relationForm r = relationFields (field r 0 1) (field r secondIdAt idSize) (field r valueAt 8)
 
 -- the relation by its kind's byte
 unfoldable pub relationBy : ℕ → ℕ → ℕ → Float → Relation
@@ -105,4 +151,4 @@ relationBy kind a b v =
     (ArcSweep a v))))))))
 
 abbrev pub relationOf : List ℕ → Relation
-relationOf r = relationBy (field r 0 1) (field r 1 4) (field r 5 4) (floatAt r 9)
+relationOf r = relationBy (field r 0 1) (field r firstIdAt idSize) (field r secondIdAt idSize) (floatAt r valueAt)

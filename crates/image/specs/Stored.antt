@@ -1,4 +1,4 @@
--- Values that a sketch's own types can hold: ids of four bytes, binary64 floats, a degree of one byte, eight slots.
+-- Values that the types of a sketch and a message can hold: ids, edit numbers, binary64 floats, a degree of one byte, eight slots.
 use Prim.Native.Nat.{ℕ, _^_, _<_}
 use mathlib.Core.Path.{_≡_}
 use mathlib.Core.List.{List, [], _∷_}
@@ -14,14 +14,18 @@ use Rattle.sketch.specs.declared.CurveKind.the-variants.{Line, Arc, Circle, Bez
 use Rattle.sketch.specs.declared.Relation.{Relation}
 use Rattle.sketch.specs.declared.Relation.the-variants.{Coincident, PointOnCurve, Collinear, Equal, Length, Distance, Midpoint, ArcLength, ArcSweep}
 use Rattle.image.specs.declared.Message.{Message}
-use Rattle.image.specs.Records.{noSlots}
+use Rattle.image.specs.Records.{idSize, noSlots}
+use Rattle.image.specs.Message.{editNumberSize}
 
 abbrev pub Each : {A : Type 0} → (A → Type 0) → List A → Type 0
 Each P [] = Unit {0}
 Each P (a ∷ l) = P a × Each P l
 
 abbrev pub Id : ℕ → Type 0
-Id i = i < 2 ^ 32
+Id i = i < 256 ^ idSize
+
+abbrev pub EditNumber : ℕ → Type 0
+EditNumber n = n < 256 ^ editNumberSize
 
 abbrev pub Binary64 : Float → Type 0
 Binary64 x = T (fits binary64 x)
@@ -67,7 +71,7 @@ pub record Stored (d : Drawing) : Type 0 where
   pub relations-fit : Each StoredRelation (d .relations)
 
 pub record StoredMessage (m : Message) : Type 0 where
-  pub number-fits : Id (m .number)
+  pub number-fits : EditNumber (m .number)
   pub curve-fits : Id (m .curve)
   pub x-fits : m .x < 2 ^ 64
   pub y-fits : m .y < 2 ^ 64

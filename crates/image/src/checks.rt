@@ -1,8 +1,26 @@
 // The tests of one record by its bytes: what it spells and its values, and its references among given ids. No value is
 // made for them.
+use crate::layout::CURVE_FLAGS_AT;
+use crate::layout::CURVE_KIND_AT;
+use crate::layout::CURVE_NUMBER_AT;
+use crate::layout::DEGREE_AT;
+use crate::layout::FIFTH_SLOT_AT;
+use crate::layout::FIRST_ID_AT;
+use crate::layout::FOURTH_SLOT_AT;
+use crate::layout::ID_SIZE;
+use crate::layout::POINT_FLAGS_AT;
+use crate::layout::POINT_X_AT;
+use crate::layout::POINT_Y_AT;
+use crate::layout::SECOND_ID_AT;
+use crate::layout::SECOND_SLOT_AT;
+use crate::layout::SEVENTH_SLOT_AT;
+use crate::layout::SLOTS_AT;
+use crate::layout::THIRD_SLOT_AT;
+use crate::layout::VALUE_AT;
 use big_endian::get1;
 use big_endian::get4;
 use big_endian::get8;
+use sketch::Id;
 use sketch::coordinate_ok;
 use sketch::has;
 use sketch::measure_ok;
@@ -17,7 +35,7 @@ ghost use lib.ListN.{length, take, drop};
 ghost use Rattle.sketch.specs.Lists.{every};
 ghost use Rattle.sketch.specs.Lookup.{among, Ascends, sortAmong};
 ghost use Rattle.sketch.specs.Valid.{okCoordinate, okRadius, okRho, okMeasure, soundCurve, soundRelation};
-ghost use Rattle.image.specs.Records.{floatAt, slotsOf, curveOf, relationOf};
+ghost use Rattle.image.specs.Records.{curveNumberAt, valueAt, floatAt, slotsOf, curveOf, relationOf};
 ghost use Rattle.image.specs.Contracts.{goodPoint, goodCurve, goodRelation, goodAs, rowSort};
 
 // Whether bits are no NaN's: only such may become a float.
@@ -38,9 +56,9 @@ fn coordinate_at(r: &[u8], at: usize) -> bool
 }
 
 fn radius_at(r: &[u8]) -> bool
-    ensures { λ v. ⌜ v ≡ okRadius (floatAt (now (r .entry)) 39) ⌝ }
+    ensures { λ v. ⌜ v ≡ okRadius (floatAt (now (r .entry)) curveNumberAt) ⌝ }
 {
-    let bits = get8(r, 39);
+    let bits = get8(r, CURVE_NUMBER_AT);
     if !is_number(bits) {
         return false;
     }
@@ -48,9 +66,9 @@ fn radius_at(r: &[u8]) -> bool
 }
 
 fn rho_at(r: &[u8]) -> bool
-    ensures { λ v. ⌜ v ≡ okRho (floatAt (now (r .entry)) 39) ⌝ }
+    ensures { λ v. ⌜ v ≡ okRho (floatAt (now (r .entry)) curveNumberAt) ⌝ }
 {
-    let bits = get8(r, 39);
+    let bits = get8(r, CURVE_NUMBER_AT);
     if !is_number(bits) {
         return false;
     }
@@ -58,9 +76,9 @@ fn rho_at(r: &[u8]) -> bool
 }
 
 fn measure_at(r: &[u8]) -> bool
-    ensures { λ v. ⌜ v ≡ okMeasure (floatAt (now (r .entry)) 9) ⌝ }
+    ensures { λ v. ⌜ v ≡ okMeasure (floatAt (now (r .entry)) valueAt) ⌝ }
 {
-    let bits = get8(r, 9);
+    let bits = get8(r, VALUE_AT);
     if !is_number(bits) {
         return false;
     }
@@ -70,44 +88,44 @@ fn measure_at(r: &[u8]) -> bool
 pub(crate) fn point_good(r: &[u8]) -> bool
     ensures { λ v. ⌜ v ≡ goodPoint (now (r .entry)) ⌝ }
 {
-    (get1(r, 20) <= 1) & (coordinate_at(r, 4) & coordinate_at(r, 12))
+    (get1(r, POINT_FLAGS_AT) <= 1) & (coordinate_at(r, POINT_X_AT) & coordinate_at(r, POINT_Y_AT))
 }
 
 // Of curves each kind has a test of its own. Slots that it leaves free are read two at a time.
 fn line_good(r: &[u8]) -> bool
     ensures { λ v. ⌜ v ≡ goodAs 1 (now (r .entry)) ⌝ }
 {
-    (get1(r, 5) <= 7)
-        & (get1(r, 6) == 0)
-        & (get8(r, 39) == 0)
-        & (get8(r, 15) == 0)
-        & (get8(r, 23) == 0)
-        & (get8(r, 31) == 0)
+    (get1(r, CURVE_FLAGS_AT) <= 7)
+        & (get1(r, DEGREE_AT) == 0)
+        & (get8(r, CURVE_NUMBER_AT) == 0)
+        & (get8(r, THIRD_SLOT_AT) == 0)
+        & (get8(r, FIFTH_SLOT_AT) == 0)
+        & (get8(r, SEVENTH_SLOT_AT) == 0)
 }
 
 fn arc_good(r: &[u8]) -> bool
     ensures { λ v. ⌜ v ≡ goodAs 2 (now (r .entry)) ⌝ }
 {
-    let flags = get1(r, 5);
+    let flags = get1(r, CURVE_FLAGS_AT);
     (flags <= 7)
-        & (get1(r, 6) == 0)
-        & (get8(r, 39) == 0)
-        & (get4(r, 19) == 0)
-        & (get8(r, 23) == 0)
-        & (get8(r, 31) == 0)
+        & (get1(r, DEGREE_AT) == 0)
+        & (get8(r, CURVE_NUMBER_AT) == 0)
+        & (get4(r, FOURTH_SLOT_AT) == 0)
+        & (get8(r, FIFTH_SLOT_AT) == 0)
+        & (get8(r, SEVENTH_SLOT_AT) == 0)
         & (flags / 4 % 2 != 1)
 }
 
 fn circle_good(r: &[u8]) -> bool
     ensures { λ v. ⌜ v ≡ goodAs 3 (now (r .entry)) ⌝ }
 {
-    let flags = get1(r, 5);
+    let flags = get1(r, CURVE_FLAGS_AT);
     (flags <= 7)
-        & (get1(r, 6) == 0)
-        & (get4(r, 11) == 0)
-        & (get8(r, 15) == 0)
-        & (get8(r, 23) == 0)
-        & (get8(r, 31) == 0)
+        & (get1(r, DEGREE_AT) == 0)
+        & (get4(r, SECOND_SLOT_AT) == 0)
+        & (get8(r, THIRD_SLOT_AT) == 0)
+        & (get8(r, FIFTH_SLOT_AT) == 0)
+        & (get8(r, SEVENTH_SLOT_AT) == 0)
         & (flags / 4 % 2 != 1)
         & radius_at(r)
 }
@@ -118,7 +136,7 @@ fn clear_past(r: &[u8], n: usize) -> bool
 {
     let mut i: usize = n;
     while i < 8 {
-        if get4(r, 7 + i * 4) != 0 {
+        if get4(r, SLOTS_AT + i * ID_SIZE) != 0 {
             return false;
         }
         i += 1;
@@ -129,10 +147,10 @@ fn clear_past(r: &[u8], n: usize) -> bool
 fn bezier_good(r: &[u8]) -> bool
     ensures { λ v. ⌜ v ≡ goodAs 4 (now (r .entry)) ⌝ }
 {
-    let flags = get1(r, 5);
-    let degree = get1(r, 6);
+    let flags = get1(r, CURVE_FLAGS_AT);
+    let degree = get1(r, DEGREE_AT);
     (flags <= 7)
-        & (get8(r, 39) == 0)
+        & (get8(r, CURVE_NUMBER_AT) == 0)
         & (flags / 4 % 2 != 1)
         & (1 <= degree)
         & (degree <= 7)
@@ -142,12 +160,12 @@ fn bezier_good(r: &[u8]) -> bool
 fn conic_good(r: &[u8]) -> bool
     ensures { λ v. ⌜ v ≡ goodAs 5 (now (r .entry)) ⌝ }
 {
-    let flags = get1(r, 5);
+    let flags = get1(r, CURVE_FLAGS_AT);
     (flags <= 7)
-        & (get1(r, 6) == 0)
-        & (get4(r, 19) == 0)
-        & (get8(r, 23) == 0)
-        & (get8(r, 31) == 0)
+        & (get1(r, DEGREE_AT) == 0)
+        & (get4(r, FOURTH_SLOT_AT) == 0)
+        & (get8(r, FIFTH_SLOT_AT) == 0)
+        & (get8(r, SEVENTH_SLOT_AT) == 0)
         & (flags / 4 % 2 != 1)
         & rho_at(r)
 }
@@ -155,7 +173,7 @@ fn conic_good(r: &[u8]) -> bool
 pub(crate) fn curve_good(r: &[u8]) -> bool
     ensures { λ v. ⌜ v ≡ goodCurve (now (r .entry)) ⌝ }
 {
-    let kind = get1(r, 4);
+    let kind = get1(r, CURVE_KIND_AT);
     match kind {
         1 => line_good(r),
         2 => arc_good(r),
@@ -167,7 +185,7 @@ pub(crate) fn curve_good(r: &[u8]) -> bool
 }
 
 // Whether the first n slots name points, whose ids rise.
-fn slots_in<'a>(r: &'a [u8], n: usize, ids: &'a [u32], near: &'a [u16]) -> bool
+fn slots_in<'a>(r: &'a [u8], n: usize, ids: &'a [Id], near: &'a [u16]) -> bool
     requires { ⌜ Ascends (now ids) ⌝ }
     ensures { λ v. ⌜ v ≡ every (λ p. among p (now (ids .entry))) (take n (slotsOf (now (r .entry)))) ⌝ }
 {
@@ -176,7 +194,7 @@ fn slots_in<'a>(r: &'a [u8], n: usize, ids: &'a [u32], near: &'a [u16]) -> bool
         if n <= i {
             return true;
         }
-        if !has(ids, near, get4(r, 7 + i * 4)) {
+        if !has(ids, near, get4(r, SLOTS_AT + i * ID_SIZE)) {
             return false;
         }
         i += 1;
@@ -184,15 +202,15 @@ fn slots_in<'a>(r: &'a [u8], n: usize, ids: &'a [u32], near: &'a [u16]) -> bool
     true
 }
 
-pub(crate) fn curve_sound<'a>(r: &'a [u8], ids: &'a [u32], near: &'a [u16]) -> bool
+pub(crate) fn curve_sound<'a>(r: &'a [u8], ids: &'a [Id], near: &'a [u16]) -> bool
     requires { ⌜ Ascends (now ids) ⌝ }
     ensures { λ v. ⌜ v ≡ soundCurve (λ p. among p (now (ids .entry))) (curveOf (now (r .entry))) ⌝ }
 {
-    let kind = get1(r, 4);
-    let degree = get1(r, 6);
-    let a = get4(r, 7);
-    let b = get4(r, 11);
-    let c = get4(r, 15);
+    let kind = get1(r, CURVE_KIND_AT);
+    let degree = get1(r, DEGREE_AT);
+    let a = get4(r, SLOTS_AT);
+    let b = get4(r, SECOND_SLOT_AT);
+    let c = get4(r, THIRD_SLOT_AT);
     match kind {
         1 => has(ids, near, a) & has(ids, near, b) & (a != b),
         2 => has(ids, near, a)
@@ -211,7 +229,7 @@ pub(crate) fn curve_sound<'a>(r: &'a [u8], ids: &'a [u32], near: &'a [u16]) -> b
 pub(crate) fn curve_sort(r: &[u8]) -> u8
     ensures { λ v. ⌜ v ≡ rowSort (now (r .entry)) ⌝ }
 {
-    let kind = get1(r, 4);
+    let kind = get1(r, CURVE_KIND_AT);
     match kind {
         1 => 1,
         2 => 2,
@@ -225,8 +243,8 @@ pub(crate) fn relation_good(r: &[u8]) -> bool
     ensures { λ v. ⌜ v ≡ goodRelation (now (r .entry)) ⌝ }
 {
     let kind = get1(r, 0);
-    let second = get4(r, 5);
-    let value = get8(r, 9);
+    let second = get4(r, SECOND_ID_AT);
+    let value = get8(r, VALUE_AT);
     match kind {
         1 => value == 0,
         2 => value == 0,
@@ -243,9 +261,9 @@ pub(crate) fn relation_good(r: &[u8]) -> bool
 
 pub(crate) fn relation_sound<'a>(
     r: &'a [u8],
-    points: &'a [u32],
+    points: &'a [Id],
     near_points: &'a [u16],
-    curves: &'a [u32],
+    curves: &'a [Id],
     near_curves: &'a [u16],
     sorts: &'a [u8],
 ) -> bool
@@ -253,8 +271,8 @@ pub(crate) fn relation_sound<'a>(
     ensures { λ v. ⌜ v ≡ soundRelation (λ p. among p (now (points .entry))) (λ i. sortAmong i (now (curves .entry)) (now (sorts .entry))) (relationOf (now (r .entry))) ⌝ }
 {
     let kind = get1(r, 0);
-    let a = get4(r, 1);
-    let b = get4(r, 5);
+    let a = get4(r, FIRST_ID_AT);
+    let b = get4(r, SECOND_ID_AT);
     match kind {
         1 => has(points, near_points, a) & has(points, near_points, b) & (a != b),
         2 => has(points, near_points, a) & (0 < sort_at(curves, near_curves, sorts, b)),

@@ -1,6 +1,7 @@
 // Images of sketches and edit messages: bytes read and written.
 mod checks;
 mod faults;
+mod layout;
 mod messages;
 mod reader;
 mod records;
@@ -9,10 +10,17 @@ mod writer;
 ghost use mathlib.Core.Path.{_≡_};
 ghost use Rattle.image.specs.Image as I;
 ghost use Rattle.image.specs.Message as M;
+pub use layout::CURVE_SIZE;
+pub use layout::HEADER_SIZE;
+pub use layout::ID_SIZE;
+pub use layout::MESSAGE_SIZE;
+pub use layout::POINT_SIZE;
+pub use layout::RELATION_SIZE;
 pub use messages::operation_of;
 pub use messages::read_message;
 pub use messages::write_message;
 pub use reader::read;
+use sketch::Id;
 use sketch::Sketch;
 pub use writer::write;
 
@@ -20,6 +28,11 @@ pub use writer::write;
 pub const IMAGE_VERSION: u8 = 1;
 
 pub const MESSAGE_VERSION: u8 = 1;
+
+// The number of an edit, from 1, and a count of edits.
+pub type EditNumber = u32;
+
+pub const MAX_EDIT_NUMBER: EditNumber = 4294967295;
 
 // What a person does to a curve.
 pub enum Operation {
@@ -30,9 +43,9 @@ pub enum Operation {
 
 // One edit. The pick's coordinates are patterns of bits: a NaN's are carried on, so that they can be refused later.
 pub struct Message {
-    pub number: u32,
+    pub number: EditNumber,
     pub operation: Operation,
-    pub curve: u32,
+    pub curve: Id,
     pub x: u64,
     pub y: u64,
 }

@@ -3,6 +3,13 @@ use crate::MESSAGE_VERSION;
 use crate::Message;
 use crate::MessageRead;
 use crate::Operation;
+use crate::layout::CURVE_AT;
+use crate::layout::EDIT_NUMBER_AT;
+use crate::layout::MESSAGE_SIZE;
+use crate::layout::OPERATION_AT;
+use crate::layout::VERSION_AT;
+use crate::layout::X_AT;
+use crate::layout::Y_AT;
 use big_endian::get1;
 use big_endian::get4;
 use big_endian::get8;
@@ -11,6 +18,9 @@ use big_endian::put4;
 use big_endian::put8;
 ghost use mathlib.Core.Path.{_≡_};
 ghost use Rattle.image.specs.Message.{operationOf, operationByte, parse, MessageWritten};
+
+// What a message's length field holds: the bytes behind it.
+const MESSAGE_LENGTH: u32 = MESSAGE_SIZE as u32 - 4;
 
 // The operation that a byte means. Readers turn other bytes away before they ask.
 pub fn operation_of(byte: u8) -> Operation
@@ -41,20 +51,20 @@ pub fn read_message(s: &[u8]) -> MessageRead
     if n < 5 {
         return MessageRead::Refused(1);
     }
-    if get1(s, 4) != MESSAGE_VERSION {
+    if get1(s, VERSION_AT) != MESSAGE_VERSION {
         return MessageRead::Refused(2);
     }
-    if n != 30 {
+    if n != MESSAGE_SIZE {
         return MessageRead::Refused(1);
     }
-    if get4(s, 0) != 26 {
+    if get4(s, 0) != MESSAGE_LENGTH {
         return MessageRead::Refused(1);
     }
-    let number = get4(s, 5);
+    let number = get4(s, EDIT_NUMBER_AT);
     if number < 1 {
         return MessageRead::Refused(6);
     }
-    let byte = get1(s, 9);
+    let byte = get1(s, OPERATION_AT);
     if byte < 1 {
         return MessageRead::Refused(6);
     }
@@ -65,30 +75,30 @@ pub fn read_message(s: &[u8]) -> MessageRead
     MessageRead::Accepted(Message {
         number,
         operation,
-        curve: get4(s, 10),
-        x: get8(s, 14),
-        y: get8(s, 22),
+        curve: get4(s, CURVE_AT),
+        x: get8(s, X_AT),
+        y: get8(s, Y_AT),
     })
 }
 
-// Writes a message to the buffer's front and answers 0; or answers 6 for the number 0, or 25 for a buffer under 30
-// bytes, and leaves the buffer.
+// Writes a message to the buffer's front and answers 0; or answers 6 for the number 0, or 25 for a buffer that is
+// too short, and leaves the buffer.
 pub fn write_message(m: Message, buf: &mut [u8]) -> u8
     ensures { λ r. ⌜ MessageWritten m (now (buf .entry)) (now (buf .exit)) r ⌝ }
 {
     if m.number < 1 {
         return 6;
     }
-    if buf.len() < 30 {
+    if buf.len() < MESSAGE_SIZE {
         return 25;
     }
     let operation = m.operation;
-    put4(buf, 0, 26);
-    put1(buf, 4, MESSAGE_VERSION as u64);
-    put4(buf, 5, m.number as u64);
-    put1(buf, 9, operation_byte(operation));
-    put4(buf, 10, m.curve as u64);
-    put8(buf, 14, m.x);
-    put8(buf, 22, m.y);
+    put4(buf, 0, MESSAGE_LENGTH as u64);
+    put1(buf, VERSION_AT, MESSAGE_VERSION as u64);
+    put4(buf, EDIT_NUMBER_AT, m.number as u64);
+    put1(buf, OPERATION_AT, operation_byte(operation));
+    put4(buf, CURVE_AT, m.curve as u64);
+    put8(buf, X_AT, m.x);
+    put8(buf, Y_AT, m.y);
     0
 }

@@ -1,6 +1,14 @@
 // The reader of images: the test of the bytes, then the tables that good bytes spell.
 use crate::ImageRead;
 use crate::faults::image_fault;
+use crate::layout::CURVE_COUNT_AT;
+use crate::layout::CURVE_SIZE;
+use crate::layout::HEADER_SIZE;
+use crate::layout::NEXT_ID_AT;
+use crate::layout::POINT_COUNT_AT;
+use crate::layout::POINT_SIZE;
+use crate::layout::RELATION_COUNT_AT;
+use crate::layout::RELATION_SIZE;
 use crate::records::curve_at;
 use crate::records::point_at;
 use crate::records::relation_at;
@@ -9,6 +17,7 @@ use big_endian::get2;
 use big_endian::get4;
 use sketch::Curve;
 use sketch::CurveKind;
+use sketch::Id;
 use sketch::Point;
 use sketch::Relation;
 use sketch::RelationSlot;
@@ -21,8 +30,8 @@ ghost use lib.ListN.{length, take};
 ghost use Rattle.sketch.specs.Drawing.{view};
 ghost use Rattle.sketch.specs.Lists.{every};
 ghost use Rattle.sketch.specs.Valid.{sketchFault};
-ghost use Rattle.image.specs.Records.{pointOf, curveOf, relationOf};
-ghost use Rattle.image.specs.Image.{imageFault, rowsAt, drawingOf};
+ghost use Rattle.image.specs.Records.{pointOf, curveOf, relationOf, curveSize, pointSize, relationSize};
+ghost use Rattle.image.specs.Image.{imageFault, rowsAt, drawingOf, headerSize};
 ghost use Rattle.image.specs.Decode.{plainPoint, plainCurve, plainRelation, ReadAnswer};
 
 fn no_points() -> [Point; 512]
@@ -40,7 +49,7 @@ fn no_points() -> [Point; 512]
 fn no_curves() -> [Curve; 128]
     ensures { λ r. ⌜ length r ≡ 128 ⌝ }
 {
-    let slots = [0u32; 8];
+    let slots: [Id; 8] = [0; 8];
     let none = Curve {
         id: 0,
         construction: false,
@@ -62,14 +71,14 @@ fn no_relations() -> [RelationSlot; 256]
 }
 
 fn points_at(s: &[u8], n: usize) -> [Point; 512]
-    requires { ⌜ (n ≤ 512) × (15 + n * 21 ≤ length (now s)) × (every plainPoint (rowsAt 21 n (now s) 15) ≡ true) ⌝ }
-    ensures { λ r. ⌜ take n r ≡ map pointOf (rowsAt 21 n (now (s .entry)) 15) ⌝ }
+    requires { ⌜ (n ≤ 512) × (headerSize + n * pointSize ≤ length (now s)) × (every plainPoint (rowsAt pointSize n (now s) headerSize) ≡ true) ⌝ }
+    ensures { λ r. ⌜ take n r ≡ map pointOf (rowsAt pointSize n (now (s .entry)) headerSize) ⌝ }
 {
     let mut slots = no_points();
     let mut i: usize = 0;
     while i < n {
-        let at = 15 + i * 21;
-        let end = at + 21;
+        let at = HEADER_SIZE + i * POINT_SIZE;
+        let end = at + POINT_SIZE;
         let r = &s[at..end];
         slots[i] = point_at(r);
         i += 1;
@@ -78,14 +87,14 @@ fn points_at(s: &[u8], n: usize) -> [Point; 512]
 }
 
 fn curves_at(s: &[u8], from: usize, n: usize) -> [Curve; 128]
-    requires { ⌜ (n ≤ 128) × (from + n * 47 ≤ length (now s)) × (every plainCurve (rowsAt 47 n (now s) from) ≡ true) ⌝ }
-    ensures { λ r. ⌜ take n r ≡ map curveOf (rowsAt 47 n (now (s .entry)) from) ⌝ }
+    requires { ⌜ (n ≤ 128) × (from + n * curveSize ≤ length (now s)) × (every plainCurve (rowsAt curveSize n (now s) from) ≡ true) ⌝ }
+    ensures { λ r. ⌜ take n r ≡ map curveOf (rowsAt curveSize n (now (s .entry)) from) ⌝ }
 {
     let mut slots = no_curves();
     let mut i: usize = 0;
     while i < n {
-        let at = from + i * 47;
-        let end = at + 47;
+        let at = from + i * CURVE_SIZE;
+        let end = at + CURVE_SIZE;
         let r = &s[at..end];
         slots[i] = curve_at(r, slots_at(r));
         i += 1;
@@ -94,14 +103,14 @@ fn curves_at(s: &[u8], from: usize, n: usize) -> [Curve; 128]
 }
 
 fn relations_at(s: &[u8], from: usize, n: usize) -> [RelationSlot; 256]
-    requires { ⌜ (n ≤ 256) × (from + n * 17 ≤ length (now s)) × (every plainRelation (rowsAt 17 n (now s) from) ≡ true) ⌝ }
-    ensures { λ r. ⌜ map (λ t. t .relation) (take n r) ≡ map relationOf (rowsAt 17 n (now (s .entry)) from) ⌝ }
+    requires { ⌜ (n ≤ 256) × (from + n * relationSize ≤ length (now s)) × (every plainRelation (rowsAt relationSize n (now s) from) ≡ true) ⌝ }
+    ensures { λ r. ⌜ map (λ t. t .relation) (take n r) ≡ map relationOf (rowsAt relationSize n (now (s .entry)) from) ⌝ }
 {
     let mut slots = no_relations();
     let mut i: usize = 0;
     while i < n {
-        let at = from + i * 17;
-        let end = at + 17;
+        let at = from + i * RELATION_SIZE;
+        let end = at + RELATION_SIZE;
         let r = &s[at..end];
         let relation = relation_at(r);
         slots[i] = RelationSlot { relation };
@@ -115,13 +124,17 @@ fn decode_sketch(s: &[u8]) -> Sketch
     requires { ⌜ imageFault (now s) ≡ 0 ⌝ }
     ensures { λ r. ⌜ (view r ≡ drawingOf (now (s .entry))) × (sketchFault r ≡ 0) ⌝ }
 {
-    let next = get4(s, 5);
-    let npoints = get2(s, 9) as usize;
-    let ncurves = get2(s, 11) as usize;
-    let nrelations = get2(s, 13) as usize;
+    let next = get4(s, NEXT_ID_AT);
+    let npoints = get2(s, POINT_COUNT_AT) as usize;
+    let ncurves = get2(s, CURVE_COUNT_AT) as usize;
+    let nrelations = get2(s, RELATION_COUNT_AT) as usize;
     let points = points_at(s, npoints);
-    let curves = curves_at(s, 15 + npoints * 21, ncurves);
-    let relations = relations_at(s, 15 + npoints * 21 + ncurves * 47, nrelations);
+    let curves = curves_at(s, HEADER_SIZE + npoints * POINT_SIZE, ncurves);
+    let relations = relations_at(
+        s,
+        HEADER_SIZE + npoints * POINT_SIZE + ncurves * CURVE_SIZE,
+        nrelations,
+    );
     Sketch {
         next,
         npoints,

@@ -1,9 +1,28 @@
 // One record of an image: which value its bytes spell.
+use crate::layout::CURVE_FLAGS_AT;
+use crate::layout::CURVE_KIND_AT;
+use crate::layout::CURVE_NUMBER_AT;
+use crate::layout::DEGREE_AT;
+use crate::layout::EIGHTH_SLOT_AT;
+use crate::layout::FIFTH_SLOT_AT;
+use crate::layout::FIRST_ID_AT;
+use crate::layout::FOURTH_SLOT_AT;
+use crate::layout::POINT_FLAGS_AT;
+use crate::layout::POINT_X_AT;
+use crate::layout::POINT_Y_AT;
+use crate::layout::SECOND_ID_AT;
+use crate::layout::SECOND_SLOT_AT;
+use crate::layout::SEVENTH_SLOT_AT;
+use crate::layout::SIXTH_SLOT_AT;
+use crate::layout::SLOTS_AT;
+use crate::layout::THIRD_SLOT_AT;
+use crate::layout::VALUE_AT;
 use big_endian::get1;
 use big_endian::get4;
 use big_endian::get8;
 use sketch::Curve;
 use sketch::CurveKind;
+use sketch::Id;
 use sketch::Point;
 use sketch::Relation;
 ghost use mathlib.Core.Path.{_≡_};
@@ -19,29 +38,29 @@ pub(crate) fn point_at(r: &[u8]) -> Point
 {
     Point {
         id: get4(r, 0),
-        fixed: get1(r, 20) == 1,
-        x: f64::from_bits(get8(r, 4)),
-        y: f64::from_bits(get8(r, 12)),
+        fixed: get1(r, POINT_FLAGS_AT) == 1,
+        x: f64::from_bits(get8(r, POINT_X_AT)),
+        y: f64::from_bits(get8(r, POINT_Y_AT)),
     }
 }
 
-pub(crate) fn slots_at(r: &[u8]) -> [u32; 8]
+pub(crate) fn slots_at(r: &[u8]) -> [Id; 8]
     ensures { λ v. ⌜ v ≡ slotsOf (now (r .entry)) ⌝ }
 {
     [
-        get4(r, 7),
-        get4(r, 11),
-        get4(r, 15),
-        get4(r, 19),
-        get4(r, 23),
-        get4(r, 27),
-        get4(r, 31),
-        get4(r, 35),
+        get4(r, SLOTS_AT),
+        get4(r, SECOND_SLOT_AT),
+        get4(r, THIRD_SLOT_AT),
+        get4(r, FOURTH_SLOT_AT),
+        get4(r, FIFTH_SLOT_AT),
+        get4(r, SIXTH_SLOT_AT),
+        get4(r, SEVENTH_SLOT_AT),
+        get4(r, EIGHTH_SLOT_AT),
     ]
 }
 
 // The kind by its byte.
-fn kind_of(kind: u8, degree: u8, s: [u32; 8], v: f64) -> CurveKind
+fn kind_of(kind: u8, degree: u8, s: [Id; 8], v: f64) -> CurveKind
     ensures { λ r. ⌜ r ≡ kindOf kind degree s v ⌝ }
 {
     match kind {
@@ -54,7 +73,7 @@ fn kind_of(kind: u8, degree: u8, s: [u32; 8], v: f64) -> CurveKind
 }
 
 // Only a Bézier curve keeps the slots beside its kind.
-fn kept_slots(kind: u8, s: [u32; 8]) -> [u32; 8]
+fn kept_slots(kind: u8, s: [Id; 8]) -> [Id; 8]
     ensures { λ r. ⌜ r ≡ ite (eqb kind 4) s noSlots ⌝ }
 {
     if kind == 4 {
@@ -63,13 +82,18 @@ fn kept_slots(kind: u8, s: [u32; 8]) -> [u32; 8]
     [0, 0, 0, 0, 0, 0, 0, 0]
 }
 
-pub(crate) fn curve_at(r: &[u8], s: [u32; 8]) -> Curve
+pub(crate) fn curve_at(r: &[u8], s: [Id; 8]) -> Curve
     requires { ⌜ (plainCurve (now r) ≡ true) × (s ≡ slotsOf (now r)) ⌝ }
     ensures { λ v. ⌜ v ≡ curveOf (now (r .entry)) ⌝ }
 {
-    let byte = get1(r, 4);
-    let flags = get1(r, 5);
-    let kind = kind_of(byte, get1(r, 6), s, f64::from_bits(get8(r, 39)));
+    let byte = get1(r, CURVE_KIND_AT);
+    let flags = get1(r, CURVE_FLAGS_AT);
+    let kind = kind_of(
+        byte,
+        get1(r, DEGREE_AT),
+        s,
+        f64::from_bits(get8(r, CURVE_NUMBER_AT)),
+    );
     let slots = kept_slots(byte, s);
     Curve {
         id: get4(r, 0),
@@ -82,7 +106,7 @@ pub(crate) fn curve_at(r: &[u8], s: [u32; 8]) -> Curve
 }
 
 // The relation by its kind's byte.
-fn relation_by(kind: u8, a: u32, b: u32, v: f64) -> Relation
+fn relation_by(kind: u8, a: Id, b: Id, v: f64) -> Relation
     ensures { λ r. ⌜ r ≡ relationBy kind a b v ⌝ }
 {
     match kind {
@@ -104,8 +128,8 @@ pub(crate) fn relation_at(r: &[u8]) -> Relation
 {
     relation_by(
         get1(r, 0),
-        get4(r, 1),
-        get4(r, 5),
-        f64::from_bits(get8(r, 9)),
+        get4(r, FIRST_ID_AT),
+        get4(r, SECOND_ID_AT),
+        f64::from_bits(get8(r, VALUE_AT)),
     )
 }

@@ -1,11 +1,33 @@
 // The writer of images.
 use crate::IMAGE_VERSION;
+use crate::layout::CURVE_COUNT_AT;
+use crate::layout::CURVE_FLAGS_AT;
+use crate::layout::CURVE_KIND_AT;
+use crate::layout::CURVE_NUMBER_AT;
+use crate::layout::CURVE_SIZE;
+use crate::layout::DEGREE_AT;
+use crate::layout::FIRST_ID_AT;
+use crate::layout::HEADER_SIZE;
+use crate::layout::ID_SIZE;
+use crate::layout::NEXT_ID_AT;
+use crate::layout::POINT_COUNT_AT;
+use crate::layout::POINT_FLAGS_AT;
+use crate::layout::POINT_SIZE;
+use crate::layout::POINT_X_AT;
+use crate::layout::POINT_Y_AT;
+use crate::layout::RELATION_COUNT_AT;
+use crate::layout::RELATION_SIZE;
+use crate::layout::SECOND_ID_AT;
+use crate::layout::SLOTS_AT;
+use crate::layout::VALUE_AT;
+use crate::layout::VERSION_AT;
 use big_endian::put1;
 use big_endian::put2;
 use big_endian::put4;
 use big_endian::put8;
 use sketch::Curve;
 use sketch::CurveKind;
+use sketch::Id;
 use sketch::Point;
 use sketch::Relation;
 use sketch::RelationSlot;
@@ -20,6 +42,8 @@ ghost use Rattle.sketch.specs.Lists.{every, concatMap};
 ghost use Rattle.sketch.specs.Valid.{okPoint, okCurve, okNumber, okRelation};
 ghost use Rattle.image.specs.Encode as E;
 ghost use Rattle.image.specs.Encode.{kindByte, degreeOf, numberBits, slotIds, flagByte, relationByte, firstId, secondId, valueBits, encodePoint, encodeCurve, encodeRelation, ImageWritten};
+ghost use Rattle.image.specs.Image.{headerSize};
+ghost use Rattle.image.specs.Records.{idSize, curveSize, pointSize, relationSize};
 
 fn bit(flag: bool) -> u64
     ensures { λ r. ⌜ (r ≡ E.bit flag) × (r ≤ 1) ⌝ }
@@ -28,13 +52,13 @@ fn bit(flag: bool) -> u64
 }
 
 fn write_point(buf: &mut [u8], at: usize, p: Point)
-    requires { ⌜ (at + 21 ≤ length (now buf)) × (okPoint p ≡ true) ⌝ }
+    requires { ⌜ (at + pointSize ≤ length (now buf)) × (okPoint p ≡ true) ⌝ }
     ensures { λ r. ⌜ now (buf .exit) ≡ over (now (buf .entry)) at (encodePoint p) ⌝ }
 {
     put4(buf, at, p.id as u64);
-    put8(buf, at + 4, f64::to_bits(p.x));
-    put8(buf, at + 12, f64::to_bits(p.y));
-    put1(buf, at + 20, bit(p.fixed));
+    put8(buf, at + POINT_X_AT, f64::to_bits(p.x));
+    put8(buf, at + POINT_Y_AT, f64::to_bits(p.y));
+    put1(buf, at + POINT_FLAGS_AT, bit(p.fixed));
 }
 
 fn kind_byte(kind: CurveKind) -> u64
@@ -74,7 +98,7 @@ fn number_bits(kind: CurveKind) -> u64
     }
 }
 
-fn slot_ids(kind: CurveKind, slots: [u32; 8]) -> [u32; 8]
+fn slot_ids(kind: CurveKind, slots: [Id; 8]) -> [Id; 8]
     ensures { λ r. ⌜ r ≡ slotIds kind slots ⌝ }
 {
     match kind {
@@ -92,29 +116,29 @@ fn flag_byte(c: Curve) -> u64
     bit(c.construction) + 2 * bit(c.centerline) + 4 * bit(c.infinite)
 }
 
-fn write_slots(buf: &mut [u8], at: usize, s: [u32; 8])
-    requires { ⌜ at + 32 ≤ length (now buf) ⌝ }
-    ensures { λ r. ⌜ now (buf .exit) ≡ over (now (buf .entry)) at (concatMap (bytes 4) s) ⌝ }
+fn write_slots(buf: &mut [u8], at: usize, s: [Id; 8])
+    requires { ⌜ at + 8 * idSize ≤ length (now buf) ⌝ }
+    ensures { λ r. ⌜ now (buf .exit) ≡ over (now (buf .entry)) at (concatMap (bytes idSize) s) ⌝ }
 {
     let mut i: usize = 0;
     while i < 8 {
-        put4(buf, at + i * 4, s[i] as u64);
+        put4(buf, at + i * ID_SIZE, s[i] as u64);
         i += 1;
     }
 }
 
 fn write_curve(buf: &mut [u8], at: usize, c: Curve)
-    requires { ⌜ (at + 47 ≤ length (now buf)) × (okCurve c ≡ true) ⌝ }
-    ensures { λ r. ⌜ (now (buf .exit) ≡ over (now (buf .entry)) at (encodeCurve c)) × (length (encodeCurve c) ≡ 47) ⌝ }
+    requires { ⌜ (at + curveSize ≤ length (now buf)) × (okCurve c ≡ true) ⌝ }
+    ensures { λ r. ⌜ (now (buf .exit) ≡ over (now (buf .entry)) at (encodeCurve c)) × (length (encodeCurve c) ≡ curveSize) ⌝ }
 {
     let kind = c.kind;
     let slots = c.slots;
     put4(buf, at, c.id as u64);
-    put1(buf, at + 4, kind_byte(kind));
-    put1(buf, at + 5, flag_byte(c));
-    put1(buf, at + 6, degree_of(kind));
-    write_slots(buf, at + 7, slot_ids(kind, slots));
-    put8(buf, at + 39, number_bits(kind));
+    put1(buf, at + CURVE_KIND_AT, kind_byte(kind));
+    put1(buf, at + CURVE_FLAGS_AT, flag_byte(c));
+    put1(buf, at + DEGREE_AT, degree_of(kind));
+    write_slots(buf, at + SLOTS_AT, slot_ids(kind, slots));
+    put8(buf, at + CURVE_NUMBER_AT, number_bits(kind));
 }
 
 fn relation_byte(r: Relation) -> u64
@@ -133,7 +157,7 @@ fn relation_byte(r: Relation) -> u64
     }
 }
 
-fn first_id(r: Relation) -> u32
+fn first_id(r: Relation) -> Id
     ensures { λ v. ⌜ v ≡ firstId r ⌝ }
 {
     match r {
@@ -149,7 +173,7 @@ fn first_id(r: Relation) -> u32
     }
 }
 
-fn second_id(r: Relation) -> u32
+fn second_id(r: Relation) -> Id
     ensures { λ v. ⌜ v ≡ secondId r ⌝ }
 {
     match r {
@@ -183,62 +207,66 @@ fn value_bits(r: Relation) -> u64
 }
 
 fn write_relation(buf: &mut [u8], at: usize, r: Relation)
-    requires { ⌜ (at + 17 ≤ length (now buf)) × (okRelation r ≡ true) ⌝ }
+    requires { ⌜ (at + relationSize ≤ length (now buf)) × (okRelation r ≡ true) ⌝ }
     ensures { λ v. ⌜ now (buf .exit) ≡ over (now (buf .entry)) at (encodeRelation r) ⌝ }
 {
     put1(buf, at, relation_byte(r));
-    put4(buf, at + 1, first_id(r) as u64);
-    put4(buf, at + 5, second_id(r) as u64);
-    put8(buf, at + 9, value_bits(r));
+    put4(buf, at + FIRST_ID_AT, first_id(r) as u64);
+    put4(buf, at + SECOND_ID_AT, second_id(r) as u64);
+    put8(buf, at + VALUE_AT, value_bits(r));
 }
 
 fn write_points(buf: &mut [u8], from: usize, points: [Point; 512], n: usize)
-    requires { ⌜ (n ≤ 512) × (from + n * 21 ≤ length (now buf)) × (every okPoint (take n points) ≡ true) ⌝ }
+    requires { ⌜ (n ≤ 512) × (from + n * pointSize ≤ length (now buf)) × (every okPoint (take n points) ≡ true) ⌝ }
     ensures { λ r. ⌜ now (buf .exit) ≡ over (now (buf .entry)) from (concatMap encodePoint (take n points)) ⌝ }
 {
     let mut i: usize = 0;
     while i < n {
         let p = points[i];
-        write_point(buf, from + i * 21, p);
+        write_point(buf, from + i * POINT_SIZE, p);
         i += 1;
     }
 }
 
 fn write_curves(buf: &mut [u8], from: usize, curves: [Curve; 128], n: usize)
-    requires { ⌜ (n ≤ 128) × (from + n * 47 ≤ length (now buf)) × (every okCurve (take n curves) ≡ true) ⌝ }
-    ensures { λ r. ⌜ (now (buf .exit) ≡ over (now (buf .entry)) from (concatMap encodeCurve (take n curves))) × (length (concatMap encodeCurve (take n curves)) ≡ n * 47) ⌝ }
+    requires { ⌜ (n ≤ 128) × (from + n * curveSize ≤ length (now buf)) × (every okCurve (take n curves) ≡ true) ⌝ }
+    ensures { λ r. ⌜ (now (buf .exit) ≡ over (now (buf .entry)) from (concatMap encodeCurve (take n curves))) × (length (concatMap encodeCurve (take n curves)) ≡ n * curveSize) ⌝ }
 {
     let mut i: usize = 0;
     while i < n {
         let c = curves[i];
-        write_curve(buf, from + i * 47, c);
+        write_curve(buf, from + i * CURVE_SIZE, c);
         i += 1;
     }
 }
 
 fn write_relations(buf: &mut [u8], from: usize, relations: [RelationSlot; 256], n: usize)
-    requires { ⌜ (n ≤ 256) × (from + n * 17 ≤ length (now buf)) × (every okRelation (map (λ s. s .relation) (take n relations)) ≡ true) ⌝ }
+    requires { ⌜ (n ≤ 256) × (from + n * relationSize ≤ length (now buf)) × (every okRelation (map (λ s. s .relation) (take n relations)) ≡ true) ⌝ }
     ensures { λ r. ⌜ now (buf .exit) ≡ over (now (buf .entry)) from (concatMap encodeRelation (map (λ s. s .relation) (take n relations))) ⌝ }
 {
     let mut i: usize = 0;
     while i < n {
         let slot = relations[i];
         let r = slot.relation;
-        write_relation(buf, from + i * 17, r);
+        write_relation(buf, from + i * RELATION_SIZE, r);
         i += 1;
     }
 }
 
-fn write_header(buf: &mut [u8], next: u32, np: usize, nc: usize, nr: usize)
-    requires { ⌜ (15 ≤ length (now buf)) × (np ≤ 512) × (nc ≤ 128) × (nr ≤ 256) ⌝ }
+fn write_header(buf: &mut [u8], next: Id, np: usize, nc: usize, nr: usize)
+    requires { ⌜ (headerSize ≤ length (now buf)) × (np ≤ 512) × (nc ≤ 128) × (nr ≤ 256) ⌝ }
     ensures { λ r. ⌜ now (buf .exit) ≡ over (now (buf .entry)) 0 (E.header next np nc nr) ⌝ }
 {
-    put4(buf, 0, (15 + np * 21 + nc * 47 + nr * 17 - 4) as u64);
-    put1(buf, 4, IMAGE_VERSION as u64);
-    put4(buf, 5, next as u64);
-    put2(buf, 9, np as u64);
-    put2(buf, 11, nc as u64);
-    put2(buf, 13, nr as u64);
+    put4(
+        buf,
+        0,
+        (HEADER_SIZE + np * POINT_SIZE + nc * CURVE_SIZE + nr * RELATION_SIZE - 4) as u64,
+    );
+    put1(buf, VERSION_AT, IMAGE_VERSION as u64);
+    put4(buf, NEXT_ID_AT, next as u64);
+    put2(buf, POINT_COUNT_AT, np as u64);
+    put2(buf, CURVE_COUNT_AT, nc as u64);
+    put2(buf, RELATION_COUNT_AT, nr as u64);
 }
 
 // Writes a sketch's image to the buffer's front and answers 0; or answers 3, 4 or 5 for a sketch that no image gives,
@@ -253,15 +281,20 @@ pub fn write(sk: Sketch, buf: &mut [u8]) -> u8
     let np = sk.npoints;
     let nc = sk.ncurves;
     let nr = sk.nrelations;
-    if buf.len() < 15 + np * 21 + nc * 47 + nr * 17 {
+    if buf.len() < HEADER_SIZE + np * POINT_SIZE + nc * CURVE_SIZE + nr * RELATION_SIZE {
         return 25;
     }
     let points = sk.points;
     let curves = sk.curves;
     let relations = sk.relations;
     write_header(buf, sk.next, np, nc, nr);
-    write_points(buf, 15, points, np);
-    write_curves(buf, 15 + np * 21, curves, nc);
-    write_relations(buf, 15 + np * 21 + nc * 47, relations, nr);
+    write_points(buf, HEADER_SIZE, points, np);
+    write_curves(buf, HEADER_SIZE + np * POINT_SIZE, curves, nc);
+    write_relations(
+        buf,
+        HEADER_SIZE + np * POINT_SIZE + nc * CURVE_SIZE,
+        relations,
+        nr,
+    );
     0
 }

@@ -4,6 +4,7 @@ use geom::Vec2;
 use shape::Shape;
 use sketch::Curve;
 use sketch::CurveKind;
+use sketch::Id;
 use sketch_geometry::Outline;
 use sketch_geometry::point_at;
 use sketch_geometry::shape_of;
@@ -34,9 +35,9 @@ fn boundary(infinite: bool, sh: Shape, near: Vec2) -> Shape
 
 // The coordinates of the points in the first n + 1 slots.
 fn controls<'a>(
-    slots: [u32; 8],
+    slots: [Id; 8],
     n: usize,
-    ids: &'a [u32],
+    ids: &'a [Id],
     near: &'a [u16],
     xs: &'a [f64],
     ys: &'a [f64],
@@ -65,7 +66,7 @@ pub(crate) fn curve_hits<'a, 'b>(
     foot: Vec2,
     c: Curve,
     budget: usize,
-    ids: &'a [u32],
+    ids: &'a [Id],
     near: &'a [u16],
     xs: &'a [f64],
     ys: &'a [f64],

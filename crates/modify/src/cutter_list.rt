@@ -4,6 +4,7 @@ use cuts::Cutter;
 use geom::Vec2;
 use shape::Shape;
 use sketch::Curve;
+use sketch::Id;
 use sketch_geometry::Outline;
 use sketch_geometry::shape_of;
 ghost use mathlib.Core.Path.{_≡_};
@@ -12,7 +13,7 @@ ghost use lib.ListN.{length};
 ghost use Rattle.modify.specs.Contracts.{CurveIndex, CollectsCutters};
 
 // The place of the curve with an id, n where none of the first n has it.
-pub(crate) fn curve_place(curves: [Curve; 128], n: usize, id: u32) -> usize
+pub(crate) fn curve_place(curves: [Curve; 128], n: usize, id: Id) -> usize
     requires { ⌜ n ≤ 128 ⌝ }
     ensures { λ r. ⌜ CurveIndex curves n id r ⌝ }
 {
@@ -42,8 +43,8 @@ fn no_cutters() -> [Cutter; 128]
 pub(crate) fn collect_cutters<'a>(
     curves: [Curve; 128],
     n: usize,
-    id: u32,
-    ids: &'a [u32],
+    id: Id,
+    ids: &'a [Id],
     near: &'a [u16],
     xs: &'a [f64],
     ys: &'a [f64],

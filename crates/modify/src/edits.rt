@@ -8,6 +8,7 @@ use edit_plan::Edited;
 use edit_plan::apply_plan;
 use geom::Vec2;
 use image::Operation;
+use sketch::Id;
 use sketch::Sketch;
 use sketch_geometry::fill_point_columns;
 ghost use mathlib.Core.Path.{_≡_};
@@ -37,7 +38,7 @@ fn is_split(operation: Operation) -> bool
 }
 
 // One edit: the tests that all begin with, and then its own. The sketch is tested here and no deeper.
-pub fn edit(operation: Operation, sk: Sketch, curve: u32, at: Vec2) -> Edited
+pub fn edit(operation: Operation, sk: Sketch, curve: Id, at: Vec2) -> Edited
     ensures { λ r. ⌜ EditAnswer operation sk curve at r ⌝ }
 {
     let fault = sketch::fault(sk);
@@ -50,7 +51,7 @@ pub fn edit(operation: Operation, sk: Sketch, curve: u32, at: Vec2) -> Edited
     }
     let points = sk.points;
     let n = sk.npoints;
-    let mut ids = [0u32; 512];
+    let mut ids: [Id; 512] = [0; 512];
     let mut near = [0u16; 1024];
     let mut xs = [0.0; 512];
     let mut ys = [0.0; 512];
@@ -74,19 +75,19 @@ pub fn edit(operation: Operation, sk: Sketch, curve: u32, at: Vec2) -> Edited
     }
 }
 
-pub fn trim(sk: Sketch, curve: u32, at: Vec2) -> Edited
+pub fn trim(sk: Sketch, curve: Id, at: Vec2) -> Edited
     ensures { λ r. ⌜ EditAnswer Operation.Trim sk curve at r ⌝ }
 {
     edit(Operation::Trim, sk, curve, at)
 }
 
-pub fn split(sk: Sketch, curve: u32, at: Vec2) -> Edited
+pub fn split(sk: Sketch, curve: Id, at: Vec2) -> Edited
     ensures { λ r. ⌜ EditAnswer Operation.Split sk curve at r ⌝ }
 {
     edit(Operation::Split, sk, curve, at)
 }
 
-pub fn extend(sk: Sketch, curve: u32, at: Vec2) -> Edited
+pub fn extend(sk: Sketch, curve: Id, at: Vec2) -> Edited
     ensures { λ r. ⌜ EditAnswer Operation.Extend sk curve at r ⌝ }
 {
     edit(Operation::Extend, sk, curve, at)

@@ -14,6 +14,7 @@ use relations::first_unmet;
 use shape::Shape;
 use sketch::Curve;
 use sketch::CurveKind;
+use sketch::Id;
 use sketch::Point;
 use sketch::Sketch;
 use sketch::place_near;
@@ -42,7 +43,7 @@ fn plan_move<'a>(
     k: usize,
     curves: [Curve; 128],
     n: usize,
-    ids: &'a [u32],
+    ids: &'a [Id],
     near: &'a [u16],
     xs: &'a [f64],
     ys: &'a [f64],
@@ -61,7 +62,7 @@ fn plan_move<'a>(
 }
 
 // The end of a line that moves: b or (false) a.
-fn moving_end(atb: bool, i: u32, j: u32) -> u32
+fn moving_end(atb: bool, i: Id, j: Id) -> Id
     ensures { λ r. ⌜ r ≡ cond atb j i ⌝ }
 {
     if atb { j } else { i }
@@ -73,13 +74,13 @@ fn plan_end<'a>(
     points: [Point; 512],
     curves: [Curve; 128],
     n: usize,
-    id: u32,
+    id: Id,
     a: Vec2,
     b: Vec2,
     atb: bool,
-    end: u32,
+    end: Id,
     at: Vec2,
-    ids: &'a [u32],
+    ids: &'a [Id],
     near: &'a [u16],
     xs: &'a [f64],
     ys: &'a [f64],
@@ -111,7 +112,7 @@ fn plan_extend<'a>(
     sk: Sketch,
     place: usize,
     at: Vec2,
-    ids: &'a [u32],
+    ids: &'a [Id],
     near: &'a [u16],
     xs: &'a [f64],
     ys: &'a [f64],
@@ -151,11 +152,11 @@ fn plan_extend<'a>(
 fn check_met<'a>(
     sk: Sketch,
     e: Edited,
-    ids: &'a [u32],
+    ids: &'a [Id],
     near: &'a [u16],
     xs: &'a [f64],
     ys: &'a [f64],
-    curves: &'a [u32],
+    curves: &'a [Id],
     near_curves: &'a [u16],
     kinds: &'a [u8],
     firsts: &'a [u32],
@@ -196,11 +197,11 @@ fn extend_line<'a, 'b>(
     sk: Sketch,
     place: usize,
     at: Vec2,
-    ids: &'a [u32],
+    ids: &'a [Id],
     near: &'a [u16],
     xs: &'b mut [f64],
     ys: &'b mut [f64],
-    curves: &'a [u32],
+    curves: &'a [Id],
     near_curves: &'a [u16],
     kinds: &'a [u8],
     firsts: &'a [u32],
@@ -259,7 +260,7 @@ pub(crate) fn extend_curve<'a, 'b>(
     sk: Sketch,
     place: usize,
     at: Vec2,
-    ids: &'a [u32],
+    ids: &'a [Id],
     near: &'a [u16],
     xs: &'b mut [f64],
     ys: &'b mut [f64],
@@ -274,7 +275,7 @@ pub(crate) fn extend_curve<'a, 'b>(
         return answer(sk, 10, 0);
     };
     let n = sk.ncurves;
-    let mut curves = [0u32; 128];
+    let mut curves: [Id; 128] = [0; 128];
     let mut near_curves = [0u16; 1024];
     let mut kinds = [0u8; 128];
     let mut firsts = [0u32; 128];

@@ -2,6 +2,7 @@
 use crate::Target;
 use crate::cutter_list::curve_place;
 use geom::Vec2;
+use sketch::Id;
 use sketch::Sketch;
 use sketch::coordinate_ok;
 ghost use mathlib.Core.Path.{_≡_};
@@ -11,7 +12,7 @@ ghost use Rattle.sketch.specs.Valid.{sketchFault};
 ghost use Rattle.modify.specs.Contracts.{TargetTested};
 
 // The pick and the curve, of a sketch that an image gives.
-pub(crate) fn find_target(sk: Sketch, id: u32, at: Vec2) -> Target
+pub(crate) fn find_target(sk: Sketch, id: Id, at: Vec2) -> Target
     requires { ⌜ (sketchFault sk ≡ 0) × Sized sk ⌝ }
     ensures { λ r. ⌜ TargetTested sk id at r × (r .refusal ≤ 9) ⌝ }
 {

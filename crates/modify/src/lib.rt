@@ -18,6 +18,7 @@ pub use edits::extend;
 pub use edits::split;
 pub use edits::trim;
 use geom::Vec2;
+use sketch::Id;
 
 // What is to be done with the curve that was picked, or the number of a refusal.
 pub enum PlanResult {
@@ -49,7 +50,7 @@ struct Nearest {
     found: bool,
     gap: f64,
     at: Vec2,
-    by: u32,
+    by: Id,
     tied: bool,
 }
 

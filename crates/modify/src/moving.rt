@@ -4,6 +4,7 @@ use edit_plan::Pin;
 use edit_plan::Removed;
 use edit_plan::pin_of;
 use geom::Vec2;
+use sketch::Id;
 use sketch::Point;
 use sketch::RelationSlot;
 use sketch::Sketch;
@@ -34,7 +35,7 @@ pub(crate) fn answer(sketch: Sketch, refusal: u8, place: usize) -> Edited
 }
 
 // Whether a pin is to the point itself.
-fn is_itself(pin: Pin, p: u32) -> bool
+fn is_itself(pin: Pin, p: Id) -> bool
     ensures { λ r. ⌜ r ≡ itself pin p ⌝ }
 {
     match pin {

@@ -6,6 +6,7 @@ use crate::curve_hits::curve_hits;
 use geom::Vec2;
 use shape::Shape;
 use sketch::Curve;
+use sketch::Id;
 use support::Hits;
 ghost use mathlib.Core.Path.{_≡_};
 ghost use mathlib.Core.Bool.{true, cond};
@@ -48,7 +49,7 @@ fn mark_tied(best: Nearest) -> Nearest
 }
 
 // A hit beside the best so far.
-fn better(gap: f64, q: Vec2, by: u32, best: Nearest) -> Nearest
+fn better(gap: f64, q: Vec2, by: Id, best: Nearest) -> Nearest
     ensures { λ r. ⌜ bestIn r ≡ E.better gap q by (bestIn best) ⌝ }
 {
     let fresh = Nearest {
@@ -78,7 +79,7 @@ fn better(gap: f64, q: Vec2, by: u32, best: Nearest) -> Nearest
 }
 
 // Only what lies more than 1e-6 beyond the end counts.
-fn consider(a: Vec2, b: Vec2, atb: bool, l: f64, q: Vec2, by: u32, best: Nearest) -> Nearest
+fn consider(a: Vec2, b: Vec2, atb: bool, l: f64, q: Vec2, by: Id, best: Nearest) -> Nearest
     requires { ⌜ l ≡ distance a b ⌝ }
     ensures { λ r. ⌜ bestIn r ≡ cond (lt 1e-6 (gapOf (support a b atb) q)) (E.better (gapOf (support a b atb) q) q by (bestIn best)) (bestIn best) ⌝ }
 {
@@ -94,7 +95,7 @@ fn best_of<'a>(
     a: Vec2,
     b: Vec2,
     atb: bool,
-    by: u32,
+    by: Id,
     best: Nearest,
     n: usize,
     hx: &'a [f64],
@@ -126,7 +127,7 @@ fn search_curve<'a>(
     c: Curve,
     best: Nearest,
     left: usize,
-    ids: &'a [u32],
+    ids: &'a [Id],
     near: &'a [u16],
     xs: &'a [f64],
     ys: &'a [f64],
@@ -149,10 +150,10 @@ pub(crate) fn nearest_hit<'a>(
     b: Vec2,
     atb: bool,
     foot: Vec2,
-    id: u32,
+    id: Id,
     curves: [Curve; 128],
     n: usize,
-    ids: &'a [u32],
+    ids: &'a [Id],
     near: &'a [u16],
     xs: &'a [f64],
     ys: &'a [f64],

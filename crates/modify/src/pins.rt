@@ -5,6 +5,7 @@ use float::bounds::BELOW_1E_6;
 use geom::Vec2;
 use sketch::Curve;
 use sketch::CurveKind;
+use sketch::Id;
 use sketch_geometry::point_at;
 ghost use mathlib.Core.Option.{some};
 ghost use Prim.Native.Nat.{_≤_};
@@ -13,10 +14,10 @@ ghost use Rattle.modify.specs.Contracts.{PinTo, PinAt};
 // An end of the curve `by` that is nearer than 1e-6, or the curve.
 fn pin_to<'a>(
     q: Vec2,
-    by: u32,
-    from: u32,
-    to: u32,
-    ids: &'a [u32],
+    by: Id,
+    from: Id,
+    to: Id,
+    ids: &'a [Id],
     near: &'a [u16],
     xs: &'a [f64],
     ys: &'a [f64],
@@ -34,10 +35,10 @@ fn pin_to<'a>(
 
 pub(crate) fn pin_at<'a>(
     q: Vec2,
-    by: u32,
+    by: Id,
     curves: [Curve; 128],
     n: usize,
-    ids: &'a [u32],
+    ids: &'a [Id],
     near: &'a [u16],
     xs: &'a [f64],
     ys: &'a [f64],

@@ -11,6 +11,7 @@ use geom::Vec2;
 use shape::Shape;
 use sketch::Curve;
 use sketch::CurveKind;
+use sketch::Id;
 use sketch::Sketch;
 use sketch_geometry::Outline;
 use sketch_geometry::shape_of;
@@ -46,7 +47,7 @@ fn pinned_point_of<'a>(
     k: Cut,
     curves: [Curve; 128],
     n: usize,
-    ids: &'a [u32],
+    ids: &'a [Id],
     near: &'a [u16],
     xs: &'a [f64],
     ys: &'a [f64],
@@ -88,7 +89,7 @@ fn trim_plan<'a>(
     count: usize,
     curves: [Curve; 128],
     n: usize,
-    ids: &'a [u32],
+    ids: &'a [Id],
     near: &'a [u16],
     xs: &'a [f64],
     ys: &'a [f64],
@@ -116,7 +117,7 @@ fn trim_from<'a>(
     curves: [Curve; 128],
     n: usize,
     at: Vec2,
-    ids: &'a [u32],
+    ids: &'a [Id],
     near: &'a [u16],
     xs: &'a [f64],
     ys: &'a [f64],
@@ -166,7 +167,7 @@ fn split_from<'a>(
     curves: [Curve; 128],
     n: usize,
     at: Vec2,
-    ids: &'a [u32],
+    ids: &'a [Id],
     near: &'a [u16],
     xs: &'a [f64],
     ys: &'a [f64],
@@ -198,7 +199,7 @@ fn plan_from<'a>(
     n: usize,
     splits: bool,
     at: Vec2,
-    ids: &'a [u32],
+    ids: &'a [Id],
     near: &'a [u16],
     xs: &'a [f64],
     ys: &'a [f64],
@@ -218,7 +219,7 @@ pub(crate) fn plan_edit<'a>(
     splits: bool,
     place: usize,
     at: Vec2,
-    ids: &'a [u32],
+    ids: &'a [Id],
     near: &'a [u16],
     xs: &'a [f64],
     ys: &'a [f64],

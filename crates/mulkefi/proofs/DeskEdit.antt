@@ -14,7 +14,7 @@ use Rattle.sketch.specs.Drawing.{Drawing, view, limits, curveIn}
 use Rattle.sketch.specs.Valid.{okCoordinate, sketchFault}
 use Rattle.sketch.proofs.Sketches.{sketch-valid}
 use Rattle.image.specs.Encode.{drawingSize}
-use Rattle.image.specs.Message.{encode, MessageWritten}
+use Rattle.image.specs.Message.{encode, MessageWritten, messageSize}
 use Rattle.relations.specs.Met.{allMet}
 use Rattle.edit_plan.specs.declared.Removed.{Removed}
 use Rattle.edit_plan.specs.Outcome as O
@@ -24,7 +24,7 @@ use Rattle.modify.specs.declared.PlanResult.{PlanResult}
 use Rattle.modify.specs.Planning.{guardPlan}
 use Rattle.modify.specs.Edits.{planOnFound, applyPlanned}
 use Rattle.agreement.specs.Machines as M
-use Rattle.agreement.specs.Machines.{State, callOutcome, withCount, stateAfter, maxNumber}
+use Rattle.agreement.specs.Machines.{State, callOutcome, withCount, stateAfter, maxEditNumber}
 use Rattle.replication.specs.declared.Replica.{Replica}
 use Rattle.replication.specs.declared.DeskReply.{DeskReply}
 use Rattle.replication.specs.declared.DeskReply.the-variants as Desk
@@ -88,24 +88,24 @@ module _ (s : Replica) (e : Edit) (b m a : List ℕ) where
       }
 
   -- too short for a message
-  pub draw-short : length m < 30 → DeskEditWritten s e b b m m a a 25
+  pub draw-short : length m < messageSize → DeskEditWritten s e b b m m a a 25
   unfolding guard
-  draw-short h = turned 25 25 (rw (lt-leb 30 (length m) h)) refl (λ x y. refl) (unmet-none e (view (s .sketch)) 25 0 (λ z. omega arith) (λ z. omega arith))
+  draw-short h = turned 25 25 (rw (lt-leb messageSize (length m) h)) refl (λ x y. refl) (unmet-none e (view (s .sketch)) 25 0 (λ z. omega arith) (λ z. omega arith))
 
-  module _ (v : sketchFault (s .sketch) ≡ 0) (room : 30 ≤ length m) (d d′ : List ℕ) (x : DeskTransition) (h : DeskEdits s (record { edit = e; before = d; after = d′; answer = x }))
-      (long : length d ≡ 30) where
+  module _ (v : sketchFault (s .sketch) ≡ 0) (room : messageSize ≤ length m) (d d′ : List ℕ) (x : DeskTransition) (h : DeskEdits s (record { edit = e; before = d; after = d′; answer = x }))
+      (long : length d ≡ messageSize) where
     -- the draft's room is as good as the message's
     abbrev came : O.Outcome (State Drawing) Removed
     came = callOutcome protocol (stateOf s) (record { edit = e; room = length m })
 
     came-is : callOutcome protocol (stateOf s) (record { edit = e; room = length d }) ≡ came
-    came-is = rw (long, le-leb 30 (length m) room)
+    came-is = rw (long, le-leb messageSize (length m) room)
 
     -- ---- declined
 
     pub draw-declined : (k place r : ℕ) → x .reply ≡ Desk.Refused k place → r % 65536 ≡ k → r / 65536 ≡ place % 65536 → DeskEditWritten s e b b m m a a r
     draw-declined k place r t n p =
-        let o : came ≡ O.refused k = sym came-is ∙ declined-is e k _ (ap (λ (u : DeskReply). A.deskReply u (take 30 d′)) (sym t) ∙ h .step v .reply) in
+        let o : came ≡ O.refused k = sym came-is ∙ declined-is e k _ (ap (λ (u : DeskReply). A.deskReply u (take messageSize d′)) (sym t) ∙ h .step v .reply) in
         let q : NoPlace k place = subst DeskNoPlace t (h .no-place) in
         let u : UnmetPlace e (view (s .sketch)) k place = subst (λ (u : DeskReply). DeskPlace u e (view (s .sketch))) t (h .place v) in
         turned k r (ap (deskOutcome (length b)) o) n (λ y z. let g = q y z in omega arith)
@@ -115,15 +115,15 @@ module _ (s : Replica) (e : Edit) (b m a : List ℕ) where
 
     module _ (q : Removed) (t : x .reply ≡ Desk.Accepted q) where
       accepted-is : came ≡ O.accepted (stateOf (x .replica)) q
-      accepted-is = sym came-is ∙ done-is e (stateOf s) (stateOf (x .replica)) q (take 30 d′) _ (ap (λ (u : DeskReply). A.deskReply u (take 30 d′)) (sym t) ∙ h .step v .reply) (h .step v .state)
+      accepted-is = sym came-is ∙ done-is e (stateOf s) (stateOf (x .replica)) q (take messageSize d′) _ (ap (λ (u : DeskReply). A.deskReply u (take messageSize d′)) (sym t) ∙ h .step v .reply) (h .step v .state)
 
       verdict-is : verdict ≡ ifImageFits (length b) (stateOf (x .replica)) q
       verdict-is = ap (deskOutcome (length b)) accepted-is
 
       made-is : (x .replica .count ≡ s .count + 1) × (protocol .edit (view (s .sketch)) e ≡ O.accepted (view (x .replica .sketch)) q)
       made-is =
-          let n = need-accepted (leb 30 (length m)) 25 _ (stateOf (x .replica)) q accepted-is .1 in
-          counted-is (s .count + 1) _ (stateOf (x .replica)) q (need-accepted (ltb (s .count) maxNumber) 23 _ (stateOf (x .replica)) q n .1)
+          let n = need-accepted (leb messageSize (length m)) 25 _ (stateOf (x .replica)) q accepted-is .1 in
+          counted-is (s .count + 1) _ (stateOf (x .replica)) q (need-accepted (ltb (s .count) maxEditNumber) 23 _ (stateOf (x .replica)) q n .1)
 
       -- a pick that was accepted is one of numbers
       pub draw-numbers : T (not (isNan (e .at .x))) × T (not (isNan (e .at .y)))
@@ -148,7 +148,7 @@ module _ (s : Replica) (e : Edit) (b m a : List ℕ) where
         draw-done z m′ k y = go (leb (drawingSize (view (x .replica .sketch))) (length b)) verdict-is w
           where
             message-is : m′ ≡ over m 0 (encode (messageFor (x .replica .count) e))
-            message-is = y .buffer ∙ rw (le-leb 1 (x .replica .count) (omega (arith, made-is .0)), le-leb 30 (length m) room)
+            message-is = y .buffer ∙ rw (le-leb 1 (x .replica .count) (omega (arith, made-is .0)), le-leb messageSize (length m) room)
 
             go : (f : Bool) → verdict ≡ ite f (updated (stateOf (x .replica)) q) (refused 25) → ResultWritten (ite f (updated (stateOf (x .replica)) q) (refused 25)) b b′ a a′ n → DeskEditWritten s e b b′ m m′ a a′ 0
             go false g w = absurd (omega (arith, w .number))

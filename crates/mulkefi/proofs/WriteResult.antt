@@ -15,6 +15,8 @@ use Rattle.sketch.specs.Drawing.{view}
 use Rattle.sketch.specs.Valid.{sketchFault}
 use Rattle.sketch.proofs.Sketches.{sketch-valid}
 use Rattle.image.specs.Encode.{encode, drawingSize, ImageWritten}
+use Rattle.image.specs.Image.{headerSize}
+use Rattle.image.specs.Records.{curveSize, pointSize, relationSize}
 use Rattle.edit_plan.specs.declared.Removed.{Removed}
 use Rattle.replication.specs.declared.Replica.{Replica}
 use Rattle.replication.specs.Transitions.{stateOf}
@@ -23,7 +25,7 @@ use Rattle.mulkefi.specs.Calls.{answerFor, ResultWritten}
 
 pub size-is :
     (s : Sketch) → sketchFault s ≡ 0 → length (s .points) ≡ 512 → length (s .curves) ≡ 128 → length (s .relations) ≡ 256
-    → 15 + s .npoints * 21 + s .ncurves * 47 + s .nrelations * 17 ≡ drawingSize (view s)
+    → headerSize + s .npoints * pointSize + s .ncurves * curveSize + s .nrelations * relationSize ≡ drawingSize (view s)
 size-is s v p c l =
     let w = sketch-valid s v .0 in
     let lp = length-take-le (s .npoints) (s .points) (omega (arith, w .points)) in

@@ -1,5 +1,10 @@
 // What desk and wall do alike with the memory that a host lends.
+use crate::AnswerField;
 use edit_plan::Removed;
+use image::CURVE_SIZE;
+use image::HEADER_SIZE;
+use image::POINT_SIZE;
+use image::RELATION_SIZE;
 use replication::Replica;
 ghost use mathlib.Core.Path.{_≡_};
 ghost use Prim.Native.Nat.{_≤_, _/_, _%_};
@@ -28,7 +33,7 @@ pub(crate) fn refusal(number: u8, place: usize) -> u32
 }
 
 // The count, the image's size and the report.
-pub(crate) fn write_answer(replica: Replica, removed: Removed, answer: &mut [u32; 5])
+pub(crate) fn write_answer(replica: Replica, removed: Removed, answer: &mut [AnswerField; 5])
     requires { ⌜ sketchFault (replica .sketch) ≡ 0 ⌝ }
     ensures { λ r. ⌜ now (answer .exit) ≡ answerFor (now (answer .entry)) (stateOf replica) removed ⌝ }
 {
@@ -36,7 +41,10 @@ pub(crate) fn write_answer(replica: Replica, removed: Removed, answer: &mut [u32
     let nc = replica.sketch.ncurves;
     let nr = replica.sketch.nrelations;
     answer[0] = replica.count;
-    answer[1] = (15 + np * 21 + nc * 47 + nr * 17) as u32;
+    answer[1] = (HEADER_SIZE
+        + np * POINT_SIZE
+        + nc * CURVE_SIZE
+        + nr * RELATION_SIZE) as AnswerField;
     answer[2] = removed.curve;
     answer[3] = removed.from;
     answer[4] = removed.to;
@@ -47,7 +55,7 @@ pub(crate) fn write_result(
     replica: Replica,
     removed: Removed,
     buffer: &mut [u8],
-    answer: &mut [u32; 5],
+    answer: &mut [AnswerField; 5],
 ) -> u32
     requires { ⌜ sketchFault (replica .sketch) ≡ 0 ⌝ }
     ensures { λ r. ⌜ ResultWritten (ifImageFits (length (now (buffer .entry))) (stateOf replica) removed) (now (buffer .entry)) (now (buffer .exit)) (now (answer .entry)) (now (answer .exit)) r ⌝ }

@@ -1,18 +1,19 @@
 // The desk on lent memory: a person's edit of an image, and the message of it.
+use crate::AnswerField;
 use crate::buffers::min;
 use crate::buffers::refusal;
 use crate::buffers::write_result;
+use image::EditNumber;
+use image::MESSAGE_SIZE;
 use image::Message;
 use image::Operation;
 use replication::DeskReply;
 use replication::Replica;
+use sketch::Id;
 ghost use mathlib.Core.Path.{_≡_};
 ghost use Rattle.sketch.specs.Valid.{sketchFault};
 ghost use Rattle.image.specs.Message.{operationOf};
 ghost use Rattle.mulkefi.specs.Calls.{mkEditByNumber, mkEdit, DeskEditWritten, DeskCallWritten};
-
-// A message's size in bytes.
-const MESSAGE: usize = 30;
 
 fn operation_of(operation: u32) -> Operation
     ensures { λ r. ⌜ r ≡ operationOf operation ⌝ }
@@ -28,20 +29,20 @@ fn operation_of(operation: u32) -> Operation
 fn edit_replica(
     replica: Replica,
     operation: Operation,
-    curve: u32,
+    curve: Id,
     x: f64,
     y: f64,
     buffer: &mut [u8],
     message: &mut [u8],
-    answer: &mut [u32; 5],
+    answer: &mut [AnswerField; 5],
 ) -> u32
     requires { ⌜ sketchFault (replica .sketch) ≡ 0 ⌝ }
     ensures { λ r. ⌜ DeskEditWritten replica (mkEdit operation curve x y) (now (buffer .entry)) (now (buffer .exit)) (now (message .entry)) (now (message .exit)) (now (answer .entry)) (now (answer .exit)) r ⌝ }
 {
-    if message.len() < MESSAGE {
+    if message.len() < MESSAGE_SIZE {
         return 25;
     }
-    let mut draft = [0u8; MESSAGE];
+    let mut draft = [0u8; MESSAGE_SIZE];
     let edited = replication::desk_edit(replica, operation, curve, x, y, &mut draft);
     let reply = edited.reply;
     let after = edited.replica;
@@ -71,13 +72,13 @@ fn edit_replica(
 pub extern "C" fn mulkefi_desk_edit(
     buffer: &mut [u8],
     len: usize,
-    count: u32,
+    count: EditNumber,
     operation: u32,
-    curve: u32,
+    curve: Id,
     x: f64,
     y: f64,
     message: &mut [u8],
-    answer: &mut [u32; 5],
+    answer: &mut [AnswerField; 5],
 ) -> u32
     ensures { λ r. ⌜ DeskCallWritten len count operation (mkEditByNumber operation curve x y) (now (buffer .entry)) (now (buffer .exit)) (now (message .entry)) (now (message .exit)) (now (answer .entry)) (now (answer .exit)) r ⌝ }
 {

@@ -9,6 +9,9 @@ ghost use Prim.Native.Nat.{_+_, _*_};
 ghost use Rattle.image.specs.Image as I;
 ghost use Rattle.image.specs.Message as M;
 
+// A field of an answer: it holds a count of edits, a size in bytes or an id.
+pub(crate) type AnswerField = u32;
+
 // The image's version, times 256, and the message's.
 #[no_mangle]
 pub extern "C" fn mulkefi_versions() -> u32

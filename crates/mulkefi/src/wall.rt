@@ -1,9 +1,11 @@
 // The wall on lent memory: a message delivered to an image.
+use crate::AnswerField;
 use crate::buffers::min;
 use crate::buffers::refusal;
 use crate::buffers::write_answer;
 use crate::buffers::write_result;
 use edit_plan::Removed;
+use image::EditNumber;
 use replication::Replica;
 use replication::WallReply;
 ghost use mathlib.Core.Path.{_≡_};
@@ -15,7 +17,7 @@ fn deliver_to_replica(
     replica: Replica,
     message: &[u8],
     buffer: &mut [u8],
-    answer: &mut [u32; 5],
+    answer: &mut [AnswerField; 5],
 ) -> u32
     requires { ⌜ sketchFault (replica .sketch) ≡ 0 ⌝ }
     ensures { λ r. ⌜ WallDeliveryWritten replica (now (message .entry)) (now (buffer .entry)) (now (buffer .exit)) (now (answer .entry)) (now (answer .exit)) r ⌝ }
@@ -45,9 +47,9 @@ fn deliver_to_replica(
 pub extern "C" fn mulkefi_wall_deliver(
     buffer: &mut [u8],
     len: usize,
-    count: u32,
+    count: EditNumber,
     message: &[u8],
-    answer: &mut [u32; 5],
+    answer: &mut [AnswerField; 5],
 ) -> u32
     ensures { λ r. ⌜ WallCallWritten len count (now (message .entry)) (now (buffer .entry)) (now (buffer .exit)) (now (answer .entry)) (now (answer .exit)) r ⌝ }
 {

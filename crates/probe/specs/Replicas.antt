@@ -5,7 +5,7 @@ use lib.Ieee.{Float}
 use Rattle.sketch.specs.Lists.{guardNumber}
 use Rattle.sketch.specs.Drawing.{Drawing}
 use Rattle.image.specs.Image.{drawingOf}
-use Rattle.image.specs.Message.{operationOf}
+use Rattle.image.specs.Message.{operationOf, messageSize}
 use Rattle.image.specs.declared.Operation.{Operation}
 use Rattle.edit_plan.specs.declared.Removed.{Removed}
 use Rattle.edit_plan.specs.Outcome.{Outcome, refused, accepted}
@@ -25,7 +25,7 @@ deskTally (refused n) = n
 deskTally (accepted t r) = (t .count + 256) % 2 ^ 32
 
 abbrev pub deskAdds : Operation → ℕ → Float → Float → State Drawing → ℕ
-deskAdds op t x y s = deskTally (callOutcome protocol s (record { edit = record { operation = op; curve = t; at = record { x = x; y = y } }; room = 30 }))
+deskAdds op t x y s = deskTally (callOutcome protocol s (record { edit = record { operation = op; curve = t; at = record { x = x; y = y } }; room = messageSize }))
 
 abbrev pub desksSum : List ℕ → ℕ → ℕ → ℕ → Float → Float → ℕ → ℕ
 desksSum s count op t x y times = ofImage s (guardNumber (isOperation op) 6 (repeated times (deskAdds (operationOf op) t x y (imageState s count))))

@@ -3,6 +3,7 @@ use big_endian::put4;
 use edit_plan::Removed;
 use geom::Vec2;
 use image::Operation;
+use sketch::Id;
 use sketch::Sketch;
 ghost use mathlib.Core.Path.{_≡_};
 ghost use Prim.Native.Nat.{_+_, _*_, _%_};
@@ -69,7 +70,7 @@ fn write_edited(sk: Sketch, removed: Removed, out: &mut [u8]) -> u32
 pub extern "C" fn mulkefi_edit(
     operation: u32,
     bytes: &[u8],
-    curve: u32,
+    curve: Id,
     x: f64,
     y: f64,
     out: &mut [u8],
@@ -94,7 +95,7 @@ pub extern "C" fn mulkefi_edit(
 }
 
 // What one edit adds to a sum: a refusal's number, or the next id and the id of the curve that went.
-fn edit_adds(operation: Operation, sk: Sketch, curve: u32, at: Vec2) -> u32
+fn edit_adds(operation: Operation, sk: Sketch, curve: Id, at: Vec2) -> u32
     requires { ⌜ sketchFault sk ≡ 0 ⌝ }
     ensures { λ r. ⌜ r ≡ editAdds (editOf operation limits (view sk) curve at) ⌝ }
 {
@@ -107,7 +108,7 @@ fn edit_adds(operation: Operation, sk: Sketch, curve: u32, at: Vec2) -> u32
     std::num::wrapping_add_u32(after.next, removed.curve)
 }
 
-fn edits_sum(operation: Operation, sk: Sketch, curve: u32, at: Vec2, times: u32) -> u32
+fn edits_sum(operation: Operation, sk: Sketch, curve: Id, at: Vec2, times: u32) -> u32
     requires { ⌜ sketchFault sk ≡ 0 ⌝ }
     ensures { λ r. ⌜ r ≡ repeated times (editAdds (editOf operation limits (view sk) curve at)) ⌝ }
 {
@@ -125,7 +126,7 @@ fn edits_sum(operation: Operation, sk: Sketch, curve: u32, at: Vec2, times: u32)
 pub extern "C" fn mulkefi_edit_repeated(
     operation: u32,
     bytes: &[u8],
-    curve: u32,
+    curve: Id,
     x: f64,
     y: f64,
     times: u32,

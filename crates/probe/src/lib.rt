@@ -7,6 +7,7 @@ mod shapes;
 mod verdicts;
 
 use image::MessageRead;
+use sketch::Id;
 ghost use mathlib.Core.Path.{_≡_};
 ghost use Prim.Native.Nat.{_+_, _*_};
 ghost use Rattle.image.specs.Image as I;
@@ -59,7 +60,7 @@ pub extern "C" fn mulkefi_message_copy(bytes: &[u8], out: &mut [u8]) -> u32
 #[no_mangle]
 pub extern "C" fn mulkefi_sketch_test(
     bytes: &[u8],
-    next: u32,
+    next: Id,
     points: u32,
     curves: u32,
     relations: u32,

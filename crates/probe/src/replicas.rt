@@ -1,10 +1,13 @@
 // Desk and wall: the wall's program as one call, and a desk's edit and a delivery many times over for timing.
 use crate::edits::is_operation;
 use crate::edits::operation_of;
+use image::EditNumber;
+use image::MESSAGE_SIZE;
 use image::Operation;
 use replication::DeskReply;
 use replication::Replica;
 use replication::WallReply;
+use sketch::Id;
 ghost use mathlib.Core.Path.{_≡_};
 ghost use lib.ListN.{take};
 ghost use Rattle.sketch.specs.Valid.{sketchFault};
@@ -28,11 +31,11 @@ pub extern "C" fn mulkefi_wall(input: &[u8], out: &mut [u8]) -> usize
 }
 
 // What one edit at the desk adds to a sum: a refusal's number, or 256 and the count.
-fn desk_adds(replica: Replica, operation: Operation, curve: u32, x: f64, y: f64) -> u32
+fn desk_adds(replica: Replica, operation: Operation, curve: Id, x: f64, y: f64) -> u32
     requires { ⌜ sketchFault (replica .sketch) ≡ 0 ⌝ }
     ensures { λ r. ⌜ r ≡ deskAdds operation curve x y (stateOf replica) ⌝ }
 {
-    let mut message = [0u8; 30];
+    let mut message = [0u8; MESSAGE_SIZE];
     let answer = replication::desk_edit(replica, operation, curve, x, y, &mut message);
     let reply = answer.reply;
     match reply {
@@ -44,7 +47,7 @@ fn desk_adds(replica: Replica, operation: Operation, curve: u32, x: f64, y: f64)
     }
 }
 
-fn desks_sum(replica: Replica, operation: Operation, curve: u32, x: f64, y: f64, times: u32) -> u32
+fn desks_sum(replica: Replica, operation: Operation, curve: Id, x: f64, y: f64, times: u32) -> u32
     requires { ⌜ sketchFault (replica .sketch) ≡ 0 ⌝ }
     ensures { λ r. ⌜ r ≡ repeated times (deskAdds operation curve x y (stateOf replica)) ⌝ }
 {
@@ -61,9 +64,9 @@ fn desks_sum(replica: Replica, operation: Operation, curve: u32, x: f64, y: f64,
 #[no_mangle]
 pub extern "C" fn mulkefi_desk_repeated(
     bytes: &[u8],
-    count: u32,
+    count: EditNumber,
     operation: u32,
-    curve: u32,
+    curve: Id,
     x: f64,
     y: f64,
     times: u32,
@@ -116,7 +119,7 @@ fn walls_sum(replica: Replica, message: &[u8], times: u32) -> u32
 #[no_mangle]
 pub extern "C" fn mulkefi_deliver_repeated(
     bytes: &[u8],
-    count: u32,
+    count: EditNumber,
     message: &[u8],
     times: u32,
 ) -> u32

@@ -1,5 +1,6 @@
 // Which relations of a sketch are met.
 use relations::Verdict;
+use sketch::Id;
 ghost use Rattle.probe.specs.Relations.{RelationsTested};
 
 // Reads an image and looks, in its sketch with another next id and other counts, for a relation that is not met: 0 where all are, and
@@ -7,7 +8,7 @@ ghost use Rattle.probe.specs.Relations.{RelationsTested};
 #[no_mangle]
 pub extern "C" fn mulkefi_relations_test(
     bytes: &[u8],
-    next: u32,
+    next: Id,
     points: u32,
     curves: u32,
     relations: u32,

@@ -2,6 +2,7 @@
 use crate::CurveRow;
 use sketch::Curve;
 use sketch::CurveKind;
+use sketch::Id;
 use sketch::note;
 use sketch::place_near;
 ghost use mathlib.Core.Path.{_≡_};
@@ -46,9 +47,9 @@ fn parts_of(kind: CurveKind) -> CurveRow
 fn fill_columns<'a, 'b>(
     curves: [Curve; 128],
     n: usize,
-    points: &'a [u32],
+    points: &'a [Id],
     near_points: &'a [u16],
-    ids: &'b mut [u32],
+    ids: &'b mut [Id],
     near: &'b mut [u16],
     kinds: &'b mut [u8],
     firsts: &'b mut [u32],
@@ -78,9 +79,9 @@ fn fill_columns<'a, 'b>(
 pub fn fill_curve_columns<'a, 'b>(
     curves: [Curve; 128],
     n: usize,
-    points: &'a [u32],
+    points: &'a [Id],
     near_points: &'a [u16],
-    ids: &'b mut [u32],
+    ids: &'b mut [Id],
     near: &'b mut [u16],
     kinds: &'b mut [u8],
     firsts: &'b mut [u32],

@@ -65,7 +65,7 @@ fn search_all(sk: Sketch) -> usize
 {
     let points = sk.points;
     let n = sk.npoints;
-    let mut ids = [0u32; 512];
+    let mut ids: [Id; 512] = [0; 512];
     let mut near = [0u16; 1024];
     let mut xs = [0.0; 512];
     let mut ys = [0.0; 512];
@@ -76,7 +76,7 @@ fn search_all(sk: Sketch) -> usize
 // The same from columns of the points.
 fn search_from<'a>(
     sk: Sketch,
-    points: &'a [u32],
+    points: &'a [Id],
     near_points: &'a [u16],
     xs: &'a [f64],
     ys: &'a [f64],
@@ -86,7 +86,7 @@ fn search_from<'a>(
 {
     let curves = sk.curves;
     let n = sk.ncurves;
-    let mut ids = [0u32; 128];
+    let mut ids: [Id; 128] = [0; 128];
     let mut near = [0u16; 1024];
     let mut kinds = [0u8; 128];
     let mut firsts = [0u32; 128];

@@ -1,5 +1,6 @@
 // Curves read from columns.
 use crate::CurveData;
+use sketch::Id;
 use sketch::place_near;
 use sketch_geometry::number_at;
 use sketch_geometry::position_at;
@@ -23,10 +24,10 @@ fn place_at(column: &[u32], k: usize) -> u32
 
 // The curve with an id, one of no kind where there is none; `near` guesses its place.
 pub(crate) fn piece_at<'a>(
-    id: u32,
+    id: Id,
     xs: &'a [f64],
     ys: &'a [f64],
-    ids: &'a [u32],
+    ids: &'a [Id],
     near: &'a [u16],
     kinds: &'a [u8],
     firsts: &'a [u32],

@@ -6,6 +6,7 @@ use crate::measures::length_or_radius;
 use crate::measures::on;
 use crate::measures::same;
 use crate::reading::piece_at;
+use sketch::Id;
 use sketch::Relation;
 use sketch::RelationSlot;
 use sketch_geometry::point_at;
@@ -14,11 +15,11 @@ ghost use Rattle.relations.specs.Columns.{MetAnswer, FirstUnmet};
 // Whether one relation is met.
 fn is_met<'a>(
     relation: Relation,
-    points: &'a [u32],
+    points: &'a [Id],
     near_points: &'a [u16],
     xs: &'a [f64],
     ys: &'a [f64],
-    ids: &'a [u32],
+    ids: &'a [Id],
     near: &'a [u16],
     kinds: &'a [u8],
     firsts: &'a [u32],
@@ -69,11 +70,11 @@ fn is_met<'a>(
 pub fn first_unmet<'a>(
     relations: [RelationSlot; 256],
     n: usize,
-    points: &'a [u32],
+    points: &'a [Id],
     near_points: &'a [u16],
     xs: &'a [f64],
     ys: &'a [f64],
-    curves: &'a [u32],
+    curves: &'a [Id],
     near_curves: &'a [u16],
     kinds: &'a [u8],
     firsts: &'a [u32],

@@ -11,6 +11,7 @@ use big_endian::get8;
 use edit_plan::Edited;
 use edit_plan::Removed;
 use geom::Vec2;
+use sketch::Id;
 use sketch::Sketch;
 ghost use Prim.Native.Nat.{_≤_};
 ghost use lib.ListN.{length};
@@ -31,7 +32,7 @@ fn pick(input: &[u8]) -> Vec2 {
 }
 
 // The edit, by the number of its operation.
-fn edited(operation: u32, sk: Sketch, curve: u32, at: Vec2) -> Edited {
+fn edited(operation: u32, sk: Sketch, curve: Id, at: Vec2) -> Edited {
     match operation {
         1 => modify::trim(sk, curve, at),
         2 => modify::split(sk, curve, at),

@@ -12,13 +12,14 @@ use Rattle.sketch.specs.Drawing.{Drawing, limits}
 use Rattle.sketch.specs.Facts.{Valid}
 use Rattle.image.specs.Message.{encode, resultOf}
 use Rattle.image.proofs.MessageRoundTrips.{parse-encode}
+use Rattle.image.specs.Stored.{Id}
 use Rattle.relations.specs.Met.{allMet}
 use Rattle.edit_plan.specs.declared.Removed.{Removed}
 use Rattle.edit_plan.specs.Outcome.{Outcome, accepted, guard}
 use Rattle.modify.specs.Edits.{editOf}
 use Rattle.modify.proofs.Planned.{edit-planned}
 use Rattle.chains.proofs.Edits.{Planned, plan-target}
-use Rattle.agreement.specs.Machines.{message, maxNumber}
+use Rattle.agreement.specs.Machines.{message, maxEditNumber}
 use Rattle.agreement.proofs.Wall.{Read}
 use Rattle.replication.specs.Protocol.{Edit, isPick, edit, messageFor, editIn, decodedOf, protocol, target}
 
@@ -46,7 +47,7 @@ meant-sent n e a b =
     let q = ofBits-toBits binary64 (e .at .y) b in
     λ i. record { operation = e .operation; curve = e .curve; at = record { x = p i; y = q i } }
 
-pub read-back : (n : ℕ) (e : Edit) → 0 < n → n ≤ maxNumber → e .curve < 2 ^ 32 → isPick (e .at) ≡ true → protocol .decode (protocol .encode n e) ≡ message n e
+pub read-back : (n : ℕ) (e : Edit) → 0 < n → n ≤ maxEditNumber → Id (e .curve) → isPick (e .at) ≡ true → protocol .decode (protocol .encode n e) ≡ message n e
 unfolding decodedOf resultOf guardNumber
 read-back n e l h c f =
     let (a, b) = both-fit (fits binary64 (e .at .x)) (fits binary64 (e .at .y)) f in

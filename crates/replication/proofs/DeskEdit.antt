@@ -10,14 +10,14 @@ use borrow.Author.Tests.{le-leb, lt-leb, lt-ltb, le-ltb}
 use Rattle.big_endian.specs.Fields.{over}
 use Rattle.sketch.specs.Lists.{guardNumber}
 use Rattle.sketch.specs.Valid.{sketchFault}
-use Rattle.image.specs.Message.{encode, MessageWritten}
+use Rattle.image.specs.Message.{encode, MessageWritten, messageSize}
 use Rattle.image.proofs.MessageRoundTrips.{length-message}
 use Rattle.edit_plan.specs.declared.Edited.{Edited}
 use Rattle.edit_plan.specs.Outcome.{refused, guard}
 use Rattle.edit_plan.specs.Suited.{outcomeOf}
 use Rattle.modify.specs.Edits.{EditAnswer}
 use Rattle.agreement.specs.Machines as M
-use Rattle.agreement.specs.Machines.{maxNumber, Call, callOutcome, withCount, stateAfter}
+use Rattle.agreement.specs.Machines.{maxEditNumber, Call, callOutcome, withCount, stateAfter}
 use Rattle.replication.specs.declared.Replica.{Replica}
 use Rattle.replication.specs.declared.DeskReply.the-variants as Desk
 use Rattle.replication.specs.Protocol.{Edit, isPick, messageFor, protocol}
@@ -43,19 +43,19 @@ module _ (s : Replica) (e : Edit) (b : List ℕ) where
         buffer = refl;
       }
 
-  pub desk-short : length b < 30 → (n : ℕ) → n ≡ firstFault (s .sketch) 25 → DeskEdits s (record { edit = e; before = b; after = b; answer = record { replica = s; reply = Desk.Refused n 0 } })
+  pub desk-short : length b < messageSize → (n : ℕ) → n ≡ firstFault (s .sketch) 25 → DeskEdits s (record { edit = e; before = b; after = b; answer = record { replica = s; reply = Desk.Refused n 0 } })
   unfolding guard
-  desk-short h n f = desk-turned 25 n f (rw (lt-leb 30 (length b) h)) (λ z. omega arith) (λ z. omega arith)
+  desk-short h n f = desk-turned 25 n f (rw (lt-leb messageSize (length b) h)) (λ z. omega arith) (λ z. omega arith)
 
-  module _ (room : 30 ≤ length b) where
-    pub desk-full : maxNumber ≤ s .count → (n : ℕ) → n ≡ firstFault (s .sketch) 23 → DeskEdits s (record { edit = e; before = b; after = b; answer = record { replica = s; reply = Desk.Refused n 0 } })
+  module _ (room : messageSize ≤ length b) where
+    pub desk-full : maxEditNumber ≤ s .count → (n : ℕ) → n ≡ firstFault (s .sketch) 23 → DeskEdits s (record { edit = e; before = b; after = b; answer = record { replica = s; reply = Desk.Refused n 0 } })
     unfolding guard
-    desk-full h n f = desk-turned 23 n f (rw (le-leb 30 (length b) room, le-ltb (s .count) maxNumber h)) (λ z. omega arith) (λ z. omega arith)
+    desk-full h n f = desk-turned 23 n f (rw (le-leb messageSize (length b) room, le-ltb (s .count) maxEditNumber h)) (λ z. omega arith) (λ z. omega arith)
 
-    module _ (low : s .count < maxNumber) (r : Edited) (a : EditAnswer (e .operation) (s .sketch) (e .curve) (e .at) r) (f : isPick (e .at) ≡ true) where
+    module _ (low : s .count < maxEditNumber) (r : Edited) (a : EditAnswer (e .operation) (s .sketch) (e .curve) (e .at) r) (f : isPick (e .at) ≡ true) where
       came : sketchFault (s .sketch) ≡ 0 → callOutcome protocol (stateOf s) call ≡ withCount (s .count + 1) (outcomeOf r)
       unfolding guard
-      came h = rw (le-leb 30 (length b) room, lt-ltb (s .count) maxNumber low) (ap (withCount (s .count + 1)) (edit-is (s .sketch) e r a f h))
+      came h = rw (le-leb messageSize (length b) room, lt-ltb (s .count) maxEditNumber low) (ap (withCount (s .count + 1)) (edit-is (s .sketch) e r a f h))
 
       pub desk-declined :
           (r .refusal ≡ 0 → ⊥) → (place : ℕ) → place ≡ reportedPlace (r .refusal) (r .place)
@@ -75,11 +75,11 @@ module _ (s : Replica) (e : Edit) (b : List ℕ) where
 
       buffer-is : (now : List ℕ) (w : ℕ) → MessageWritten (messageFor (s .count + 1) e) b now w → now ≡ over b 0 (encode (messageFor (s .count + 1) e))
       unfolding guardNumber
-      buffer-is now w h = h .buffer ∙ rw (le-leb 1 (s .count + 1) (omega arith), le-leb 30 (length b) room)
+      buffer-is now w h = h .buffer ∙ rw (le-leb 1 (s .count + 1) (omega arith), le-leb messageSize (length b) room)
 
-      front : take 30 (over b 0 (encode (messageFor (s .count + 1) e))) ≡ encode (messageFor (s .count + 1) e)
+      front : take messageSize (over b 0 (encode (messageFor (s .count + 1) e))) ≡ encode (messageFor (s .count + 1) e)
       unfolding over
-      front = take-at (encode (messageFor (s .count + 1) e)) _ 30 (length-message (messageFor (s .count + 1) e))
+      front = take-at (encode (messageFor (s .count + 1) e)) _ messageSize (length-message (messageFor (s .count + 1) e))
 
       pub desk-done :
           r .refusal ≡ 0 → (now : List ℕ) (w : ℕ) → MessageWritten (messageFor (s .count + 1) e) b now w
@@ -90,7 +90,7 @@ module _ (s : Replica) (e : Edit) (b : List ℕ) where
             turned = λ g. absurd (accepted-sound (s .sketch) e r a g z);
             step = λ g.
                 let q = came g ∙ ap (withCount (s .count + 1)) (out-accepted (s .sketch) e r a z) in
-                record { state = sym (ap (stateAfter (stateOf s)) q); reply = ap (M.deskAccepted (r .removed)) (ap (take 30) is ∙ front) ∙ sym (ap (M.replyTo protocol e) q) };
+                record { state = sym (ap (stateAfter (stateOf s)) q); reply = ap (M.deskAccepted (r .removed)) (ap (take messageSize) is ∙ front) ∙ sym (ap (M.replyTo protocol e) q) };
             valid = λ g. a .valid z;
             place = λ g. tt;
             no-place = tt;

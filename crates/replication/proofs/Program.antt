@@ -16,6 +16,9 @@ use Rattle.sketch.specs.Valid.{sketchFault}
 use Rattle.sketch.proofs.Sketches.{sketch-valid}
 use Rattle.image.specs.Image as I
 use Rattle.image.specs.Encode.{encode, drawingSize, ImageWritten}
+use Rattle.image.specs.Image.{headerSize}
+use Rattle.image.specs.Message.{messageSize}
+use Rattle.image.specs.Records.{curveSize, pointSize, relationSize}
 use Rattle.agreement.specs.Machines.{State, initial}
 use Rattle.replication.specs.declared.Replica.{Replica}
 use Rattle.replication.specs.declared.Started.{Started}
@@ -65,20 +68,20 @@ fuel (suc n) zero [] h k = refl
 fuel (suc n) zero (b ∷ l) h k = absurd (omega arith)
 fuel (suc n) (suc m) [] h k = refl
 fuel (suc n) (suc m) (b ∷ l) h k =
-    let d : length (drop 30 (b ∷ l)) ≤ length l = omega (arith, length-drop 30 (b ∷ l)) in
-    ap (λ (ps : List (List ℕ)). take 30 (b ∷ l) ∷ ps) (fuel n m (drop 30 (b ∷ l)) (omega arith) (omega arith))
+    let d : length (drop messageSize (b ∷ l)) ≤ length l = omega (arith, length-drop messageSize (b ∷ l)) in
+    ap (λ (ps : List (List ℕ)). take messageSize (b ∷ l) ∷ ps) (fuel n m (drop messageSize (b ∷ l)) (omega arith) (omega arith))
 
-pieces-more : (l : List ℕ) → 0 < length l → chunks l ≡ take 30 l ∷ chunks (drop 30 l)
+pieces-more : (l : List ℕ) → 0 < length l → chunks l ≡ take messageSize l ∷ chunks (drop messageSize l)
 pieces-more [] h = absurd (omega arith)
 pieces-more (b ∷ l) h =
-    let d : length (drop 30 (b ∷ l)) ≤ length l = omega (arith, length-drop 30 (b ∷ l)) in
-    ap (λ (ps : List (List ℕ)). take 30 (b ∷ l) ∷ ps) (fuel (length l) (length (drop 30 (b ∷ l))) (drop 30 (b ∷ l)) d (omega arith))
+    let d : length (drop messageSize (b ∷ l)) ≤ length l = omega (arith, length-drop messageSize (b ∷ l)) in
+    ap (λ (ps : List (List ℕ)). take messageSize (b ∷ l) ∷ ps) (fuel (length l) (length (drop messageSize (b ∷ l))) (drop messageSize (b ∷ l)) d (omega arith))
 
 -- one more message
-more : (s : Replica) (l : List ℕ) → 0 < length l → (a : WallTransition) → sketchFault (s .sketch) ≡ 0 → WallDelivers s (wallCall (take 30 l) a)
-    → wallAfterMessages (stateOf (a .replica)) (chunks (drop 30 l)) ≡ wallAfterMessages (stateOf s) (chunks l)
+more : (s : Replica) (l : List ℕ) → 0 < length l → (a : WallTransition) → sketchFault (s .sketch) ≡ 0 → WallDelivers s (wallCall (take messageSize l) a)
+    → wallAfterMessages (stateOf (a .replica)) (chunks (drop messageSize l)) ≡ wallAfterMessages (stateOf s) (chunks l)
 more s l h a v w =
-    ap (λ (t : State Drawing). wallAfterMessages t (chunks (drop 30 l))) (w .step v .state) ∙ sym (ap (wallAfterMessages (stateOf s)) (pieces-more l h))
+    ap (λ (t : State Drawing). wallAfterMessages t (chunks (drop messageSize l))) (w .step v .state) ∙ sym (ap (wallAfterMessages (stateOf s)) (pieces-more l h))
 
 -- what the loop keeps
 pub record Follows (s₀ : Replica) (bytes : List ℕ) (s : Replica) (at : ℕ) : Type 0 where
@@ -87,16 +90,16 @@ pub record Follows (s₀ : Replica) (bytes : List ℕ) (s : Replica) (at : ℕ) 
   pub on : wallAfterMessages (stateOf s) (chunks (drop at bytes)) ≡ wallAfterMessages (stateOf s₀) (chunks bytes)
 
 pub follows-more :
-    (s₀ : Replica) (bytes : List ℕ) (s : Replica) (at r : ℕ) → Follows s₀ bytes s at → at < length bytes → r ≡ least 30 (length bytes - at) → r ≤ length bytes - at
+    (s₀ : Replica) (bytes : List ℕ) (s : Replica) (at r : ℕ) → Follows s₀ bytes s at → at < length bytes → r ≡ least messageSize (length bytes - at) → r ≤ length bytes - at
     → (a : WallTransition) → WallDelivers s (wallCall (take (at + r - at) (drop at bytes)) a) → Follows s₀ bytes (a .replica) (at + r)
 follows-more s₀ bytes s at r f h e le a w =
     let l = drop at bytes in
     let n : length l ≡ length bytes - at = length-drop at bytes in
     let q : at + r - at ≡ r = omega arith in
-    let e2 : r ≡ least 30 (length l) = e ∙ ap (least 30) (sym n) in
-    let t : take (at + r - at) l ≡ take 30 l = ap (λ (k : ℕ). take k l) (q ∙ e2) ∙ take-least 30 l in
-    let d : drop (at + r) bytes ≡ drop 30 l = sym (drop-drop r at bytes) ∙ ap (λ (k : ℕ). drop k l) e2 ∙ drop-least 30 l in
-    let w2 : WallDelivers s (wallCall (take 30 l) a) = subst (λ (m : List ℕ). WallDelivers s (wallCall m a)) t w in
+    let e2 : r ≡ least messageSize (length l) = e ∙ ap (least messageSize) (sym n) in
+    let t : take (at + r - at) l ≡ take messageSize l = ap (λ (k : ℕ). take k l) (q ∙ e2) ∙ take-least messageSize l in
+    let d : drop (at + r) bytes ≡ drop messageSize l = sym (drop-drop r at bytes) ∙ ap (λ (k : ℕ). drop k l) e2 ∙ drop-least messageSize l in
+    let w2 : WallDelivers s (wallCall (take messageSize l) a) = subst (λ (m : List ℕ). WallDelivers s (wallCall m a)) t w in
     record {
       within = omega arith;
       valid = w .valid (f .valid);
@@ -152,13 +155,13 @@ module _ (sk : Sketch) (v : sketchFault sk ≡ 0) (b now : List ℕ) (r : ℕ) (
       go false e n = record { size = rw e; buffer = buffer-is; within = omega arith }
 
   pub sketch-written : (p : length (sk .points) ≡ 512) (c : length (sk .curves) ≡ 128) (l : length (sk .relations) ≡ 256) → r ≡ 0
-      → WritesOutcome (I.accepted (view sk)) b now (15 + sk .npoints * 21 + sk .ncurves * 47 + sk .nrelations * 17)
+      → WritesOutcome (I.accepted (view sk)) b now (headerSize + sk .npoints * pointSize + sk .ncurves * curveSize + sk .nrelations * relationSize)
   sketch-written p c l z =
       let s = sketch-valid sk v .0 in
       let lp = length-take-le (sk .npoints) (sk .points) (omega (arith, s .points)) in
       let lc = length-take-le (sk .ncurves) (sk .curves) (omega (arith, s .curves)) in
       let lr = length-take-le (sk .nrelations) (sk .relations) (omega (arith, s .relations)) in
-      let size : drawingSize (view sk) ≡ 15 + sk .npoints * 21 + sk .ncurves * 47 + sk .nrelations * 17 = rw (lp, lc, length-map, lr) in
+      let size : drawingSize (view sk) ≡ headerSize + sk .npoints * pointSize + sk .ncurves * curveSize + sk .nrelations * relationSize = rw (lp, lc, length-map, lr) in
       let t = by-room (leb (drawingSize (view sk)) (length b)) refl number-is buffer-is z in
       record { size = rw t (sym size); buffer = buffer-is; within = omega (arith, size, leb-true (drawingSize (view sk)) (length b) t) }
 

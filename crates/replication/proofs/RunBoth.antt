@@ -13,13 +13,14 @@ use Rattle.sketch.specs.Drawing.{Drawing, view}
 use Rattle.sketch.proofs.Sketches.{sketch-valid}
 use Rattle.image.specs.Image as I
 use Rattle.image.proofs.RoundTrips.{verdict-accepted}
+use Rattle.image.specs.Message.{messageSize}
 use Rattle.agreement.specs.Machines.{State, initial, Call, calls, acceptedLog, messages, WallRun, wallAfter}
 use Rattle.agreement.proofs.Runs.{written, desk-messages}
 use Rattle.replication.specs.declared.Replica.{Replica}
 use Rattle.replication.specs.declared.Started.{Started}
 use Rattle.replication.specs.Protocol.{Edit, protocol}
 use Rattle.replication.specs.Transitions.{stateOf, Starts}
-use Rattle.replication.specs.RunBoth.{firstNonzero, callsIn, hasRoom, allBelow, DeskRan, messagesInLog, WallRan, InLog, RunsBoth}
+use Rattle.replication.specs.RunBoth.{firstNonzero, callsIn, hasRoom, allBelow, DeskRan, messagesInLog, WallRan, InLog, RunsBoth, callSize, maxRoom}
 use Rattle.replication.proofs.Demand3.{replication-correct}
 use Rattle.replication.proofs.Program.{verdict-none}
 use Rattle.replication.proofs.Runs.{Below, deliver, log-holds}
@@ -51,22 +52,22 @@ below-of n (o ∷ order) e = go (ltb o n) refl e (below-of n order)
     go true q e f (suc k) h = f e k (omega arith)
     go false q e f k h = let z : _≡_ {A = ℕ} 0 1 = cc in absurd (omega arith)
 
-pub within-log : (n : ℕ) (log order : List ℕ) → allBelow n order ≡ true → 30 * n ≤ length log → InLog log order
+pub within-log : (n : ℕ) (log order : List ℕ) → allBelow n order ≡ true → messageSize * n ≤ length log → InLog log order
 within-log n log order e f k h = let b = below-of n order e k h in omega arith
 
 -- ---- room
 
-pub room-short : (size room : ℕ) → room < 255 → false ≡ hasRoom size room
-room-short size room h = rw (lt-leb 255 room h)
+pub room-short : (size room : ℕ) → room < maxRoom → false ≡ hasRoom size room
+room-short size room h = rw (lt-leb maxRoom room h)
 
-pub room-enough : (size room : ℕ) → 255 ≤ room → leb (size / 22) ((room - 255) / 30) ≡ hasRoom size room
-room-enough size room h = rw (le-leb 255 room h)
+pub room-enough : (size room : ℕ) → maxRoom ≤ room → leb (size / callSize) ((room - maxRoom) / messageSize) ≡ hasRoom size room
+room-enough size room h = rw (le-leb maxRoom room h)
 
-pub room-is : (size room : ℕ) → hasRoom size room ≡ true → 30 * (size / 22) + 255 ≤ room
-room-is size room e = go (leb 255 room) refl (leb (size / 22) ((room - 255) / 30)) refl e
+pub room-is : (size room : ℕ) → hasRoom size room ≡ true → messageSize * (size / callSize) + maxRoom ≤ room
+room-is size room e = go (leb maxRoom room) refl (leb (size / callSize) ((room - maxRoom) / messageSize)) refl e
   where
-    go : (a : Bool) → leb 255 room ≡ a → (b : Bool) → leb (size / 22) ((room - 255) / 30) ≡ b → (a && b) ≡ true → 30 * (size / 22) + 255 ≤ room
-    go true p true q e = omega (arith, leb-true 255 room p, leb-true (size / 22) ((room - 255) / 30) q)
+    go : (a : Bool) → leb maxRoom room ≡ a → (b : Bool) → leb (size / callSize) ((room - maxRoom) / messageSize) ≡ b → (a && b) ≡ true → messageSize * (size / callSize) + maxRoom ≤ room
+    go true p true q e = omega (arith, leb-true maxRoom room p, leb-true (size / callSize) ((room - maxRoom) / messageSize) q)
     go true p false q e = let z : _≡_ {A = ℕ} 0 1 = cc in absurd (omega arith)
     go false p b q e = let z : _≡_ {A = ℕ} 0 1 = cc in absurd (omega arith)
 

@@ -12,7 +12,7 @@ use Rattle.big_endian.specs.Fields.{field, over}
 use Rattle.big_endian.specs.Laws.{length-over}
 use Rattle.sketch.specs.Drawing.{Drawing, view}
 use Rattle.sketch.specs.Valid.{sketchFault}
-use Rattle.image.specs.Message.{encode}
+use Rattle.image.specs.Message.{encode, messageSize}
 use Rattle.image.proofs.MessageRoundTrips.{length-message}
 use Rattle.cuts.specs.Columns.{rows}
 use Rattle.cuts.proofs.Rows.{rows-length}
@@ -29,7 +29,7 @@ use Rattle.replication.specs.declared.DeskTransition.{DeskTransition}
 use Rattle.replication.specs.declared.WallTransition.{WallTransition}
 use Rattle.replication.specs.Protocol.{Edit, messageFor, protocol}
 use Rattle.replication.specs.Transitions.{stateOf, deskReply, deskStep, written, DeskCall, DeskEdits, wallStep, wallCall, WallDelivers}
-use Rattle.replication.specs.RunBoth.{editAt, callAt, callsIn, concat, MessageSized, DeskRan, messagesInLog, WallRan, messagesAt}
+use Rattle.replication.specs.RunBoth.{editAt, callAt, callsIn, concat, MessageSized, DeskRan, messagesInLog, WallRan, messagesAt, roomAt, callSize, maxRoom}
 use Rattle.replication.proofs.Decoding.{need-accepted}
 
 -- ---- lists that grow at their end
@@ -64,22 +64,22 @@ pub ran-none : (s : Replica) → sketchFault (s .sketch) ≡ 0 → WallRan s [] 
 ran-none s v = record { steps = []; run = tt; fed = refl; ends = refl; valid = v }
 
 pub ran-more :
-    (s t : Replica) (log order : List ℕ) (j from : ℕ) (a : WallTransition) → j < length order → from ≡ getD order j 0 * 30 → WallRan s (messagesInLog log (take j order)) t
-    → WallDelivers t (wallCall (take (from + 30 - from) (drop from log)) a) → WallRan s (messagesInLog log (take (suc j) order)) (a .replica)
+    (s t : Replica) (log order : List ℕ) (j from : ℕ) (a : WallTransition) → j < length order → from ≡ getD order j 0 * messageSize → WallRan s (messagesInLog log (take j order)) t
+    → WallDelivers t (wallCall (take (from + messageSize - from) (drop from log)) a) → WallRan s (messagesInLog log (take (suc j) order)) (a .replica)
 ran-more s t log order j from a h f r w =
     let o = getD order j 0 in
-    let n : from + 30 - from ≡ 30 = omega arith in
-    let g : from ≡ 30 * o = omega arith in
-    let m : take (from + 30 - from) (drop from log) ≡ take 30 (drop (30 * o) log) = ap₂ (λ (k l : ℕ). take k (drop l log)) n g in
-    let w2 : WallDelivers t (wallCall (take 30 (drop (30 * o) log)) a) = subst (λ (m : List ℕ). WallDelivers t (wallCall m a)) m w in
-    let x = wallStep (wallCall (take 30 (drop (30 * o) log)) a) in
+    let n : from + messageSize - from ≡ messageSize = omega arith in
+    let g : from ≡ messageSize * o = omega arith in
+    let m : take (from + messageSize - from) (drop from log) ≡ take messageSize (drop (messageSize * o) log) = ap₂ (λ (k l : ℕ). take k (drop l log)) n g in
+    let w2 : WallDelivers t (wallCall (take messageSize (drop (messageSize * o) log)) a) = subst (λ (m : List ℕ). WallDelivers t (wallCall m a)) m w in
+    let x = wallStep (wallCall (take messageSize (drop (messageSize * o) log)) a) in
     record {
       steps = r .steps ++ (x ∷ []);
       run = wall-more (stateOf s) (r .steps) x (r .run) (subst (λ (u : State Drawing). WallStepValid protocol u x) (sym (r .ends)) (w2 .step (r .valid)));
       fed =
           map-more (λ (x : WallStep Drawing Removed). x .bytes) (r .steps) x
-          ∙ ap (λ (l : List (List ℕ)). l ++ (take 30 (drop (30 * o) log) ∷ [])) (r .fed)
-          ∙ sym (ap (messagesInLog log) (take-more order j h) ∙ map-more (λ (o : ℕ). take 30 (drop (30 * o) log)) (take j order) o);
+          ∙ ap (λ (l : List (List ℕ)). l ++ (take messageSize (drop (messageSize * o) log) ∷ [])) (r .fed)
+          ∙ sym (ap (messagesInLog log) (take-more order j h) ∙ map-more (λ (o : ℕ). take messageSize (drop (messageSize * o) log)) (take j order) o);
       ends = wall-after-more (stateOf s) (r .steps) x;
       valid = w .valid (r .valid);
     }
@@ -115,7 +115,7 @@ thirties-append (m ∷ xs) ys h k = (h .0, thirties-append xs ys (h .1) k)
 
 drew-none : (s : Replica) (log : List ℕ) → sketchFault (s .sketch) ≡ 0 → s .count ≡ 0 → DeskRan (view (s .sketch)) [] log s
 drew-none s log v z =
-    let n : 30 * s .count ≡ 0 = omega arith in
+    let n : messageSize * s .count ≡ 0 = omega arith in
     record {
       steps = [];
       run = tt;
@@ -135,7 +135,7 @@ module _ (d : Drawing) (cs : List (Call Edit)) (log : List ℕ) (w : Replica) (r
   reply = prependMessage (deskStep c .reply) []
 
   made :
-      (l : List ℕ) → concat (messages (r .steps)) ++ concat reply ≡ take (30 * c .answer .replica .count) l → 30 * c .answer .replica .count ≤ length l
+      (l : List ℕ) → concat (messages (r .steps)) ++ concat reply ≡ take (messageSize * c .answer .replica .count) l → messageSize * c .answer .replica .count ≤ length l
       → length (messages (r .steps)) + length reply ≡ c .answer .replica .count → c .answer .replica .count ≤ length cs + 1 → MessageSized reply
       → DeskRan d (cs ++ (deskStep c .call ∷ [])) l (c .answer .replica)
   made l lg ft mn fw tw =
@@ -154,17 +154,17 @@ module _ (d : Drawing) (cs : List (Call Edit)) (log : List ℕ) (w : Replica) (r
       }
 
 -- what an accepted call needed
-room-of : (s : State Drawing) (c : Call Edit) (t : State Drawing) (q : Removed) → callOutcome protocol s c ≡ accepted t q → (30 ≤ c .room) × (t .count ≡ s .count + 1)
+room-of : (s : State Drawing) (c : Call Edit) (t : State Drawing) (q : Removed) → callOutcome protocol s c ≡ accepted t q → (messageSize ≤ c .room) × (t .count ≡ s .count + 1)
 room-of s c t q e =
     let k : Holds (Step protocol s (c .edit)) (accepted t q) = subst (Holds (Step protocol s (c .edit))) e (called protocol s c) in
-    (leb-true 30 (c .room) (need-accepted (leb 30 (c .room)) 25 _ t q e .0), k .next)
+    (leb-true messageSize (c .room) (need-accepted (leb messageSize (c .room)) 25 _ t q e .0), k .next)
 
 module _
     (d : Drawing) (cs : List (Call Edit)) (log : List ℕ) (w : Replica) (r : DeskRan d cs log w)
-    (e : Edit) (room : ℕ) (fits : 30 * w .count + room ≤ length log)
+    (e : Edit) (room : ℕ) (fits : messageSize * w .count + room ≤ length log)
   where
     abbrev from : ℕ
-    from = 30 * w .count
+    from = messageSize * w .count
 
     abbrev lent : List ℕ
     lent = midOf from room log
@@ -175,13 +175,13 @@ module _
     by-case :
         (y : Replica) (t : DeskReply) (p : List ℕ) (step : DeskEdits w (record { edit = e; before = lent; after = p; answer = record { replica = y; reply = t } }))
         → (o : Outcome (State Drawing) Removed) → callOutcome protocol (stateOf w) (record { edit = e; room = length lent }) ≡ o
-        → stateOf y ≡ stateAfter (stateOf w) o → deskReply t (take 30 p) ≡ M.replyTo protocol e o → p ≡ written t (y .count) e lent
+        → stateOf y ≡ stateAfter (stateOf w) o → deskReply t (take messageSize p) ≡ M.replyTo protocol e o → p ≡ written t (y .count) e lent
         → DeskRan d (cs ++ (record { edit = e; room = length lent } ∷ [])) (putMid from room log p) y × (length (putMid from room log p) ≡ length log)
     by-case y (Desk.Refused k place) p step (refused n) v sd td wr =
         let c : y .count ≡ w .count = ap (λ (u : State Drawing). u .count) sd in
         let l : putMid from room log p ≡ log = ap (putMid from room log) wr ∙ put-same from room log in (
           made d cs log w r _ step (putMid from room log p)
-              (append-nil (concat (messages (r .steps))) ∙ r .logged ∙ ap (λ (n : ℕ). take (30 * n) log) (sym c) ∙ ap (take (30 * y .count)) (sym l))
+              (append-nil (concat (messages (r .steps))) ∙ r .logged ∙ ap (λ (n : ℕ). take (messageSize * n) log) (sym c) ∙ ap (take (messageSize * y .count)) (sym l))
               (omega (arith, ap length l, r .fits)) (omega (arith, r .many)) (omega (arith, r .few)) tt,
           ap length l,
         )
@@ -190,18 +190,18 @@ module _
     by-case y (Desk.Accepted q) p step (accepted u q′) v sd td wr =
         let x = room-of (stateOf w) (record { edit = e; room = length lent }) u q′ v in
         let c : y .count ≡ w .count + 1 = ap (λ (u : State Drawing). u .count) sd ∙ x .1 in
-        let le : 30 ≤ length lent = x .0 in
+        let le : messageSize ≤ length lent = x .0 in
         let msg = encode (messageFor (y .count) e) in
-        let lm : length msg ≡ 30 = length-message (messageFor (y .count) e) in
+        let lm : length msg ≡ messageSize = length-message (messageFor (y .count) e) in
         let lp : length p ≡ length lent = ap length wr ∙ length-over lent 0 msg (omega arith) in
         let ll : length (putMid from room log p) ≡ length log = same-len-mid from room log p lp in
-        let tp : take 30 (p ++ drop room (drop from log)) ≡ take 30 p = take-append-le 30 p (drop room (drop from log)) (omega arith) in
-        let t2 : length (take 30 p) ≡ 30 = length-take 30 p ∙ omega arith in
-        let n2 : from + 30 ≡ 30 * y .count = omega arith in (
+        let tp : take messageSize (p ++ drop room (drop from log)) ≡ take messageSize p = take-append-le messageSize p (drop room (drop from log)) (omega arith) in
+        let t2 : length (take messageSize p) ≡ messageSize = length-take messageSize p ∙ omega arith in
+        let n2 : from + messageSize ≡ messageSize * y .count = omega arith in (
           made d cs log w r _ step (putMid from room log p)
-              (ap (λ (l : List ℕ). l ++ (take 30 p ++ [])) (r .logged)
-              ∙ ap (λ (l : List ℕ). take from log ++ l) (append-nil (take 30 p) ∙ sym tp)
-              ∙ sym (take-past log (p ++ drop room (drop from log)) from 30 (r .fits))
+              (ap (λ (l : List ℕ). l ++ (take messageSize p ++ [])) (r .logged)
+              ∙ ap (λ (l : List ℕ). take from log ++ l) (append-nil (take messageSize p) ∙ sym tp)
+              ∙ sym (take-past log (p ++ drop room (drop from log)) from messageSize (r .fits))
               ∙ ap (λ (n : ℕ). take n (putMid from room log p)) n2)
               (omega (arith, lent-long)) (omega (arith, r .many)) (omega (arith, r .few)) (t2, tt),
           ll,
@@ -217,25 +217,25 @@ module _
 
 -- the next call of a list
 pub drew-next :
-    (d : Drawing) (entries log : List ℕ) (i : ℕ) (w : Replica) → i < length entries / 22 → 30 * (length entries / 22) + 255 ≤ length log
-    → DeskRan d (rows i (callAt entries)) log w → (from k : ℕ) → from ≡ 30 * w .count → k ≡ field entries (i * 22 + 21) 1 → k < 256
-    → (a : DeskTransition) (p : List ℕ) → DeskEdits w (record { edit = editAt entries (i * 22); before = midOf from k log; after = p; answer = a })
+    (d : Drawing) (entries log : List ℕ) (i : ℕ) (w : Replica) → i < length entries / callSize → messageSize * (length entries / callSize) + maxRoom ≤ length log
+    → DeskRan d (rows i (callAt entries)) log w → (from k : ℕ) → from ≡ messageSize * w .count → k ≡ field entries (i * callSize + roomAt) 1 → k < 256
+    → (a : DeskTransition) (p : List ℕ) → DeskEdits w (record { edit = editAt entries (i * callSize); before = midOf from k log; after = p; answer = a })
     → DeskRan d (rows (suc i) (callAt entries)) (putMid from k log p) (a .replica) × (length (putMid from k log p) ≡ length log)
 unfolding rows
 drew-next d entries log i w h room r from k f g small a p =
     let few : w .count ≤ i = omega (arith, r .few, rows-length i (callAt entries)) in
-    let fits : 30 * w .count + field entries (i * 22 + 21) 1 ≤ length log = omega arith in
+    let fits : messageSize * w .count + field entries (i * callSize + roomAt) 1 ≤ length log = omega arith in
     subst
-    (λ (n : ℕ). DeskEdits w (record { edit = editAt entries (i * 22); before = midOf n k log; after = p; answer = a })
+    (λ (n : ℕ). DeskEdits w (record { edit = editAt entries (i * callSize); before = midOf n k log; after = p; answer = a })
     → DeskRan d (rows i (callAt entries) ++ (callAt entries i ∷ [])) (putMid n k log p) (a .replica) × (length (putMid n k log p) ≡ length log))
     (sym f)
     (subst
-    (λ (m : ℕ). DeskEdits w (record { edit = editAt entries (i * 22); before = midOf (30 * w .count) m log; after = p; answer = a })
-    → DeskRan d (rows i (callAt entries) ++ (callAt entries i ∷ [])) (putMid (30 * w .count) m log p) (a .replica) × (length (putMid (30 * w .count) m log p) ≡ length log))
+    (λ (m : ℕ). DeskEdits w (record { edit = editAt entries (i * callSize); before = midOf (messageSize * w .count) m log; after = p; answer = a })
+    → DeskRan d (rows i (callAt entries) ++ (callAt entries i ∷ [])) (putMid (messageSize * w .count) m log p) (a .replica) × (length (putMid (messageSize * w .count) m log p) ≡ length log))
     (sym g)
-    (drew-more d (rows i (callAt entries)) log w r (editAt entries (i * 22)) (field entries (i * 22 + 21) 1) fits a p))
+    (drew-more d (rows i (callAt entries)) log w r (editAt entries (i * callSize)) (field entries (i * callSize + roomAt) 1) fits a p))
 
-pub drew-all : (d : Drawing) (entries log : List ℕ) (i : ℕ) (w : Replica) → i ≡ length entries / 22 → DeskRan d (rows i (callAt entries)) log w → DeskRan d (callsIn entries) log w
+pub drew-all : (d : Drawing) (entries log : List ℕ) (i : ℕ) (w : Replica) → i ≡ length entries / callSize → DeskRan d (rows i (callAt entries)) log w → DeskRan d (callsIn entries) log w
 drew-all d entries log i w h r = subst (λ (n : ℕ). DeskRan d (rows n (callAt entries)) log w) h r
 
 pub drew-start : (s : Replica) (entries log : List ℕ) → sketchFault (s .sketch) ≡ 0 → s .count ≡ 0 → DeskRan (view (s .sketch)) (rows 0 (callAt entries)) log s
@@ -251,14 +251,14 @@ same-edit s b a r e e′ o t x y =
 
 -- ---- messages by their place in the log
 
-nth : (ms : List (List ℕ)) (rest : List ℕ) (o : ℕ) → MessageSized ms → o < length ms → take 30 (drop (30 * o) (concat ms ++ rest)) ≡ getD ms o []
+nth : (ms : List (List ℕ)) (rest : List ℕ) (o : ℕ) → MessageSized ms → o < length ms → take messageSize (drop (messageSize * o) (concat ms ++ rest)) ≡ getD ms o []
 nth [] rest o t h = absurd (omega arith)
-nth (m ∷ ms) rest zero t h = ap (take 30) (append-assoc m (concat ms) rest) ∙ take-at m (concat ms ++ rest) 30 (t .0)
+nth (m ∷ ms) rest zero t h = ap (take messageSize) (append-assoc m (concat ms) rest) ∙ take-at m (concat ms ++ rest) messageSize (t .0)
 nth (m ∷ ms) rest (suc o) t h =
     let l = t .0 in
-    let n : 30 * suc o ≡ length m + 30 * o = omega arith in
-    ap₂ (λ (k : ℕ) (l : List ℕ). take 30 (drop k l)) n (append-assoc m (concat ms) rest)
-    ∙ ap (take 30) (drop-append-add m (concat ms ++ rest) (30 * o))
+    let n : messageSize * suc o ≡ length m + messageSize * o = omega arith in
+    ap₂ (λ (k : ℕ) (l : List ℕ). take messageSize (drop k l)) n (append-assoc m (concat ms) rest)
+    ∙ ap (take messageSize) (drop-append-add m (concat ms ++ rest) (messageSize * o))
     ∙ nth ms rest o (t .1) (omega arith)
 
 member : (ms : List (List ℕ)) (o : ℕ) → o < length ms → List·Memᴰ (getD ms o []) ms
@@ -280,7 +280,7 @@ deliver ms (o ∷ order) (x ∷ xs) b e =
     let q : map (λ (x : WallStep Drawing Removed). x .bytes) xs ≡ messagesAt ms order = cc in
     (subst (λ (m : List ℕ). List·Memᴰ m ms) (sym p) (member ms o (b 0 (omega arith))), deliver ms order xs (λ k h. b (suc k) (omega arith)) q)
 
-places : (ms : List (List ℕ)) (log order : List ℕ) → Below (length ms) order → ((o : ℕ) → o < length ms → take 30 (drop (30 * o) log) ≡ getD ms o []) → messagesInLog log order ≡ messagesAt ms order
+places : (ms : List (List ℕ)) (log order : List ℕ) → Below (length ms) order → ((o : ℕ) → o < length ms → take messageSize (drop (messageSize * o) log) ≡ getD ms o []) → messagesInLog log order ≡ messagesAt ms order
 places ms log [] b h = refl
 places ms log (o ∷ order) b h = ap₂ (λ (m : List ℕ) (l : List (List ℕ)). m ∷ l) (h o (b 0 (omega arith))) (places ms log order (λ k p. b (suc k) (omega arith)) h)
 
@@ -289,5 +289,5 @@ log-holds d cs log order w r b =
     let ms = messages (r .steps) in
     places ms log order (λ k h. omega (arith, b k h, r .many))
     (λ o h.
-    ap (λ (l : List ℕ). take 30 (drop (30 * o) l)) (sym (take-append-drop (30 * w .count) log) ∙ ap (λ (l : List ℕ). l ++ drop (30 * w .count) log) (sym (r .logged)))
-    ∙ nth ms (drop (30 * w .count) log) o (r .sizes) h)
+    ap (λ (l : List ℕ). take messageSize (drop (messageSize * o) l)) (sym (take-append-drop (messageSize * w .count) log) ∙ ap (λ (l : List ℕ). l ++ drop (messageSize * w .count) log) (sym (r .logged)))
+    ∙ nth ms (drop (messageSize * w .count) log) o (r .sizes) h)

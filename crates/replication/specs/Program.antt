@@ -10,6 +10,7 @@ use Rattle.sketch.specs.Drawing.{Drawing}
 use Rattle.sketch.specs.Valid.{sketchFault}
 use Rattle.image.specs.Image as I
 use Rattle.image.specs.Encode.{encode, drawingSize}
+use Rattle.image.specs.Message.{messageSize}
 use Rattle.agreement.specs.Machines.{State, initial, wallTransition}
 use Rattle.replication.specs.declared.Replica.{Replica}
 use Rattle.replication.specs.Protocol.{protocol}
@@ -23,7 +24,7 @@ imageEnd s = 4 + field s 0 4
 abbrev pub chunksUpTo : ℕ → List ℕ → List (List ℕ)
 chunksUpTo zero s = []
 chunksUpTo (suc n) [] = []
-chunksUpTo (suc n) (b ∷ s) = take 30 (b ∷ s) ∷ chunksUpTo n (drop 30 (b ∷ s))
+chunksUpTo (suc n) (b ∷ s) = take messageSize (b ∷ s) ∷ chunksUpTo n (drop messageSize (b ∷ s))
 
 abbrev pub chunks : List ℕ → List (List ℕ)
 chunks s = chunksUpTo (length s) s

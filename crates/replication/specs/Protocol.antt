@@ -8,7 +8,7 @@ use Rattle.image.specs.declared.Operation.{Operation}
 use Rattle.image.specs.declared.Message.{Message}
 use Rattle.image.specs.declared.MessageRead.{MessageRead}
 use Rattle.image.specs.declared.MessageRead.the-variants.{Accepted, Refused}
-use Rattle.image.specs.Message.{parse, encode}
+use Rattle.image.specs.Message.{messageSize, parse, encode}
 use Rattle.edit_plan.specs.declared.Removed.{Removed}
 use Rattle.edit_plan.specs.Outcome.{Outcome, guard}
 use Rattle.modify.specs.Edits.{editOf}
@@ -40,7 +40,7 @@ decodedOf (Accepted m) = message (m .number) (editIn m)
 decodedOf (Refused k) = invalid k
 
 abbrev pub protocol : Protocol Drawing Edit Removed
-protocol = record { edit = edit; encode = λ n e. encode (messageFor n e); decode = λ s. decodedOf (parse s) }
+protocol = record { edit = edit; messageSize = messageSize; encode = λ n e. encode (messageFor n e); decode = λ s. decodedOf (parse s) }
 
 -- the curve that an edit is made on
 abbrev pub target : Edit → ℕ

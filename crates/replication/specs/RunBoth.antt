@@ -10,8 +10,9 @@ use Rattle.big_endian.specs.Fields.{field}
 use Rattle.sketch.specs.Lists.{every, guardNumber}
 use Rattle.sketch.specs.Drawing.{Drawing}
 use Rattle.sketch.specs.Valid.{sketchFault}
-use Rattle.image.specs.Message.{operationOf}
+use Rattle.image.specs.Message.{operationOf, messageSize}
 use Rattle.image.specs.Image as I
+use Rattle.image.specs.Records.{idSize}
 use Rattle.cuts.specs.Columns.{rows}
 use Rattle.edit_plan.specs.declared.Removed.{Removed}
 use Rattle.agreement.specs.Machines.{initial, Call, acceptedLog, DeskStep, calls, deskAfter, messages, DeskRun, WallStep, wallAfter, WallRun}
@@ -26,22 +27,32 @@ abbrev pub firstNonzero : ℕ → ℕ → ℕ
 firstNonzero zero m = m
 firstNonzero (suc n) m = suc n
 
--- ---- the desk's list, 22 bytes a call: operation, curve 4, the pick's bits 8 and 8, the room lent
+-- ---- the desk's list, call by call: operation, curve id, the pick's bits 8 and 8, the room lent
+
+abbrev pub roomAt : ℕ
+roomAt = 1 + idSize + 8 + 8
+
+abbrev pub callSize : ℕ
+callSize = roomAt + 1
+
+-- the most room that a call's byte can tell
+abbrev pub maxRoom : ℕ
+maxRoom = 255
 
 abbrev pub editAt : List ℕ → ℕ → Edit
 editAt s at =
     record {
       operation = operationOf (field s at 1);
-      curve = field s (at + 1) 4;
-      at = record { x = ofBits binary64 (field s (at + 5) 8); y = ofBits binary64 (field s (at + 13) 8) };
+      curve = field s (at + 1) idSize;
+      at = record { x = ofBits binary64 (field s (at + (1 + idSize)) 8); y = ofBits binary64 (field s (at + (1 + idSize + 8)) 8) };
     }
 
 abbrev pub callAt : List ℕ → ℕ → Call Edit
-callAt s i = record { edit = editAt s (i * 22); room = field s (i * 22 + 21) 1 }
+callAt s i = record { edit = editAt s (i * callSize); room = field s (i * callSize + roomAt) 1 }
 
 -- a shorter rest is passed over
 abbrev pub callsIn : List ℕ → List (Call Edit)
-callsIn s = rows (length s / 22) (callAt s)
+callsIn s = rows (length s / callSize) (callAt s)
 
 -- ---- the wall's list: which of the desk's messages, by place
 
@@ -51,7 +62,7 @@ messagesAt ms order = map (λ o. getD ms o []) order
 -- ---- who is turned away: the image; a log that may not hold all messages and the room lent beside them (25); a place at which there is no message (7)
 
 abbrev pub hasRoom : ℕ → ℕ → Bool
-hasRoom size room = leb 255 room && leb (size / 22) ((room - 255) / 30)
+hasRoom size room = leb maxRoom room && leb (size / callSize) ((room - maxRoom) / messageSize)
 
 abbrev pub allBelow : ℕ → List ℕ → Bool
 allBelow n order = every (λ o. ltb o n) order
@@ -89,7 +100,7 @@ concat (m ∷ ms) = m ++ concat ms
 
 abbrev pub MessageSized : List (List ℕ) → Type 0
 MessageSized [] = Unit {0}
-MessageSized (m ∷ ms) = (length m ≡ 30) × MessageSized ms
+MessageSized (m ∷ ms) = (length m ≡ messageSize) × MessageSized ms
 
 -- a run of the desk over some calls, its messages one after the other at the front of the log
 pub record DeskRan (start : Drawing) (cs : List (Call Edit)) (log : List ℕ) (t : Replica) : Type 0 where
@@ -97,8 +108,8 @@ pub record DeskRan (start : Drawing) (cs : List (Call Edit)) (log : List ℕ) (t
   pub run : DeskRun protocol (initial start) steps
   pub fed : calls steps ≡ cs
   pub ends : deskAfter (initial start) steps ≡ stateOf t
-  pub logged : concat (messages steps) ≡ take (30 * t .count) log
-  pub fits : 30 * t .count ≤ length log
+  pub logged : concat (messages steps) ≡ take (messageSize * t .count) log
+  pub fits : messageSize * t .count ≤ length log
   pub many : length (messages steps) ≡ t .count
   pub few : t .count ≤ length cs
   pub sizes : MessageSized (messages steps)
@@ -106,7 +117,7 @@ pub record DeskRan (start : Drawing) (cs : List (Call Edit)) (log : List ℕ) (t
 
 -- a run of the wall over the messages at some places of a log
 abbrev pub messagesInLog : List ℕ → List ℕ → List (List ℕ)
-messagesInLog log order = map (λ o. take 30 (drop (30 * o) log)) order
+messagesInLog log order = map (λ o. take messageSize (drop (messageSize * o) log)) order
 
 pub record WallRan (s : Replica) (ds : List (List ℕ)) (t : Replica) : Type 0 where
   pub steps : List (WallStep Drawing Removed)
@@ -117,4 +128,4 @@ pub record WallRan (s : Replica) (ds : List (List ℕ)) (t : Replica) : Type 0 w
 
 -- each place's message lies in the log
 abbrev pub InLog : List ℕ → List ℕ → Type 0
-InLog log order = (k : ℕ) → k < length order → 30 * getD order k 0 + 30 ≤ length log
+InLog log order = (k : ℕ) → k < length order → messageSize * getD order k 0 + messageSize ≤ length log

@@ -15,7 +15,7 @@ use Rattle.image.specs.declared.Operation.{Operation}
 use Rattle.image.specs.declared.Operation.the-variants.{Extend}
 use Rattle.image.specs.declared.Message.{Message}
 use Rattle.image.specs.declared.MessageRead.the-variants.{Accepted}
-use Rattle.image.specs.Message.{parse, encode}
+use Rattle.image.specs.Message.{parse, encode, messageSize}
 use Rattle.image.specs.Image as I
 use Rattle.relations.specs.Met.{unmetAt}
 use Rattle.edit_plan.specs.declared.Removed.{Removed}
@@ -81,7 +81,7 @@ deskStep c =
     record {
       call = record { edit = c .edit; room = length (c .before) };
       state = stateOf (c .answer .replica);
-      reply = deskReply (c .answer .reply) (take 30 (c .after));
+      reply = deskReply (c .answer .reply) (take messageSize (c .after));
     }
 
 -- what is left in the buffer: the message at its front, or all as it was

@@ -1,23 +1,22 @@
 // The desk: a person's edit, and the message of it.
 use crate::DeskReply;
 use crate::DeskTransition;
-use crate::MESSAGE;
 use crate::Replica;
 use crate::refusals::first_fault;
 use crate::refusals::reported_place;
 use geom::Vec2;
+use image::MAX_EDIT_NUMBER;
+use image::MESSAGE_SIZE;
 use image::Message;
 use image::Operation;
+use sketch::Id;
 ghost use Rattle.replication.specs.Transitions.{DeskEdits, deskCall};
-
-// The largest number of an edit.
-const LAST_NUMBER: u32 = 4294967295;
 
 // Makes an edit, counts it and writes its message to the buffer's front; or refuses it and leaves the screen and the buffer.
 pub fn desk_edit(
     replica: Replica,
     operation: Operation,
-    curve: u32,
+    curve: Id,
     x: f64,
     y: f64,
     out: &mut [u8],
@@ -26,13 +25,13 @@ pub fn desk_edit(
 {
     let sk = replica.sketch;
     let count = replica.count;
-    if out.len() < MESSAGE {
+    if out.len() < MESSAGE_SIZE {
         return DeskTransition {
             replica,
             reply: DeskReply::Refused(first_fault(sk, 25), 0),
         };
     }
-    if LAST_NUMBER <= count {
+    if MAX_EDIT_NUMBER <= count {
         return DeskTransition {
             replica,
             reply: DeskReply::Refused(first_fault(sk, 23), 0),

@@ -9,19 +9,17 @@ mod wall_program;
 
 pub use desk::desk_edit;
 use edit_plan::Removed;
+use image::EditNumber;
 pub use run_lists::run_both;
 use sketch::Sketch;
 pub use starting::start;
 pub use wall::wall_deliver;
 pub use wall_program::run_program;
 
-// A message's size in bytes.
-pub(crate) const MESSAGE: usize = 30;
-
 // A replica's state: a sketch, and how many edits were applied to it (01's count).
 pub struct Replica {
     pub sketch: Sketch,
-    pub count: u32,
+    pub count: EditNumber,
 }
 
 // What a side starts with: the image's sketch at count 0, or the number that the image is refused by and an empty sketch.

@@ -1,6 +1,5 @@
 // Desk and wall together, each over its whole list: the edits to the desk, then the desk's messages to the wall.
 use crate::DeskTransition;
-use crate::MESSAGE;
 use crate::Replica;
 use crate::RunResult;
 use crate::desk::desk_edit;
@@ -10,6 +9,8 @@ use crate::wall::wall_deliver;
 use big_endian::get1;
 use big_endian::get4;
 use big_endian::get8;
+use image::ID_SIZE;
+use image::MESSAGE_SIZE;
 use image::operation_of;
 ghost use mathlib.Core.Path.{_≡_};
 ghost use Prim.Native.Nat.{_+_, _*_, _/_, _≤_};
@@ -18,12 +19,21 @@ ghost use lib.Ieee.{ofBits, binary64};
 ghost use Rattle.sketch.specs.Drawing.{view};
 ghost use Rattle.sketch.specs.Valid.{sketchFault};
 ghost use Rattle.replication.specs.Transitions.{DeskEdits};
-ghost use Rattle.replication.specs.RunBoth.{editAt, callsIn, hasRoom, allBelow, DeskRan, messagesInLog, WallRan, InLog, RunsBoth};
+ghost use Rattle.replication.specs.RunBoth.{editAt, callsIn, hasRoom, allBelow, DeskRan, messagesInLog, WallRan, InLog, RunsBoth, callSize, maxRoom};
+ghost use Rattle.image.specs.Message.{messageSize};
 
-// A call's bytes in the desk's list, and the most room that it can ask for.
-const CALL: usize = 22;
+// Where the parts of a call stand in the desk's list: operation, curve, the pick's x and y, the room, which is one byte.
+const CURVE_AT: usize = 1;
 
-const MOST_ROOM: usize = 255;
+const X_AT: usize = CURVE_AT + ID_SIZE;
+
+const Y_AT: usize = X_AT + 8;
+
+const ROOM_AT: usize = Y_AT + 8;
+
+const CALL_SIZE: usize = ROOM_AT + 1;
+
+const MAX_ROOM: usize = 255;
 
 // A NaN's bits give the NaN.
 fn coordinate(bits: u64) -> f64
@@ -37,26 +47,26 @@ fn coordinate(bits: u64) -> f64
 
 // The call at a place of the desk's list.
 fn desk_edit_at(replica: Replica, entries: &[u8], at: usize, out: &mut [u8]) -> DeskTransition
-    requires { ⌜ at + 22 ≤ length (now entries) ⌝ }
+    requires { ⌜ at + callSize ≤ length (now entries) ⌝ }
     ensures { λ r. ⌜ DeskEdits replica (record { edit = editAt (now (entries .entry)) at; before = now (out .entry); after = now (out .exit); answer = r }) ⌝ }
 {
     let operation = operation_of(get1(entries, at));
-    let x = coordinate(get8(entries, at + 5));
-    let y = coordinate(get8(entries, at + 13));
-    desk_edit(replica, operation, get4(entries, at + 1), x, y, out)
+    let x = coordinate(get8(entries, at + X_AT));
+    let y = coordinate(get8(entries, at + Y_AT));
+    desk_edit(replica, operation, get4(entries, at + CURVE_AT), x, y, out)
 }
 
 // Each call on the screen that the one before left, the messages one after the other in the log.
 fn run_desk(replica: Replica, entries: &[u8], log: &mut [u8]) -> Replica
-    requires { ⌜ (sketchFault (replica .sketch) ≡ 0) × (replica .count ≡ 0) × (30 * (length (now entries) / 22) + 255 ≤ length (now log)) ⌝ }
+    requires { ⌜ (sketchFault (replica .sketch) ≡ 0) × (replica .count ≡ 0) × (messageSize * (length (now entries) / callSize) + maxRoom ≤ length (now log)) ⌝ }
     ensures { λ r. ⌜ DeskRan (view (replica .sketch)) (callsIn (now (entries .entry))) (now (log .exit)) r × (length (now (log .exit)) ≡ length (now (log .entry))) ⌝ }
 {
     let mut last = replica;
     let mut i = 0usize;
-    while i < entries.len() / CALL {
-        let from = last.count as usize * MESSAGE;
-        let to = from + get1(entries, i * CALL + 21) as usize;
-        let answer = desk_edit_at(last, entries, i * CALL, &mut log[from..to]);
+    while i < entries.len() / CALL_SIZE {
+        let from = last.count as usize * MESSAGE_SIZE;
+        let to = from + get1(entries, i * CALL_SIZE + ROOM_AT) as usize;
+        let answer = desk_edit_at(last, entries, i * CALL_SIZE, &mut log[from..to]);
         last = answer.replica;
         i += 1;
     }
@@ -71,8 +81,8 @@ fn run_wall(replica: Replica, log: &[u8], order: &[usize]) -> Replica
     let mut last = replica;
     let mut j = 0usize;
     while j < order.len() {
-        let from = order[j] * MESSAGE;
-        let to = from + MESSAGE;
+        let from = order[j] * MESSAGE_SIZE;
+        let to = from + MESSAGE_SIZE;
         let answer = wall_deliver(last, &log[from..to]);
         last = answer.replica;
         j += 1;
@@ -84,10 +94,10 @@ fn run_wall(replica: Replica, log: &[u8], order: &[usize]) -> Replica
 fn has_room(size: usize, room: usize) -> bool
     ensures { λ r. ⌜ r ≡ hasRoom size room ⌝ }
 {
-    if room < MOST_ROOM {
+    if room < MAX_ROOM {
         return false;
     }
-    size / CALL <= (room - MOST_ROOM) / MESSAGE
+    size / CALL_SIZE <= (room - MAX_ROOM) / MESSAGE_SIZE
 }
 
 fn all_below(order: &[usize], n: usize) -> bool

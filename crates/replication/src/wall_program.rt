@@ -1,9 +1,13 @@
 // The wall's program on slices: an image, then the messages after it.
-use crate::MESSAGE;
 use crate::Replica;
 use crate::starting::start;
 use crate::wall::wall_deliver;
 use big_endian::get4;
+use image::CURVE_SIZE;
+use image::HEADER_SIZE;
+use image::MESSAGE_SIZE;
+use image::POINT_SIZE;
+use image::RELATION_SIZE;
 use sketch::Sketch;
 ghost use mathlib.Core.Path.{_≡_};
 ghost use Prim.Native.Nat.{_≤_};
@@ -28,7 +32,7 @@ fn deliver_all(replica: Replica, bytes: &[u8]) -> Replica
     let mut last = replica;
     let mut at = 0usize;
     while at < bytes.len() {
-        let end = at + min(MESSAGE, bytes.len() - at);
+        let end = at + min(MESSAGE_SIZE, bytes.len() - at);
         let answer = wall_deliver(last, &bytes[at..end]);
         last = answer.replica;
         at = end;
@@ -62,7 +66,7 @@ fn write_sketch(sk: Sketch, out: &mut [u8]) -> usize
     let np = sk.npoints;
     let nc = sk.ncurves;
     let nr = sk.nrelations;
-    15 + np * 21 + nc * 47 + nr * 17
+    HEADER_SIZE + np * POINT_SIZE + nc * CURVE_SIZE + nr * RELATION_SIZE
 }
 
 // Reads an image and the messages after it, and writes the last image to the buffer's front, or the number that the image is

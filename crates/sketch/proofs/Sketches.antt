@@ -85,7 +85,7 @@ module _ (s : Sketch) where
   abbrev pointsRest : ℕ
   pointsRest = pointsFault (s .next) (view s .points) (shapesFault (view s))
 
-  in-order : Sized s → sketchFault s ≡ guardNumber (leb 1 (s .next) && leb (s .next) 4294967295) 4 pointsRest
+  in-order : Sized s → sketchFault s ≡ guardNumber (leb 1 (s .next) && leb (s .next) (limits .ids)) 4 pointsRest
   unfolding guardNumber
   in-order z =
       rw (counts z, fits (s .npoints) 512 (s .points) (z .points), fits (s .ncurves) 128 (s .curves) (z .curves), fits-mapped (λ r. r .relation) (s .nrelations) 256 (s .relations) (z .relations))
@@ -113,9 +113,9 @@ module _ (s : Sketch) where
     pub beside : take (s .ncurves) sorts ≡ sortsOf (view s .curves)
     pub rise : Ascends (take (s .ncurves) ids)
 
-  pub begun : Sized s → 1 ≤ s .next → s .next ≤ 4294967295 → Begun
+  pub begun : Sized s → 1 ≤ s .next → s .next ≤ limits .ids → Begun
   unfolding guardNumber
-  begun z low high = record { rest = in-order z ∙ rw (le-leb 1 (s .next) low, le-leb (s .next) 4294967295 high) }
+  begun z low high = record { rest = in-order z ∙ rw (le-leb 1 (s .next) low, le-leb (s .next) (limits .ids) high) }
 
 module _ {s : Sketch} (g : Begun s) {before ids : List ℕ} {p : ℕ} (t : PointsChecked (s .next) (view s .points) (s .npoints) before ids p) where
   pub fault-points : (p ≡ 0 → ⊥) → p ≡ sketchFault s

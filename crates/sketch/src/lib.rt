@@ -18,6 +18,9 @@ pub use values::rho_ok;
 // Ids of points and curves.
 pub type Id = u32;
 
+// The largest next id: ids are below it.
+pub const MAX_NEXT_ID: Id = 4294967295;
+
 // Fields stand in an order that leaves no padding: a struct is laid out as it is written.
 pub struct Point {
     pub id: Id,

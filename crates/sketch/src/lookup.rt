@@ -1,10 +1,11 @@
 // Look-ups by id in columns of ids that rise.
+use crate::Id;
 ghost use mathlib.Core.Path.{_≡_};
 ghost use lib.ListN.{length};
 ghost use Rattle.sketch.specs.Lookup.{Found, Ascends, among, sortAmong};
 
 // The place of an id among ids that rise, by bisection; their number where it is missing.
-pub fn place(ids: &[u32], id: u32) -> usize
+pub fn place(ids: &[Id], id: Id) -> usize
     ensures { λ r. ⌜ Found id (now (ids .entry)) r ⌝ }
 {
     let n = ids.len();
@@ -27,7 +28,7 @@ pub fn place(ids: &[u32], id: u32) -> usize
 
 // Notes the place of an id in a direct-mapped table of guesses. Ids that share an entry overwrite each other, and
 // nothing is promised of the table: a guess is tried before it is believed.
-pub fn note(near: &mut [u16], id: u32, place: usize) {
+pub fn note(near: &mut [u16], id: Id, place: usize) {
     let k = (id % 1024) as usize;
     if k < near.len() {
         near[k] = (place % 65536) as u16;
@@ -35,7 +36,7 @@ pub fn note(near: &mut [u16], id: u32, place: usize) {
 }
 
 // As `place`, but it first tries the place that `near` guesses: most look-ups then cost one read of each column.
-pub fn place_near<'a>(ids: &'a [u32], near: &'a [u16], id: u32) -> usize
+pub fn place_near<'a>(ids: &'a [Id], near: &'a [u16], id: Id) -> usize
     ensures { λ r. ⌜ Found id (now (ids .entry)) r ⌝ }
 {
     let k = (id % 1024) as usize;
@@ -49,14 +50,14 @@ pub fn place_near<'a>(ids: &'a [u32], near: &'a [u16], id: u32) -> usize
 }
 
 // Whether an id is among ids that rise.
-pub fn has<'a>(ids: &'a [u32], near: &'a [u16], id: u32) -> bool
+pub fn has<'a>(ids: &'a [Id], near: &'a [u16], id: Id) -> bool
     ensures { λ r. ⌜ (Ascends (now (ids .entry)) → r ≡ among id (now (ids .entry))) ⌝ }
 {
     place_near(ids, near, id) < ids.len()
 }
 
 // The sort of the curve with an id, given the curves' ids, which rise, and their sorts; 0 where there is none.
-pub fn sort_at<'a>(ids: &'a [u32], near: &'a [u16], sorts: &'a [u8], id: u32) -> u8
+pub fn sort_at<'a>(ids: &'a [Id], near: &'a [u16], sorts: &'a [u8], id: Id) -> u8
     ensures { λ r. ⌜ (length (now (ids .entry)) ≡ length (now (sorts .entry)) → Ascends (now (ids .entry)) → r ≡ sortAmong id (now (ids .entry)) (now (sorts .entry))) ⌝ }
 {
     let k = place_near(ids, near, id);

@@ -1,6 +1,7 @@
 // The test of a sketch: the number of the first rule that it breaks, as its image would be refused.
 use crate::Curve;
 use crate::CurveKind;
+use crate::Id;
 use crate::Point;
 use crate::Relation;
 use crate::RelationSlot;
@@ -29,14 +30,14 @@ ghost use Rattle.sketch.specs.Columns.{PointsChecked, CurvesChecked, Rel
 fn points_fault<'a>(
     points: [Point; 512],
     n: usize,
-    next: u32,
-    ids: &'a mut [u32],
+    next: Id,
+    ids: &'a mut [Id],
     near: &'a mut [u16],
 ) -> u8
     requires { ⌜ (n ≤ 512) × (n ≤ length (now ids)) ⌝ }
     ensures { λ r. ⌜ PointsChecked next (take n points) n (now (ids .entry)) (now (ids .exit)) r ⌝ }
 {
-    let mut last: u32 = 0;
+    let mut last: Id = 0;
     let mut i: usize = 0;
     while i < n {
         let p = points[i];
@@ -56,7 +57,7 @@ fn points_fault<'a>(
 }
 
 // Whether the slots from a place on hold 0.
-pub fn clear_from(slots: [u32; 8], from: usize) -> bool
+pub fn clear_from(slots: [Id; 8], from: usize) -> bool
     ensures { λ r. ⌜ r ≡ every (λ i. eqb i 0) (drop from slots) ⌝ }
 {
     let mut i: usize = from;
@@ -70,7 +71,7 @@ pub fn clear_from(slots: [u32; 8], from: usize) -> bool
 }
 
 // Whether the first n slots name points, whose ids rise.
-fn all_in<'a>(ids: &'a [u32], near: &'a [u16], slots: [u32; 8], n: usize) -> bool
+fn all_in<'a>(ids: &'a [Id], near: &'a [u16], slots: [Id; 8], n: usize) -> bool
     requires { ⌜ Ascends (now ids) ⌝ }
     ensures { λ r. ⌜ r ≡ every (λ p. among p (now (ids .entry))) (take n slots) ⌝ }
 {
@@ -106,7 +107,7 @@ fn curve_ok(c: Curve) -> bool
 }
 
 // A curve's references, given the ids of the points and guesses of their places.
-fn curve_sound<'a>(c: Curve, ids: &'a [u32], near: &'a [u16]) -> bool
+fn curve_sound<'a>(c: Curve, ids: &'a [Id], near: &'a [u16]) -> bool
     requires { ⌜ Ascends (now ids) ⌝ }
     ensures { λ r. ⌜ r ≡ soundCurve (λ p. among p (now (ids .entry))) c ⌝ }
 {
@@ -144,17 +145,17 @@ fn sort_of(kind: CurveKind) -> u8
 fn curves_fault<'a, 'b>(
     curves: [Curve; 128],
     n: usize,
-    next: u32,
-    points: &'a [u32],
+    next: Id,
+    points: &'a [Id],
     near_points: &'a [u16],
-    ids: &'b mut [u32],
+    ids: &'b mut [Id],
     sorts: &'b mut [u8],
     near: &'b mut [u16],
 ) -> u8
     requires { ⌜ (n ≤ 128) × (n ≤ length (now ids)) × (n ≤ length (now sorts)) × Ascends (now points) ⌝ }
     ensures { λ r. ⌜ CurvesChecked next (now (points .entry)) (take n curves) n (now (ids .entry)) (now (sorts .entry)) (now (ids .exit)) (now (sorts .exit)) r ⌝ }
 {
-    let mut last: u32 = 0;
+    let mut last: Id = 0;
     let mut i: usize = 0;
     while i < n {
         let c = curves[i];
@@ -191,9 +192,9 @@ fn relation_ok(r: Relation) -> bool
 // A relation's references, given the ids of the points, the ids and sorts of the curves, and guesses of their places.
 fn relation_sound<'a>(
     r: Relation,
-    points: &'a [u32],
+    points: &'a [Id],
     near_points: &'a [u16],
-    curves: &'a [u32],
+    curves: &'a [Id],
     near_curves: &'a [u16],
     sorts: &'a [u8],
 ) -> bool
@@ -229,9 +230,9 @@ fn relation_sound<'a>(
 fn relations_fault<'a>(
     relations: [RelationSlot; 256],
     n: usize,
-    points: &'a [u32],
+    points: &'a [Id],
     near_points: &'a [u16],
-    curves: &'a [u32],
+    curves: &'a [Id],
     near_curves: &'a [u16],
     sorts: &'a [u8],
 ) -> u8
@@ -254,13 +255,13 @@ fn relations_fault<'a>(
 }
 
 // The first broken rule of the curves and relations, 0 for none, given the ids of the points.
-fn shapes_fault<'a>(sk: Sketch, points: &'a [u32], near_points: &'a [u16]) -> u8
+fn shapes_fault<'a>(sk: Sketch, points: &'a [Id], near_points: &'a [u16]) -> u8
     requires { ⌜ Sized sk × Ascends (now points) × (now points ≡ pointIds (view sk .points)) ⌝ }
     ensures { λ r. ⌜ r ≡ shapesFault (view sk) ⌝ }
 {
     let nc = sk.ncurves;
     let curves = sk.curves;
-    let mut ids = [0u32; 128];
+    let mut ids: [Id; 128] = [0; 128];
     let mut sorts = [0u8; 128];
     let mut near = [0u16; 1024];
     let c = curves_fault(
@@ -304,7 +305,7 @@ pub fn fault(sk: Sketch) -> u8
         return 4;
     }
     let points = sk.points;
-    let mut ids = [0u32; 512];
+    let mut ids: [Id; 512] = [0; 512];
     let mut near = [0u16; 1024];
     let p = points_fault(points, np, next, &mut ids, &mut near);
     if p != 0 {

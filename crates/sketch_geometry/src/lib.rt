@@ -2,6 +2,7 @@
 use geom::Vec2;
 use shape::Shape;
 use sketch::CurveKind;
+use sketch::Id;
 use sketch::Point;
 use sketch::note;
 use sketch::place_near;
@@ -21,7 +22,7 @@ pub enum Outline {
 fn fill_columns<'a>(
     points: [Point; 512],
     n: usize,
-    ids: &'a mut [u32],
+    ids: &'a mut [Id],
     near: &'a mut [u16],
     xs: &'a mut [f64],
     ys: &'a mut [f64],
@@ -45,7 +46,7 @@ fn fill_columns<'a>(
 pub fn fill_point_columns<'a>(
     points: [Point; 512],
     n: usize,
-    ids: &'a mut [u32],
+    ids: &'a mut [Id],
     near: &'a mut [u16],
     xs: &'a mut [f64],
     ys: &'a mut [f64],
@@ -86,7 +87,7 @@ pub fn position_at<'a>(xs: &'a [f64], ys: &'a [f64], k: usize) -> Vec2
 }
 
 // The point with an id; `near` guesses its place.
-pub fn point_at<'a>(id: u32, ids: &'a [u32], near: &'a [u16], xs: &'a [f64], ys: &'a [f64]) -> Vec2
+pub fn point_at<'a>(id: Id, ids: &'a [Id], near: &'a [u16], xs: &'a [f64], ys: &'a [f64]) -> Vec2
     ensures { λ r. ⌜ PointAt (now (ids .entry)) (now (xs .entry)) (now (ys .entry)) id r ⌝ }
 {
     position_at(xs, ys, place_near(ids, near, id))
@@ -95,7 +96,7 @@ pub fn point_at<'a>(id: u32, ids: &'a [u32], near: &'a [u16], xs: &'a [f64], ys:
 // The shape of a curve by its kind.
 pub fn shape_of<'a>(
     kind: CurveKind,
-    ids: &'a [u32],
+    ids: &'a [Id],
     near: &'a [u16],
     xs: &'a [f64],
     ys: &'a [f64],

@@ -11,12 +11,12 @@ use Rattle.edit_plan.proofs.Rooms.{point-refused, point-passed, curve-r
 use Rattle.edit_plan.proofs.room.room.Statement.{statement}
 use Rattle.edit_plan.proofs.room.room.Tie as tie
 
-first : (c : tie.Else1) → let a = c .before .before .before .before .args in (a .next < 4294967295) × (a .points < 512) × ((rest : ℕ) → pointRoom limits (a .next) (a .points) (a .d .first) rest ≡ rest)
+first : (c : tie.Else1) → let a = c .before .before .before .before .args in (a .next < limits .ids) × (a .points < 512) × ((rest : ℕ) → pointRoom limits (a .next) (a .points) (a .d .first) rest ≡ rest)
 first c =
     let a = c .before .before .before .before .args in
     point-passed limits (a .next) (a .points) (a .d .first) (c .before .point-room .result) (c .before .point-room .ensures) (c .if1 .left)
 
-second : (c : tie.Else2) → let a = c .before .before .before .before .before .before .before .before .args in (a .next + a .d .points < 4294967295) × (a .points + a .d .points < 512) × ((rest : ℕ) → pointRoom limits (a .next + a .d .points) (a .points + a .d .points) (a .d .second) rest ≡ rest)
+second : (c : tie.Else2) → let a = c .before .before .before .before .before .before .before .before .args in (a .next + a .d .points < limits .ids) × (a .points + a .d .points < 512) × ((rest : ℕ) → pointRoom limits (a .next + a .d .points) (a .points + a .d .points) (a .d .second) rest ≡ rest)
 second c =
     let a = c .before .before .before .before .before .before .before .before .args in
     point-passed limits (a .next + a .d .points) (a .points + a .d .points) (a .d .second) (c .before .point-room2 .result) (c .before .point-room2 .ensures) (c .if2 .left)
@@ -27,7 +27,7 @@ third-is c =
     let a = c .before .before .before .before .before .before .before .before .before .before .args in
     c .curve-room .ensures ∙ ap (λ n. curveRoom limits n (a .curves) 0) (add-one (a .next + a .d .points))
 
-third : (c : tie.Else3) → let a = c .before .before .before .before .before .before .before .before .before .before .before .args in (suc (a .next + a .d .points) < 4294967295) × (a .curves < 128) × ((rest : ℕ) → curveRoom limits (suc (a .next + a .d .points)) (a .curves) rest ≡ rest)
+third : (c : tie.Else3) → let a = c .before .before .before .before .before .before .before .before .before .before .before .args in (suc (a .next + a .d .points) < limits .ids) × (a .curves < 128) × ((rest : ℕ) → curveRoom limits (suc (a .next + a .d .points)) (a .curves) rest ≡ rest)
 third c =
     let a = c .before .before .before .before .before .before .before .before .before .before .before .args in
     curve-passed limits (suc (a .next + a .d .points)) (a .curves) (c .before .curve-room .result) (third-is (c .before)) (c .if3 .left)
@@ -37,7 +37,7 @@ fourth-is c =
     let a = c .before .before .before .before .before .before .before .before .before .before .before .before .before .before .args in
     c .curve-room2 .ensures ∙ ap (λ n. curveRoom limits (n + a .d .curves) (a .curves + a .d .curves) 0) (add-one (a .next + a .d .points))
 
-fourth : (c : tie.Else4) → let a = c .before .before .before .before .before .before .before .before .before .before .before .before .before .before .before .args in (suc (a .next + a .d .points) + a .d .curves < 4294967295) × (a .curves + a .d .curves < 128) × ((rest : ℕ) → curveRoom limits (suc (a .next + a .d .points) + a .d .curves) (a .curves + a .d .curves) rest ≡ rest)
+fourth : (c : tie.Else4) → let a = c .before .before .before .before .before .before .before .before .before .before .before .before .before .before .before .args in (suc (a .next + a .d .points) + a .d .curves < limits .ids) × (a .curves + a .d .curves < 128) × ((rest : ℕ) → curveRoom limits (suc (a .next + a .d .points) + a .d .curves) (a .curves + a .d .curves) rest ≡ rest)
 fourth c =
     let a = c .before .before .before .before .before .before .before .before .before .before .before .before .before .before .before .args in
     curve-passed limits (suc (a .next + a .d .points) + a .d .curves) (a .curves + a .d .curves) (c .before .curve-room2 .result) (fourth-is (c .before)) (c .if4 .left)

@@ -8,7 +8,7 @@ use borrow.Author.Tests.{not-true, not-false}
 use Rattle.sketch.specs.Lookup.{among, Ascends}
 use Rattle.sketch.specs.Valid.{soundCurve}
 use Rattle.sketch.proofs.Walks.{Column}
-use Rattle.image.specs.Records.{curveOf}
+use Rattle.image.specs.Records.{curveOf, curveSize}
 use Rattle.image.specs.Image.{rowsAt}
 use Rattle.image.specs.Contracts.{goodCurve, rowSort}
 use Rattle.image.proofs.Tables.{length-rows, row-part}
@@ -26,14 +26,14 @@ use Rattle.image.proofs.checks.curve_sound.Reads as curve-sound-reads
 use Rattle.sketch.proofs.note.Reads as note-reads
 
 abbrev Inv-loop : tie.InvT-loop
-Inv-loop s from n next points near-points ids₀ sorts₀ near₀ last₀ i₀ ids sorts near last i = RowsWalk goodCurve (λ r. soundCurve (λ p. among p points) (curveOf r)) next (rowsAt 47 n s from) ids₀ ids last i × Column rowSort (rowsAt 47 n s from) sorts₀ sorts i × (length near ≡ length near₀) × (length (rowsAt 47 n s from) ≡ n) × Ascends points
+Inv-loop s from n next points near-points ids₀ sorts₀ near₀ last₀ i₀ ids sorts near last i = RowsWalk goodCurve (λ r. soundCurve (λ p. among p points) (curveOf r)) next (rowsAt curveSize n s from) ids₀ ids last i × Column rowSort (rowsAt curveSize n s from) sorts₀ sorts i × (length near ≡ length near₀) × (length (rowsAt curveSize n s from) ≡ n) × Ascends points
 
 abbrev μ-loop : tie.MeasureT-loop
 μ-loop s from n next points near-points ids₀ sorts₀ near₀ last₀ i₀ ids sorts near last i = n - i
 
 -- src/faults.rt:109:5
 loop-holds : tie.Need-loop-holds Inv-loop μ-loop
-loop-holds c = let a = c .before .before .before .before .before .before .args in (rows-start goodCurve (λ r. soundCurve (λ p. among p (now (a .points))) (curveOf r)) _ _ _, sorts-start _ _, refl, length-rows 47 (a .n) (a .s .now) (a .from), c .before .before .before .before .before .before .pre .3)
+loop-holds c = let a = c .before .before .before .before .before .before .args in (rows-start goodCurve (λ r. soundCurve (λ p. among p (now (a .points))) (curveOf r)) _ _ _, sorts-start _ _, refl, length-rows curveSize (a .n) (a .s .now) (a .from), c .before .before .before .before .before .before .pre .3)
 
 -- src/faults.rt:110:25
 mul-at : tie.Need-mul-at Inv-loop μ-loop
@@ -81,7 +81,7 @@ same-length-3 c = search needs
 
 -- src/faults.rt:115:13
 returns : tie.Need-returns Inv-loop μ-loop
-returns c = let l = c .before .before .before .before .before .loop in let a = c .before .before .before .before .before .before .before .before .before .before .before .before .args in let sound : List ℕ → Bool = (λ r. soundCurve (λ p. among p (now (a .points))) (curveOf r)) in (rows-four goodCurve sound (a .next) (l .inv .0) (omega arith) (row-part 47 (a .n) (a .s .now) (a .from) (l .i) (omega arith)) (c .before .curve-good .ensures) (not-true _ (c .if1 .taken)), sorts-stop (l .inv .1) (λ z. omega arith))
+returns c = let l = c .before .before .before .before .before .loop in let a = c .before .before .before .before .before .before .before .before .before .before .before .before .args in let sound : List ℕ → Bool = (λ r. soundCurve (λ p. among p (now (a .points))) (curveOf r)) in (rows-four goodCurve sound (a .next) (l .inv .0) (omega arith) (row-part curveSize (a .n) (a .s .now) (a .from) (l .i) (omega arith)) (c .before .curve-good .ensures) (not-true _ (c .if1 .taken)), sorts-stop (l .inv .1) (λ z. omega arith))
 
 -- src/faults.rt:117:42
 curve-sound-requires : tie.Need-curve-sound-requires Inv-loop μ-loop
@@ -101,7 +101,7 @@ same-length-6 c = search needs
 
 -- src/faults.rt:118:13
 returns-2 : tie.Need-returns-2 Inv-loop μ-loop
-returns-2 c = let l = c .before .before .before .before .before .before .before .loop in let a = c .before .before .before .before .before .before .before .before .before .before .before .before .before .before .args in let sound : List ℕ → Bool = (λ r. soundCurve (λ p. among p (now (a .points))) (curveOf r)) in (rows-five goodCurve sound (a .next) (l .inv .0) (omega arith) (row-part 47 (a .n) (a .s .now) (a .from) (l .i) (omega arith)) (c .before .before .before .curve-good .ensures) (not-false _ (c .before .before .if1 .left)) (c .before .curve-sound .ensures) (c .before .before .before .before .get4 .ensures) (not-true _ (c .if2 .taken)), sorts-stop (l .inv .1) (λ z. omega arith))
+returns-2 c = let l = c .before .before .before .before .before .before .before .loop in let a = c .before .before .before .before .before .before .before .before .before .before .before .before .before .before .args in let sound : List ℕ → Bool = (λ r. soundCurve (λ p. among p (now (a .points))) (curveOf r)) in (rows-five goodCurve sound (a .next) (l .inv .0) (omega arith) (row-part curveSize (a .n) (a .s .now) (a .from) (l .i) (omega arith)) (c .before .before .before .curve-good .ensures) (not-false _ (c .before .before .if1 .left)) (c .before .curve-sound .ensures) (c .before .before .before .before .get4 .ensures) (not-true _ (c .if2 .taken)), sorts-stop (l .inv .1) (λ z. omega arith))
 
 -- src/faults.rt:120:9
 mul-ids : tie.Need-mul-ids Inv-loop μ-loop
@@ -133,7 +133,7 @@ loop-less c = search needs
 
 -- src/faults.rt:109:5
 loop-again : tie.Need-loop-again Inv-loop μ-loop
-loop-again c = let l = c .before .before .before .before .before .before .before .before .before .before .before .before .loop in let a = c .before .before .before .before .before .before .before .before .before .before .before .before .before .before .before .before .before .before .before .args in let sound : List ℕ → Bool = (λ r. soundCurve (λ p. among p (now (a .points))) (curveOf r)) in (rows-on goodCurve sound (a .next) (l .inv .0) (omega arith) (row-part 47 (a .n) (a .s .now) (a .from) (l .i) (omega arith)) (c .before .before .before .before .before .before .before .before .curve-good .ensures) (not-false _ (c .before .before .before .before .before .before .before .if1 .left)) (c .before .before .before .before .before .before .curve-sound .ensures) (c .before .before .before .before .before .before .before .before .before .get4 .ensures) (not-false _ (c .before .before .before .before .before .if2 .left)) (omega arith), sorts-on (l .inv .1) (omega arith) (omega arith) (row-part 47 (a .n) (a .s .now) (a .from) (l .i) (omega arith)) (c .before .before .before .before .curve-sort .ensures), search needs, l .inv .3, l .inv .4)
+loop-again c = let l = c .before .before .before .before .before .before .before .before .before .before .before .before .loop in let a = c .before .before .before .before .before .before .before .before .before .before .before .before .before .before .before .before .before .before .before .args in let sound : List ℕ → Bool = (λ r. soundCurve (λ p. among p (now (a .points))) (curveOf r)) in (rows-on goodCurve sound (a .next) (l .inv .0) (omega arith) (row-part curveSize (a .n) (a .s .now) (a .from) (l .i) (omega arith)) (c .before .before .before .before .before .before .before .before .curve-good .ensures) (not-false _ (c .before .before .before .before .before .before .before .if1 .left)) (c .before .before .before .before .before .before .curve-sound .ensures) (c .before .before .before .before .before .before .before .before .before .get4 .ensures) (not-false _ (c .before .before .before .before .before .if2 .left)) (omega arith), sorts-on (l .inv .1) (omega arith) (omega arith) (row-part curveSize (a .n) (a .s .now) (a .from) (l .i) (omega arith)) (c .before .before .before .before .curve-sort .ensures), search needs, l .inv .3, l .inv .4)
 
 -- src/faults.rt:93:1
 same-length-7 : tie.Need-same-length-7 Inv-loop μ-loop

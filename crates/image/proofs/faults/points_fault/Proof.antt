@@ -4,8 +4,9 @@ use lib.Dec.{ltb}
 use Prim.Native.Nat.{_-_}
 use lib.ListN.{length}
 use borrow.Author.Tests.{not-true, not-false}
-use Rattle.image.specs.Image.{rowsAt}
+use Rattle.image.specs.Image.{rowsAt, headerSize}
 use Rattle.image.specs.Contracts.{goodPoint}
+use Rattle.image.specs.Records.{pointSize}
 use Rattle.image.proofs.Tables.{length-rows, row-part}
 use Rattle.image.proofs.Walked.{RowsWalk, alone, rows-start, rows-four, rows-five, rows-on, rows-end}
 use borrow.Author.Needs.{needs}
@@ -19,14 +20,14 @@ use Rattle.image.proofs.checks.point_good.Reads as point-good-reads
 use Rattle.sketch.proofs.note.Reads as note-reads
 
 abbrev Inv-loop : tie.InvT-loop
-Inv-loop s n next ids₀ near₀ last₀ i₀ ids near last i = RowsWalk goodPoint (λ r. true) next (rowsAt 21 n s 15) ids₀ ids last i × (length near ≡ length near₀) × (length (rowsAt 21 n s 15) ≡ n)
+Inv-loop s n next ids₀ near₀ last₀ i₀ ids near last i = RowsWalk goodPoint (λ r. true) next (rowsAt pointSize n s headerSize) ids₀ ids last i × (length near ≡ length near₀) × (length (rowsAt pointSize n s headerSize) ≡ n)
 
 abbrev μ-loop : tie.MeasureT-loop
 μ-loop s n next ids₀ near₀ last₀ i₀ ids near last i = n - i
 
 -- src/faults.rt:72:5
 loop-holds : tie.Need-loop-holds Inv-loop μ-loop
-loop-holds c = (rows-start goodPoint (λ r. true) _ _ _, refl, length-rows 21 (c .before .before .before .args .n) (c .before .before .before .args .s .now) 15)
+loop-holds c = (rows-start goodPoint (λ r. true) _ _ _, refl, length-rows pointSize (c .before .before .before .args .n) (c .before .before .before .args .s .now) headerSize)
 
 -- src/faults.rt:73:23
 mul-at : tie.Need-mul-at Inv-loop μ-loop
@@ -70,7 +71,7 @@ same-length-2 c = search needs
 
 -- src/faults.rt:78:13
 returns : tie.Need-returns Inv-loop μ-loop
-returns c = let l = c .before .before .before .before .before .loop in let a = c .before .before .before .before .before .before .before .before .before .args in rows-four goodPoint (λ r. true) (a .next) (l .inv .0) (omega arith) (row-part 21 (a .n) (a .s .now) 15 (l .i) (omega arith)) (c .before .point-good .ensures) (not-true _ (c .if1 .taken))
+returns c = let l = c .before .before .before .before .before .loop in let a = c .before .before .before .before .before .before .before .before .before .args in rows-four goodPoint (λ r. true) (a .next) (l .inv .0) (omega arith) (row-part pointSize (a .n) (a .s .now) headerSize (l .i) (omega arith)) (c .before .point-good .ensures) (not-true _ (c .if1 .taken))
 
 -- src/faults.rt:81:13
 same-length-3 : tie.Need-same-length-3 Inv-loop μ-loop
@@ -82,7 +83,7 @@ same-length-4 c = search needs
 
 -- src/faults.rt:81:13
 returns-2 : tie.Need-returns-2 Inv-loop μ-loop
-returns-2 c = let l = c .before .before .before .before .before .before .loop in let a = c .before .before .before .before .before .before .before .before .before .before .args in rows-five goodPoint (λ r. true) (a .next) (l .inv .0) (omega arith) (row-part 21 (a .n) (a .s .now) 15 (l .i) (omega arith)) (c .before .before .point-good .ensures) (not-false _ (c .before .if1 .left)) refl (c .before .before .before .get4 .ensures) (alone (ltb (l .last) (c .before .before .before .get4 .result) && ltb (c .before .before .before .get4 .result) (a .next)) (not-true _ (c .if2 .taken)))
+returns-2 c = let l = c .before .before .before .before .before .before .loop in let a = c .before .before .before .before .before .before .before .before .before .before .args in rows-five goodPoint (λ r. true) (a .next) (l .inv .0) (omega arith) (row-part pointSize (a .n) (a .s .now) headerSize (l .i) (omega arith)) (c .before .before .point-good .ensures) (not-false _ (c .before .if1 .left)) refl (c .before .before .before .get4 .ensures) (alone (ltb (l .last) (c .before .before .before .get4 .result) && ltb (c .before .before .before .get4 .result) (a .next)) (not-true _ (c .if2 .taken)))
 
 -- src/faults.rt:83:9
 mul-ids : tie.Need-mul-ids Inv-loop μ-loop
@@ -106,7 +107,7 @@ loop-less c = search needs
 
 -- src/faults.rt:72:5
 loop-again : tie.Need-loop-again Inv-loop μ-loop
-loop-again c = let l = c .before .before .before .before .before .before .before .before .before .before .loop in let a = c .before .before .before .before .before .before .before .before .before .before .before .before .before .before .args in (rows-on goodPoint (λ r. true) (a .next) (l .inv .0) (omega arith) (row-part 21 (a .n) (a .s .now) 15 (l .i) (omega arith)) (c .before .before .before .before .before .before .point-good .ensures) (not-false _ (c .before .before .before .before .before .if1 .left)) refl (c .before .before .before .before .before .before .before .get4 .ensures) (alone (ltb (l .last) (c .before .before .before .before .before .before .before .get4 .result) && ltb (c .before .before .before .before .before .before .before .get4 .result) (a .next)) (not-false _ (c .before .before .before .before .if2 .left))) (omega arith), search needs, l .inv .2)
+loop-again c = let l = c .before .before .before .before .before .before .before .before .before .before .loop in let a = c .before .before .before .before .before .before .before .before .before .before .before .before .before .before .args in (rows-on goodPoint (λ r. true) (a .next) (l .inv .0) (omega arith) (row-part pointSize (a .n) (a .s .now) headerSize (l .i) (omega arith)) (c .before .before .before .before .before .before .point-good .ensures) (not-false _ (c .before .before .before .before .before .if1 .left)) refl (c .before .before .before .before .before .before .before .get4 .ensures) (alone (ltb (l .last) (c .before .before .before .before .before .before .before .get4 .result) && ltb (c .before .before .before .before .before .before .before .get4 .result) (a .next)) (not-false _ (c .before .before .before .before .if2 .left))) (omega arith), search needs, l .inv .2)
 
 -- src/faults.rt:60:1
 same-length-5 : tie.Need-same-length-5 Inv-loop μ-loop

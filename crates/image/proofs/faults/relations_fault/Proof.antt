@@ -7,7 +7,7 @@ use denote.Ref.{now}
 use borrow.Author.Tests.{not-true, not-false}
 use Rattle.sketch.specs.Lookup.{among, Ascends, sortAmong}
 use Rattle.sketch.specs.Valid.{soundRelation}
-use Rattle.image.specs.Records.{relationOf}
+use Rattle.image.specs.Records.{relationOf, relationSize}
 use Rattle.image.specs.Image.{rowsAt}
 use Rattle.image.specs.Contracts.{goodRelation}
 use Rattle.image.proofs.Tables.{length-rows, row-part}
@@ -22,14 +22,14 @@ use Rattle.image.proofs.checks.relation_good.Reads as relation-good-rea
 use Rattle.image.proofs.checks.relation_sound.Reads as relation-sound-reads
 
 abbrev Inv-loop : tie.InvT-loop
-Inv-loop s from n points near-points curves near-curves sorts i₀ i = ListWalk goodRelation (λ r. soundRelation (λ p. among p points) (λ j. sortAmong j curves sorts) (relationOf r)) (rowsAt 17 n s from) i × (length (rowsAt 17 n s from) ≡ n) × (length curves ≡ length sorts) × Ascends points × Ascends curves
+Inv-loop s from n points near-points curves near-curves sorts i₀ i = ListWalk goodRelation (λ r. soundRelation (λ p. among p points) (λ j. sortAmong j curves sorts) (relationOf r)) (rowsAt relationSize n s from) i × (length (rowsAt relationSize n s from) ≡ n) × (length curves ≡ length sorts) × Ascends points × Ascends curves
 
 abbrev μ-loop : tie.MeasureT-loop
 μ-loop s from n points near-points curves near-curves sorts i₀ i = n - i
 
 -- src/faults.rt:144:5
 loop-holds : tie.Need-loop-holds Inv-loop μ-loop
-loop-holds c = let a = c .before .before .before .before .before .before .args in (list-start goodRelation (λ r. soundRelation (λ p. among p (now (a .points))) (λ j. sortAmong j (now (a .curves)) (now (a .sorts))) (relationOf r)) _, length-rows 17 (a .n) (a .s .now) (a .from), c .before .before .before .before .before .before .pre .1, c .before .before .before .before .before .before .pre .2, c .before .before .before .before .before .before .pre .3)
+loop-holds c = let a = c .before .before .before .before .before .before .args in (list-start goodRelation (λ r. soundRelation (λ p. among p (now (a .points))) (λ j. sortAmong j (now (a .curves)) (now (a .sorts))) (relationOf r)) _, length-rows relationSize (a .n) (a .s .now) (a .from), c .before .before .before .before .before .before .pre .1, c .before .before .before .before .before .before .pre .2, c .before .before .before .before .before .before .pre .3)
 
 -- src/faults.rt:145:25
 mul-at : tie.Need-mul-at Inv-loop μ-loop
@@ -65,7 +65,7 @@ relation-good-requires c κs = search needs
 
 -- src/faults.rt:150:13
 returns : tie.Need-returns Inv-loop μ-loop
-returns c = let l = c .before .before .before .before .loop in let a = c .before .before .before .before .before .before .before .before .before .before .before .args in let sound : List ℕ → Bool = (λ r. soundRelation (λ p. among p (now (a .points))) (λ j. sortAmong j (now (a .curves)) (now (a .sorts))) (relationOf r)) in list-four goodRelation sound (l .inv .0) (omega arith) (row-part 17 (a .n) (a .s .now) (a .from) (l .i) (omega arith)) (c .before .relation-good .ensures) (not-true _ (c .if1 .taken))
+returns c = let l = c .before .before .before .before .loop in let a = c .before .before .before .before .before .before .before .before .before .before .before .args in let sound : List ℕ → Bool = (λ r. soundRelation (λ p. among p (now (a .points))) (λ j. sortAmong j (now (a .curves)) (now (a .sorts))) (relationOf r)) in list-four goodRelation sound (l .inv .0) (omega arith) (row-part relationSize (a .n) (a .s .now) (a .from) (l .i) (omega arith)) (c .before .relation-good .ensures) (not-true _ (c .if1 .taken))
 
 -- src/faults.rt:152:13
 relation-sound-requires : tie.Need-relation-sound-requires Inv-loop μ-loop
@@ -73,7 +73,7 @@ relation-sound-requires c κs = let l = c .before .before .before .before .loop 
 
 -- src/faults.rt:153:13
 returns-2 : tie.Need-returns-2 Inv-loop μ-loop
-returns-2 c = let l = c .before .before .before .before .before .before .loop in let a = c .before .before .before .before .before .before .before .before .before .before .before .before .before .args in let sound : List ℕ → Bool = (λ r. soundRelation (λ p. among p (now (a .points))) (λ j. sortAmong j (now (a .curves)) (now (a .sorts))) (relationOf r)) in list-five goodRelation sound (l .inv .0) (omega arith) (row-part 17 (a .n) (a .s .now) (a .from) (l .i) (omega arith)) (c .before .before .before .relation-good .ensures) (not-false _ (c .before .before .if1 .left)) (c .before .relation-sound .ensures) (not-true _ (c .if2 .taken))
+returns-2 c = let l = c .before .before .before .before .before .before .loop in let a = c .before .before .before .before .before .before .before .before .before .before .before .before .before .args in let sound : List ℕ → Bool = (λ r. soundRelation (λ p. among p (now (a .points))) (λ j. sortAmong j (now (a .curves)) (now (a .sorts))) (relationOf r)) in list-five goodRelation sound (l .inv .0) (omega arith) (row-part relationSize (a .n) (a .s .now) (a .from) (l .i) (omega arith)) (c .before .before .before .relation-good .ensures) (not-false _ (c .before .before .if1 .left)) (c .before .relation-sound .ensures) (not-true _ (c .if2 .taken))
 
 -- src/faults.rt:144:5
 loop-less : tie.Need-loop-less Inv-loop μ-loop
@@ -81,7 +81,7 @@ loop-less c = search needs
 
 -- src/faults.rt:144:5
 loop-again : tie.Need-loop-again Inv-loop μ-loop
-loop-again c = let l = c .before .before .before .before .before .before .loop in let a = c .before .before .before .before .before .before .before .before .before .before .before .before .before .args in let sound : List ℕ → Bool = (λ r. soundRelation (λ p. among p (now (a .points))) (λ j. sortAmong j (now (a .curves)) (now (a .sorts))) (relationOf r)) in (list-on goodRelation sound (l .inv .0) (omega arith) (row-part 17 (a .n) (a .s .now) (a .from) (l .i) (omega arith)) (c .before .before .before .relation-good .ensures) (not-false _ (c .before .before .if1 .left)) (c .before .relation-sound .ensures) (not-false _ (c .if2 .left)), l .inv .1, l .inv .2, l .inv .3, l .inv .4)
+loop-again c = let l = c .before .before .before .before .before .before .loop in let a = c .before .before .before .before .before .before .before .before .before .before .before .before .before .args in let sound : List ℕ → Bool = (λ r. soundRelation (λ p. among p (now (a .points))) (λ j. sortAmong j (now (a .curves)) (now (a .sorts))) (relationOf r)) in (list-on goodRelation sound (l .inv .0) (omega arith) (row-part relationSize (a .n) (a .s .now) (a .from) (l .i) (omega arith)) (c .before .before .before .relation-good .ensures) (not-false _ (c .before .before .if1 .left)) (c .before .relation-sound .ensures) (not-false _ (c .if2 .left)), l .inv .1, l .inv .2, l .inv .3, l .inv .4)
 
 -- src/faults.rt:130:1
 returns-3 : tie.Need-returns-3 Inv-loop μ-loop

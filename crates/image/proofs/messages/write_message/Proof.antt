@@ -1,4 +1,4 @@
-use Rattle.image.specs.Message.{encode, MessageWritten}
+use Rattle.image.specs.Message.{encode, MessageWritten, messageSize}
 use Rattle.sketch.specs.Lists.{guardNumber}
 use borrow.Author.Tests.{lt-leb, le-leb}
 use Rattle.big_endian.specs.Laws.{run-starts, run-puts, run-over}
@@ -29,6 +29,9 @@ unfolding guardNumber
 returns-2 c = let t1 = le-leb _ _ (c .before .if1 .left) in let t2 = lt-leb _ _ (c .if2 .taken) in record { number = rw (t1, t2); buffer = rw (t1, t2) }
 
 -- src/messages.rt:85:5
+cast-put4 : tie.Need-cast-put4
+cast-put4 c = search needs
+
 put4-requires : tie.Need-put4-requires
 put4-requires c κs = search needs
 
@@ -41,8 +44,8 @@ put1-requires : tie.Need-put1-requires
 put1-requires c κs = search needs
 
 -- src/messages.rt:87:18
-cast-put4 : tie.Need-cast-put4
-cast-put4 c = search needs
+cast-put4-2 : tie.Need-cast-put4-2
+cast-put4-2 c = search needs
 
 -- src/messages.rt:87:5
 put4-requires-2 : tie.Need-put4-requires-2
@@ -57,8 +60,8 @@ put1-requires-2 : tie.Need-put1-requires-2
 put1-requires-2 c κs = search needs
 
 -- src/messages.rt:89:19
-cast-put4-2 : tie.Need-cast-put4-2
-cast-put4-2 c = search needs
+cast-put4-3 : tie.Need-cast-put4-3
+cast-put4-3 c = search needs
 
 -- src/messages.rt:89:5
 put4-requires-3 : tie.Need-put4-requires-3
@@ -81,7 +84,7 @@ returns-3 : tie.Need-returns-3
 unfolding guardNumber encode
 returns-3 c =
     let a = c .before .before .before .before .before .before .before .before .before .before .before .before .before .before .before .before .before .before .before .before .before .before .before .before .before .before .before .before .before .before .before .before .before .before .before .args in
-    let h : 30 ≤ length (a .buf .now) = c .before .before .before .before .before .before .before .before .before .before .before .before .before .before .before .before .before .before .before .before .before .before .before .before .before .before .before .before .before .before .before .if2 .left in
+    let h : messageSize ≤ length (a .buf .now) = c .before .before .before .before .before .before .before .before .before .before .before .before .before .before .before .before .before .before .before .before .before .before .before .before .before .before .before .before .before .before .before .if2 .left in
     let w1 = run-starts (a .buf .now) 0 4 _ (omega arith) (c .before .before .before .before .before .before .before .before .before .before .before .before .before .before .before .before .before .before .before .before .before .before .before .before .before .before .before .before .before .put4 .ensures) in
     let w2 = run-puts (a .buf .now) 0 4 1 _ _ _ _ (omega arith) w1 (c .before .before .before .before .before .before .before .before .before .before .before .before .before .before .before .before .before .before .before .before .before .before .before .before .before .put1 .ensures) in
     let w3 = run-puts (a .buf .now) 0 5 4 _ _ _ _ (omega arith) w2 (c .before .before .before .before .before .before .before .before .before .before .before .before .before .before .before .before .before .before .before .before .put42 .ensures) in
@@ -99,14 +102,15 @@ write-message-spec =
     (tie.spec
     returns
     returns-2
+    cast-put4
     put4-requires
     cast-put1
     put1-requires
-    cast-put4
+    cast-put4-2
     put4-requires-2
     operation-byte-requires
     put1-requires-2
-    cast-put4-2
+    cast-put4-3
     put4-requires-3
     put8-requires
     put8-requires-2

@@ -3,7 +3,7 @@ use mathlib.Core.List.{List}
 use Prim.Native.Nat.{_-_, _≤_, _<_}
 use lib.ListN.{length, length-set}
 use Rattle.sketch.specs.declared.Curve.{Curve}
-use Rattle.image.specs.Records.{curveOf}
+use Rattle.image.specs.Records.{curveOf, curveSize}
 use Rattle.image.specs.Image.{rowsAt}
 use Rattle.image.specs.Decode.{plainCurve}
 use Rattle.image.proofs.Tables.{length-rows, row-part, every-row, Filled, filling, filled}
@@ -18,7 +18,7 @@ use Rattle.image.proofs.records.curve_at.Reads as curve-at-reads
 use Rattle.image.proofs.records.slots_at.Reads as slots-at-reads
 
 abbrev Inv-loop : tie.InvT-loop
-Inv-loop s from n slots₀ i₀ slots i = (length slots ≡ 128) × (i ≤ n) × (length (rowsAt 47 n s from) ≡ n) × Filled curveOf (λ (l : List Curve). l) (λ x. x) (λ l x. refl) (rowsAt 47 n s from) slots i
+Inv-loop s from n slots₀ i₀ slots i = (length slots ≡ 128) × (i ≤ n) × (length (rowsAt curveSize n s from) ≡ n) × Filled curveOf (λ (l : List Curve). l) (λ x. x) (λ l x. refl) (rowsAt curveSize n s from) slots i
 
 abbrev μ-loop : tie.MeasureT-loop
 μ-loop s from n slots₀ i₀ slots i = n - i
@@ -29,7 +29,7 @@ no-curves-requires c κs = search needs
 
 -- src/reader.rt:86:5
 loop-holds : tie.Need-loop-holds Inv-loop μ-loop
-loop-holds c = let a = c .before .before .args in (c .no-curves .ensures, omega arith, length-rows 47 (a .n) (a .s .now) (a .from), refl)
+loop-holds c = let a = c .before .before .args in (c .no-curves .ensures, omega arith, length-rows curveSize (a .n) (a .s .now) (a .from), refl)
 
 -- src/reader.rt:87:25
 mul-at : tie.Need-mul-at Inv-loop μ-loop
@@ -61,7 +61,7 @@ slots-at-requires c κs = search needs
 
 -- src/reader.rt:90:20
 curve-at-requires : tie.Need-curve-at-requires Inv-loop μ-loop
-curve-at-requires c κs = let l = c .before .before .before .loop in let a = c .before .before .before .before .before .before .args in let rows = rowsAt 47 (a .n) (a .s .now) (a .from) in (ap plainCurve (row-part 47 (a .n) (a .s .now) (a .from) (l .i) (omega arith)) ∙ every-row plainCurve rows (l .i) (c .before .before .before .before .before .before .pre .2) (omega arith), c .slots-at .ensures)
+curve-at-requires c κs = let l = c .before .before .before .loop in let a = c .before .before .before .before .before .before .args in let rows = rowsAt curveSize (a .n) (a .s .now) (a .from) in (ap plainCurve (row-part curveSize (a .n) (a .s .now) (a .from) (l .i) (omega arith)) ∙ every-row plainCurve rows (l .i) (c .before .before .before .before .before .before .pre .2) (omega arith), c .slots-at .ensures)
 
 -- src/reader.rt:90:9
 mul-slots : tie.Need-mul-slots Inv-loop μ-loop
@@ -81,11 +81,11 @@ loop-less c = search needs
 
 -- src/reader.rt:86:5
 loop-again : tie.Need-loop-again Inv-loop μ-loop
-loop-again c = let l = c .before .before .before .before .loop in let a = c .before .before .before .before .before .before .before .args in let rows = rowsAt 47 (a .n) (a .s .now) (a .from) in let h : l .i < length (l .slots) = omega arith in (simp length-set (l .inv .0), omega arith, l .inv .2, filling curveOf (λ (l : List Curve). l) (λ x. x) (λ l x. refl) rows (l .slots) (l .i) _ (omega arith) h (c .curve-at .ensures ∙ ap curveOf (row-part 47 (a .n) (a .s .now) (a .from) (l .i) (omega arith))) (l .inv .3))
+loop-again c = let l = c .before .before .before .before .loop in let a = c .before .before .before .before .before .before .before .args in let rows = rowsAt curveSize (a .n) (a .s .now) (a .from) in let h : l .i < length (l .slots) = omega arith in (simp length-set (l .inv .0), omega arith, l .inv .2, filling curveOf (λ (l : List Curve). l) (λ x. x) (λ l x. refl) rows (l .slots) (l .i) _ (omega arith) h (c .curve-at .ensures ∙ ap curveOf (row-part curveSize (a .n) (a .s .now) (a .from) (l .i) (omega arith))) (l .inv .3))
 
 -- src/reader.rt:80:1
 returns : tie.Need-returns Inv-loop μ-loop
-returns c = let l = c .before .loop in let a = c .before .before .before .before .args in let rows = rowsAt 47 (a .n) (a .s .now) (a .from) in filled curveOf (λ (l : List Curve). l) (λ x. x) (λ l x. refl) rows (l .slots) (a .n) (l .i) (omega arith) (omega arith) (l .inv .3)
+returns c = let l = c .before .loop in let a = c .before .before .before .before .args in let rows = rowsAt curveSize (a .n) (a .s .now) (a .from) in filled curveOf (λ (l : List Curve). l) (λ x. x) (λ l x. refl) rows (l .slots) (a .n) (l .i) (omega arith) (omega arith) (l .inv .3)
 
 pub curves-at-spec : {M : Type 1} → statement M
 curves-at-spec =

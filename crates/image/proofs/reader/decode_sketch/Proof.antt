@@ -1,8 +1,9 @@
 use mathlib.Core.Path.{_≡_, refl, sym, ap, _∙_}
 use Prim.Native.Nat.{ℕ}
 use Rattle.sketch.specs.Lists.{every}
-use Rattle.image.specs.Image.{rowsAt}
+use Rattle.image.specs.Image.{rowsAt, headerSize}
 use Rattle.image.specs.Decode.{plainPoint}
+use Rattle.image.specs.Records.{pointSize}
 use Rattle.image.proofs.RoundTrips.{image-kept}
 use Rattle.image.proofs.DecodedSketch.{plain-points, plain-curves, plain-relations, spelled}
 use native.Mathlib.Omega.{arith}
@@ -47,7 +48,7 @@ cast-nrelations c = search needs
 
 -- src/reader.rt:122:9
 points-at-requires : tie.Need-points-at-requires
-points-at-requires c κs = let s = c .before .before .before .before .before .args .s .now in let e = c .before .before .before .before .before .pre in let h = image-kept s e .head in (omega (arith, h .few-points, c .before .before .get2 .ensures), omega (arith, h .size, c .before .before .get2 .ensures), ap (λ (n : ℕ). every plainPoint (rowsAt 21 n s 15)) (c .before .before .get2 .ensures) ∙ plain-points s e)
+points-at-requires c κs = let s = c .before .before .before .before .before .args .s .now in let e = c .before .before .before .before .before .pre in let h = image-kept s e .head in (omega (arith, h .few-points, c .before .before .get2 .ensures), omega (arith, h .size, c .before .before .get2 .ensures), ap (λ (n : ℕ). every plainPoint (rowsAt pointSize n s headerSize)) (c .before .before .get2 .ensures) ∙ plain-points s e)
 
 -- src/reader.rt:123:36
 mul-curves-at : tie.Need-mul-curves-at

@@ -3,8 +3,8 @@ use mathlib.Core.List.{List}
 use Prim.Native.Nat.{_-_, _≤_, _<_}
 use lib.ListN.{length, length-set}
 use Rattle.sketch.specs.declared.Point.{Point}
-use Rattle.image.specs.Records.{pointOf}
-use Rattle.image.specs.Image.{rowsAt}
+use Rattle.image.specs.Records.{pointOf, pointSize}
+use Rattle.image.specs.Image.{rowsAt, headerSize}
 use Rattle.image.specs.Decode.{plainPoint}
 use Rattle.image.proofs.Tables.{length-rows, row-part, every-row, Filled, filling, filled}
 use borrow.Author.Needs.{needs}
@@ -17,7 +17,7 @@ use Rattle.image.proofs.reader.no_points.Reads as no-points-reads
 use Rattle.image.proofs.records.point_at.Reads as point-at-reads
 
 abbrev Inv-loop : tie.InvT-loop
-Inv-loop s n slots₀ i₀ slots i = (length slots ≡ 512) × (i ≤ n) × (length (rowsAt 21 n s 15) ≡ n) × Filled pointOf (λ (l : List Point). l) (λ x. x) (λ l x. refl) (rowsAt 21 n s 15) slots i
+Inv-loop s n slots₀ i₀ slots i = (length slots ≡ 512) × (i ≤ n) × (length (rowsAt pointSize n s headerSize) ≡ n) × Filled pointOf (λ (l : List Point). l) (λ x. x) (λ l x. refl) (rowsAt pointSize n s headerSize) slots i
 
 abbrev μ-loop : tie.MeasureT-loop
 μ-loop s n slots₀ i₀ slots i = n - i
@@ -28,7 +28,7 @@ no-points-requires c κs = search needs
 
 -- src/reader.rt:70:5
 loop-holds : tie.Need-loop-holds Inv-loop μ-loop
-loop-holds c = let a = c .before .before .args in (c .no-points .ensures, omega arith, length-rows 21 (a .n) (a .s .now) 15, refl)
+loop-holds c = let a = c .before .before .args in (c .no-points .ensures, omega arith, length-rows pointSize (a .n) (a .s .now) headerSize, refl)
 
 -- src/reader.rt:71:23
 mul-at : tie.Need-mul-at Inv-loop μ-loop
@@ -56,7 +56,7 @@ part-r-end c = search needs
 
 -- src/reader.rt:74:20
 point-at-requires : tie.Need-point-at-requires Inv-loop μ-loop
-point-at-requires c κs = let l = c .before .before .loop in let a = c .before .before .before .before .before .args in let rows = rowsAt 21 (a .n) (a .s .now) 15 in ap plainPoint (row-part 21 (a .n) (a .s .now) 15 (l .i) (omega arith)) ∙ every-row plainPoint rows (l .i) (c .before .before .before .before .before .pre .2) (omega arith)
+point-at-requires c κs = let l = c .before .before .loop in let a = c .before .before .before .before .before .args in let rows = rowsAt pointSize (a .n) (a .s .now) headerSize in ap plainPoint (row-part pointSize (a .n) (a .s .now) headerSize (l .i) (omega arith)) ∙ every-row plainPoint rows (l .i) (c .before .before .before .before .before .pre .2) (omega arith)
 
 -- src/reader.rt:74:9
 mul-slots : tie.Need-mul-slots Inv-loop μ-loop
@@ -76,11 +76,11 @@ loop-less c = search needs
 
 -- src/reader.rt:70:5
 loop-again : tie.Need-loop-again Inv-loop μ-loop
-loop-again c = let l = c .before .before .before .loop in let a = c .before .before .before .before .before .before .args in let rows = rowsAt 21 (a .n) (a .s .now) 15 in let h : l .i < length (l .slots) = omega arith in (simp length-set (l .inv .0), omega arith, l .inv .2, filling pointOf (λ (l : List Point). l) (λ x. x) (λ l x. refl) rows (l .slots) (l .i) _ (omega arith) h (c .point-at .ensures ∙ ap pointOf (row-part 21 (a .n) (a .s .now) 15 (l .i) (omega arith))) (l .inv .3))
+loop-again c = let l = c .before .before .before .loop in let a = c .before .before .before .before .before .before .args in let rows = rowsAt pointSize (a .n) (a .s .now) headerSize in let h : l .i < length (l .slots) = omega arith in (simp length-set (l .inv .0), omega arith, l .inv .2, filling pointOf (λ (l : List Point). l) (λ x. x) (λ l x. refl) rows (l .slots) (l .i) _ (omega arith) h (c .point-at .ensures ∙ ap pointOf (row-part pointSize (a .n) (a .s .now) headerSize (l .i) (omega arith))) (l .inv .3))
 
 -- src/reader.rt:64:1
 returns : tie.Need-returns Inv-loop μ-loop
-returns c = let l = c .before .loop in let a = c .before .before .before .before .args in let rows = rowsAt 21 (a .n) (a .s .now) 15 in filled pointOf (λ (l : List Point). l) (λ x. x) (λ l x. refl) rows (l .slots) (a .n) (l .i) (omega arith) (omega arith) (l .inv .3)
+returns c = let l = c .before .loop in let a = c .before .before .before .before .args in let rows = rowsAt pointSize (a .n) (a .s .now) headerSize in filled pointOf (λ (l : List Point). l) (λ x. x) (λ l x. refl) rows (l .slots) (a .n) (l .i) (omega arith) (omega arith) (l .inv .3)
 
 pub points-at-spec : {M : Type 1} → statement M
 points-at-spec =

@@ -3,7 +3,7 @@ use mathlib.Core.List.{List, [], _∷_, map, map-append}
 use Prim.Native.Nat.{_-_, _≤_, _<_}
 use lib.ListN.{length, length-set}
 use Rattle.sketch.specs.declared.RelationSlot.{RelationSlot}
-use Rattle.image.specs.Records.{relationOf}
+use Rattle.image.specs.Records.{relationOf, relationSize}
 use Rattle.image.specs.Image.{rowsAt}
 use Rattle.image.specs.Decode.{plainRelation}
 use Rattle.image.proofs.Tables.{length-rows, row-part, every-row, Filled, filling, filled}
@@ -17,7 +17,7 @@ use Rattle.image.proofs.reader.no_relations.Reads as no-relations-reads
 use Rattle.image.proofs.records.relation_at.Reads as relation-at-reads
 
 abbrev Inv-loop : tie.InvT-loop
-Inv-loop s from n slots₀ i₀ slots i = (length slots ≡ 256) × (i ≤ n) × (length (rowsAt 17 n s from) ≡ n) × Filled relationOf (λ (l : List RelationSlot). map (λ t. t .relation) l) (λ t. t .relation) (λ l x. map-append (λ t. t .relation) l (x ∷ [])) (rowsAt 17 n s from) slots i
+Inv-loop s from n slots₀ i₀ slots i = (length slots ≡ 256) × (i ≤ n) × (length (rowsAt relationSize n s from) ≡ n) × Filled relationOf (λ (l : List RelationSlot). map (λ t. t .relation) l) (λ t. t .relation) (λ l x. map-append (λ t. t .relation) l (x ∷ [])) (rowsAt relationSize n s from) slots i
 
 abbrev μ-loop : tie.MeasureT-loop
 μ-loop s from n slots₀ i₀ slots i = n - i
@@ -28,7 +28,7 @@ no-relations-requires c κs = search needs
 
 -- src/reader.rt:102:5
 loop-holds : tie.Need-loop-holds Inv-loop μ-loop
-loop-holds c = let a = c .before .before .args in (c .no-relations .ensures, omega arith, length-rows 17 (a .n) (a .s .now) (a .from), refl)
+loop-holds c = let a = c .before .before .args in (c .no-relations .ensures, omega arith, length-rows relationSize (a .n) (a .s .now) (a .from), refl)
 
 -- src/reader.rt:103:25
 mul-at : tie.Need-mul-at Inv-loop μ-loop
@@ -56,7 +56,7 @@ part-r-end c = search needs
 
 -- src/reader.rt:106:13
 relation-at-requires : tie.Need-relation-at-requires Inv-loop μ-loop
-relation-at-requires c κs = let l = c .before .before .loop in let a = c .before .before .before .before .before .args in let rows = rowsAt 17 (a .n) (a .s .now) (a .from) in ap plainRelation (row-part 17 (a .n) (a .s .now) (a .from) (l .i) (omega arith)) ∙ every-row plainRelation rows (l .i) (c .before .before .before .before .before .pre .2) (omega arith)
+relation-at-requires c κs = let l = c .before .before .loop in let a = c .before .before .before .before .before .args in let rows = rowsAt relationSize (a .n) (a .s .now) (a .from) in ap plainRelation (row-part relationSize (a .n) (a .s .now) (a .from) (l .i) (omega arith)) ∙ every-row plainRelation rows (l .i) (c .before .before .before .before .before .pre .2) (omega arith)
 
 -- src/reader.rt:107:9
 mul-slots : tie.Need-mul-slots Inv-loop μ-loop
@@ -76,11 +76,11 @@ loop-less c = search needs
 
 -- src/reader.rt:102:5
 loop-again : tie.Need-loop-again Inv-loop μ-loop
-loop-again c = let l = c .before .before .before .loop in let a = c .before .before .before .before .before .before .args in let rows = rowsAt 17 (a .n) (a .s .now) (a .from) in let h : l .i < length (l .slots) = omega arith in (simp length-set (l .inv .0), omega arith, l .inv .2, filling relationOf (λ (l : List RelationSlot). map (λ t. t .relation) l) (λ t. t .relation) (λ l x. map-append (λ t. t .relation) l (x ∷ [])) rows (l .slots) (l .i) _ (omega arith) h (c .relation-at .ensures ∙ ap relationOf (row-part 17 (a .n) (a .s .now) (a .from) (l .i) (omega arith))) (l .inv .3))
+loop-again c = let l = c .before .before .before .loop in let a = c .before .before .before .before .before .before .args in let rows = rowsAt relationSize (a .n) (a .s .now) (a .from) in let h : l .i < length (l .slots) = omega arith in (simp length-set (l .inv .0), omega arith, l .inv .2, filling relationOf (λ (l : List RelationSlot). map (λ t. t .relation) l) (λ t. t .relation) (λ l x. map-append (λ t. t .relation) l (x ∷ [])) rows (l .slots) (l .i) _ (omega arith) h (c .relation-at .ensures ∙ ap relationOf (row-part relationSize (a .n) (a .s .now) (a .from) (l .i) (omega arith))) (l .inv .3))
 
 -- src/reader.rt:96:1
 returns : tie.Need-returns Inv-loop μ-loop
-returns c = let l = c .before .loop in let a = c .before .before .before .before .args in let rows = rowsAt 17 (a .n) (a .s .now) (a .from) in filled relationOf (λ (l : List RelationSlot). map (λ t. t .relation) l) (λ t. t .relation) (λ l x. map-append (λ t. t .relation) l (x ∷ [])) rows (l .slots) (a .n) (l .i) (omega arith) (omega arith) (l .inv .3)
+returns c = let l = c .before .loop in let a = c .before .before .before .before .args in let rows = rowsAt relationSize (a .n) (a .s .now) (a .from) in filled relationOf (λ (l : List RelationSlot). map (λ t. t .relation) l) (λ t. t .relation) (λ l x. map-append (λ t. t .relation) l (x ∷ [])) rows (l .slots) (a .n) (l .i) (omega arith) (omega arith) (l .inv .3)
 
 pub relations-at-spec : {M : Type 1} → statement M
 relations-at-spec =

@@ -1,5 +1,6 @@
 use Rattle.image.proofs.Curves.{length-curve, length-slots, ok-number}
 use Rattle.image.specs.Encode.{encodeCurve}
+use Rattle.image.specs.Records.{curveSize}
 use lib.ListN.{length, length-map}
 use Prim.Native.Nat.{_≤_, _+_}
 use Rattle.big_endian.specs.Laws.{run-starts, run-puts, run-over}
@@ -99,7 +100,7 @@ returns : tie.Need-returns
 unfolding encodeCurve
 returns c =
     let a = c .before .before .before .before .before .before .before .before .before .before .before .before .before .before .before .before .before .before .before .before .before .before .before .before .before .before .before .before .before .before .before .before .args in
-    let h : a .at + 47 ≤ length (a .buf .now) = c .before .before .before .before .before .before .before .before .before .before .before .before .before .before .before .before .before .before .before .before .before .before .before .before .before .before .before .before .before .before .before .before .pre .0 in
+    let h : a .at + curveSize ≤ length (a .buf .now) = c .before .before .before .before .before .before .before .before .before .before .before .before .before .before .before .before .before .before .before .before .before .before .before .before .before .before .before .before .before .before .before .before .pre .0 in
     let l8 : length (a .c .slots) ≡ 8 = sym (length-map (a .c .slots) _) ∙ c .before .before .before .before .before .before .before .before .before .before .before .before .before .before .before .before .before .before .before .before .before .before .before .before .before .before .before .before .before .before .before .before .good .1 .1 .0 .1 .1 .1 .1 .1 .1 .1 .0 .1 .0 .1 in
     let w1 = run-starts (a .buf .now) (a .at) 4 _ (omega arith) (c .before .before .before .before .before .before .before .before .before .before .before .before .before .before .before .before .before .before .before .before .before .before .before .before .before .before .before .put4 .ensures) in
     let w2 = run-puts (a .buf .now) (a .at) 4 1 _ _ _ _ (omega arith) w1 (c .before .before .before .before .before .before .before .before .before .before .before .before .before .before .before .before .before .before .before .before .before .before .put1 .ensures) in

@@ -1,6 +1,7 @@
 use Rattle.sketch.specs.Lists.{concatMap}
 use Rattle.big_endian.specs.Fields.{over}
 use Rattle.image.specs.Encode.{encodeCurve}
+use Rattle.image.specs.Records.{curveSize}
 use Rattle.sketch.specs.Valid.{okCurve}
 use Rattle.sketch.specs.declared.Curve.{Curve}
 use lib.Seq.{take-all}
@@ -19,14 +20,14 @@ use Rattle.image.proofs.writer.write_curves.Lts as lts
 use Rattle.image.proofs.writer.write_curve.Reads as write-curve-reads
 
 abbrev Inv-loop : tie.InvT-loop
-Inv-loop buf₀ from n curves i₀ buf i = (i ≤ n) × (length curves ≡ 128) × Writing encodeCurve 47 (λ (l : List Curve). l) (λ x. x) (λ l x. refl) buf₀ from curves i buf
+Inv-loop buf₀ from n curves i₀ buf i = (i ≤ n) × (length curves ≡ 128) × Writing encodeCurve curveSize (λ (l : List Curve). l) (λ x. x) (λ l x. refl) buf₀ from curves i buf
 
 abbrev μ-loop : tie.MeasureT-loop
 μ-loop buf₀ from n curves i₀ buf i = n - i
 
 -- src/writer.rt:203:5
 loop-holds : tie.Need-loop-holds Inv-loop μ-loop
-loop-holds c = (omega arith, c .before .good .1 .1 .0 .1 .0 .1, writing-starts encodeCurve 47 (λ (l : List Curve). l) (λ x. x) (λ l x. refl) refl _ _ _)
+loop-holds c = (omega arith, c .before .good .1 .1 .0 .1 .0 .1, writing-starts encodeCurve curveSize (λ (l : List Curve). l) (λ x. x) (λ l x. refl) refl _ _ _)
 
 -- src/writer.rt:204:17
 mul-c : tie.Need-mul-c Inv-loop μ-loop
@@ -60,7 +61,7 @@ loop-less c = search needs
 loop-again : tie.Need-loop-again Inv-loop μ-loop
 loop-again c =
     let l = c .before .before .before .before .before .before .loop in
-    (omega arith, l .inv .1, writing-turns encodeCurve 47 (λ (l : List Curve). l) (λ x. x) (λ l x. refl) _ _ _ (l .i) _ _ _ (omega arith) (omega arith) (c .before .before .write-curve .ensures .1) (c .before .before .write-curve .ensures .0) (l .inv .2))
+    (omega arith, l .inv .1, writing-turns encodeCurve curveSize (λ (l : List Curve). l) (λ x. x) (λ l x. refl) _ _ _ (l .i) _ _ _ (omega arith) (omega arith) (c .before .before .write-curve .ensures .1) (c .before .before .write-curve .ensures .0) (l .inv .2))
 
 -- src/writer.rt:198:1
 same-length : tie.Need-same-length Inv-loop μ-loop
@@ -73,7 +74,7 @@ returns c =
     let l = c .before .loop in
     let e : l .i ≡ a .n = omega arith in (
       l .inv .2 .written ∙ ap (λ k. over (a .buf .now) (a .from) (concatMap encodeCurve (take k (a .t3)))) e,
-      ap (λ k. length (concatMap encodeCurve (take k (a .t3)))) (sym e) ∙ l .inv .2 .so-long ∙ ap (λ k. k * 47) e,
+      ap (λ k. length (concatMap encodeCurve (take k (a .t3)))) (sym e) ∙ l .inv .2 .so-long ∙ ap (λ k. k * curveSize) e,
     )
 
 pub write-curves-spec : {M : Type 1} → statement M

@@ -2,6 +2,7 @@ use Rattle.sketch.specs.Lists.{concatMap}
 use Rattle.big_endian.specs.Fields.{over}
 use Rattle.image.proofs.Points.{length-point}
 use Rattle.image.specs.Encode.{encodePoint}
+use Rattle.image.specs.Records.{pointSize}
 use Rattle.sketch.specs.Valid.{okPoint}
 use Rattle.sketch.specs.declared.Point.{Point}
 use lib.Seq.{take-all}
@@ -20,14 +21,14 @@ use Rattle.image.proofs.writer.write_points.Lts as lts
 use Rattle.image.proofs.writer.write_point.Reads as write-point-reads
 
 abbrev Inv-loop : tie.InvT-loop
-Inv-loop buf₀ from n points i₀ buf i = (i ≤ n) × (length points ≡ 512) × Writing encodePoint 21 (λ (l : List Point). l) (λ x. x) (λ l x. refl) buf₀ from points i buf
+Inv-loop buf₀ from n points i₀ buf i = (i ≤ n) × (length points ≡ 512) × Writing encodePoint pointSize (λ (l : List Point). l) (λ x. x) (λ l x. refl) buf₀ from points i buf
 
 abbrev μ-loop : tie.MeasureT-loop
 μ-loop buf₀ from n points i₀ buf i = n - i
 
 -- src/writer.rt:190:5
 loop-holds : tie.Need-loop-holds Inv-loop μ-loop
-loop-holds c = (omega arith, c .before .good .1 .1 .0 .1 .0 .1, writing-starts encodePoint 21 (λ (l : List Point). l) (λ x. x) (λ l x. refl) refl _ _ _)
+loop-holds c = (omega arith, c .before .good .1 .1 .0 .1 .0 .1, writing-starts encodePoint pointSize (λ (l : List Point). l) (λ x. x) (λ l x. refl) refl _ _ _)
 
 -- src/writer.rt:191:17
 mul-p : tie.Need-mul-p Inv-loop μ-loop
@@ -61,7 +62,7 @@ loop-less c = search needs
 loop-again : tie.Need-loop-again Inv-loop μ-loop
 loop-again c =
     let l = c .before .before .before .before .before .before .loop in
-    (omega arith, l .inv .1, writing-turns encodePoint 21 (λ (l : List Point). l) (λ x. x) (λ l x. refl) _ _ _ (l .i) _ _ _ (omega arith) (omega arith) (length-point _) (c .before .before .write-point .ensures) (l .inv .2))
+    (omega arith, l .inv .1, writing-turns encodePoint pointSize (λ (l : List Point). l) (λ x. x) (λ l x. refl) _ _ _ (l .i) _ _ _ (omega arith) (omega arith) (length-point _) (c .before .before .write-point .ensures) (l .inv .2))
 
 -- src/writer.rt:185:1
 same-length : tie.Need-same-length Inv-loop μ-loop

@@ -2,6 +2,7 @@ use Rattle.sketch.specs.Lists.{concatMap}
 use Rattle.big_endian.specs.Fields.{over}
 use Rattle.image.proofs.Relations.{length-relation}
 use Rattle.image.specs.Encode.{encodeRelation}
+use Rattle.image.specs.Records.{relationSize}
 use Rattle.sketch.specs.Valid.{okRelation}
 use Rattle.sketch.specs.declared.RelationSlot.{RelationSlot}
 use lib.Seq.{take-all}
@@ -20,14 +21,14 @@ use Rattle.image.proofs.writer.write_relations.Lts as lts
 use Rattle.image.proofs.writer.write_relation.Reads as write-relation-reads
 
 abbrev Inv-loop : tie.InvT-loop
-Inv-loop buf₀ from n relations i₀ buf i = (i ≤ n) × (length relations ≡ 256) × Writing encodeRelation 17 (λ (l : List RelationSlot). map (λ t. t .relation) l) (λ t. t .relation) (λ l x. map-append (λ t. t .relation) l (x ∷ [])) buf₀ from relations i buf
+Inv-loop buf₀ from n relations i₀ buf i = (i ≤ n) × (length relations ≡ 256) × Writing encodeRelation relationSize (λ (l : List RelationSlot). map (λ t. t .relation) l) (λ t. t .relation) (λ l x. map-append (λ t. t .relation) l (x ∷ [])) buf₀ from relations i buf
 
 abbrev μ-loop : tie.MeasureT-loop
 μ-loop buf₀ from n relations i₀ buf i = n - i
 
 -- src/writer.rt:214:5
 loop-holds : tie.Need-loop-holds Inv-loop μ-loop
-loop-holds c = (omega arith, c .before .good .1 .1 .0 .1 .0 .1, writing-starts encodeRelation 17 (λ (l : List RelationSlot). map (λ t. t .relation) l) (λ t. t .relation) (λ l x. map-append (λ t. t .relation) l (x ∷ [])) refl _ _ _)
+loop-holds c = (omega arith, c .before .good .1 .1 .0 .1 .0 .1, writing-starts encodeRelation relationSize (λ (l : List RelationSlot). map (λ t. t .relation) l) (λ t. t .relation) (λ l x. map-append (λ t. t .relation) l (x ∷ [])) refl _ _ _)
 
 -- src/writer.rt:215:20
 mul-slot : tie.Need-mul-slot Inv-loop μ-loop
@@ -61,7 +62,7 @@ loop-less c = search needs
 loop-again : tie.Need-loop-again Inv-loop μ-loop
 loop-again c =
     let l = c .before .before .before .before .before .before .loop in
-    (omega arith, l .inv .1, writing-turns encodeRelation 17 (λ (l : List RelationSlot). map (λ t. t .relation) l) (λ t. t .relation) (λ l x. map-append (λ t. t .relation) l (x ∷ [])) _ _ _ (l .i) _ _ _ (omega arith) (omega arith) (length-relation _) (c .before .before .write-relation .ensures) (l .inv .2))
+    (omega arith, l .inv .1, writing-turns encodeRelation relationSize (λ (l : List RelationSlot). map (λ t. t .relation) l) (λ t. t .relation) (λ l x. map-append (λ t. t .relation) l (x ∷ [])) _ _ _ (l .i) _ _ _ (omega arith) (omega arith) (length-relation _) (c .before .before .write-relation .ensures) (l .inv .2))
 
 -- src/writer.rt:209:1
 same-length : tie.Need-same-length Inv-loop μ-loop

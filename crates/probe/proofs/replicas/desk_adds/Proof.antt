@@ -5,6 +5,7 @@ use Rattle.edit_plan.specs.Outcome.{Outcome}
 use Rattle.agreement.specs.Machines.{State, callOutcome}
 use Rattle.replication.specs.Protocol.{Edit, protocol}
 use Rattle.replication.specs.Transitions.{stateOf}
+use Rattle.image.specs.Message.{messageSize}
 use Rattle.probe.proofs.ReplicaSums.{desk-declined, desk-done}
 use Rattle.probe.proofs.replicas.desk_adds.Statement.{statement}
 use Rattle.probe.proofs.replicas.desk_adds.Tie as tie
@@ -32,7 +33,7 @@ abbrev asked : tie.Start → Edit
 asked at = record { operation = at .args .operation; curve = at .args .curve; at = record { x = at .args .x; y = at .args .y } }
 
 abbrev comes : tie.Start → Outcome (State Drawing) Removed
-comes at = callOutcome protocol (stateOf (at .args .replica)) (record { edit = asked at; room = 30 })
+comes at = callOutcome protocol (stateOf (at .args .replica)) (record { edit = asked at; room = messageSize })
 
 returns : tie.Need-returns
 returns c =

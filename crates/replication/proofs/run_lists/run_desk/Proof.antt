@@ -1,6 +1,7 @@
 use Prim.Native.Nat.{_≤_, _+_, _-_, _/_, _*_}
+use Rattle.image.specs.Message.{messageSize}
 use Rattle.replication.proofs.Runs.{drew-start, drew-next, drew-all}
-use Rattle.replication.specs.RunBoth.{callAt, DeskRan}
+use Rattle.replication.specs.RunBoth.{callAt, DeskRan, callSize}
 use Rattle.cuts.proofs.Rows.{rows-length}
 use Rattle.cuts.specs.Columns.{rows}
 use Rattle.sketch.specs.Drawing.{view}
@@ -18,10 +19,10 @@ use Rattle.big_endian.proofs.get1.Reads as get1-reads
 use Rattle.replication.proofs.run_lists.desk_edit_at.Reads as desk-edit-at-reads
 
 abbrev Inv-loop : tie.InvT-loop
-Inv-loop entries log₀ last₀ i₀ log last i = (i ≤ length entries / 22) × (length log ≡ length log₀) × DeskRan (view (last₀ .sketch)) (rows i (callAt entries)) log last
+Inv-loop entries log₀ last₀ i₀ log last i = (i ≤ length entries / callSize) × (length log ≡ length log₀) × DeskRan (view (last₀ .sketch)) (rows i (callAt entries)) log last
 
 abbrev μ-loop : tie.MeasureT-loop
-μ-loop entries log₀ last₀ i₀ log last i = length entries / 22 - i
+μ-loop entries log₀ last₀ i₀ log last i = length entries / callSize - i
 
 -- src/run_lists.rt:68:5
 loop-holds : tie.Need-loop-holds Inv-loop μ-loop
@@ -90,7 +91,7 @@ loop-again c =
     let room = c .before .before .before .before .before .before .before .before .before .before .before .pre .2 in
     let m =
     drew-next _ (c .before .before .before .before .before .before .before .before .before .before .before .args .entries .now) (at .log) (at .i) (at .last) (omega arith) (omega arith) (at .inv .2)
-    (at .last .count * 30) (at .last .count * 30 + c .before .before .before .before .before .get1 .result - at .last .count * 30) (omega arith) (omega (arith, c .before .before .before .before .before .get1 .ensures)) (omega arith)
+    (at .last .count * messageSize) (at .last .count * messageSize + c .before .before .before .before .before .get1 .result - at .last .count * messageSize) (omega arith) (omega (arith, c .before .before .before .before .before .get1 .ensures)) (omega arith)
     _ _ (c .before .before .before .desk-edit-at .ensures)
     in
     (omega arith, m .1 ∙ at .inv .1, rw add-one (m .0))

@@ -1,4 +1,5 @@
 use mathlib.Core.Path.{refl}
+use Rattle.image.specs.Message.{messageSize}
 use Rattle.replication.proofs.Program.{least-above}
 use lib.ListN.{length}
 use Prim.Native.Nat.{_-_}
@@ -52,7 +53,7 @@ wall-deliver-requires c κs = search needs
 
 -- src/wall_program.rt:32:5
 loop-less : tie.Need-loop-less Inv-loop μ-loop
-loop-less c = let p = least-above 30 (length (c .before .before .before .before .before .before .before .args .bytes .now) - c .before .before .before .before .before .loop .at) (c .before .before .before .min .ensures .0) (omega arith) (omega arith) in omega arith
+loop-less c = let p = least-above messageSize (length (c .before .before .before .before .before .before .before .args .bytes .now) - c .before .before .before .before .before .loop .at) (c .before .before .before .min .ensures .0) (omega arith) (omega arith) in omega arith
 
 -- src/wall_program.rt:32:5
 loop-again : tie.Need-loop-again Inv-loop μ-loop

@@ -5,6 +5,7 @@ use native.Mathlib.Omega.{arith}
 use lib.ListN.{length-take}
 use borrow.Author.Needs.{needs}
 use Rattle.sketch.specs.Facts.{Sized}
+use Rattle.sketch.specs.Drawing.{limits}
 use Rattle.sketch.proofs.Sketches.{sized, Begun, begun, PointsPassed, points-passed, fault-over, fault-next, fault-points}
 use Rattle.sketch.proofs.validity.fault.Statement.{statement}
 use Rattle.sketch.proofs.validity.fault.Tie as tie
@@ -16,7 +17,7 @@ few c = sized (c .before .args .sk) (c .if1 .left)
 started : (c : tie.Else2) → Begun (c .before .before .args .sk)
 started c = let s = c .before .before .args .sk in begun s (few (c .before)) (c .if2 .left) (high (c .before .before))
   where
-    high : (c : tie.Start) → c .args .sk .next ≤ 4294967295
+    high : (c : tie.Start) → c .args .sk .next ≤ limits .ids
     high c = search needs
 
 past-points : (c : tie.Else3) → PointsPassed (c .before .before .before .before .before .before .before .before .before .args .sk) (c .before .before .before .points-fault .last .1 .1 .1 .0)
