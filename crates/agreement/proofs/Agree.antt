@@ -1,4 +1,4 @@
--- Desk, wall and book agree, over any edit: `agreement`. Assumes `Keeping` and `Read` alone: edits keep drawings valid, and the message of one that is
+-- Desk and wall agree with the reference machine, over any edit: `agreement`. Assumes `Keeping` and `Read` alone: edits keep drawings valid, and the message of one that is
 -- accepted is read as what it was made of.
 use mathlib.Core.Path.{_≡_, refl, sym, ap, _∙_, subst}
 use mathlib.Core.List.{List, _∷_, _++_, map}

@@ -1,4 +1,4 @@
--- The claim, whole, over any edit that keeps drawings valid and whose accepted edits have a `EditEffect`: `demand-3`. And that every side's drawing is valid.
+-- The claim, whole, over any edit that keeps drawings valid and whose accepted edits have an `EditEffect`: `demand-3`. And the drawings of desk and wall are always valid.
 use mathlib.Core.Path.{_≡_, refl, sym, _∙_, subst}
 use mathlib.Core.Bool.{true}
 use mathlib.Core.List.{List, [], _∷_, _++_, append-assoc, append-nil}
@@ -116,7 +116,7 @@ module _ {D E : Type 0} (p : Protocol D E Removed) (v : CurveView D) (target : E
                 (last-take (initial start) l n ∙ sym (g .always before later q .state)) c a b e;
           }
 
-      -- so neither side is ever given a drawing that is not valid
+      -- so neither desk nor wall is ever given a drawing that is not valid
       pub desk-valid : (before later : List (DeskStep D E Removed)) → desk ≡ before ++ later → Valid (deskAfter (initial start) before .drawing)
       desk-valid before later q =
           subst (λ (t : State D). Valid (t .drawing)) (sym (agreement p Valid (k .valid) read start desk wall y dr wr dv .desk-state before later q)) (reference-valid start (calls before) y)

@@ -1,4 +1,4 @@
--- Desk, wall and book agree (`Agree`), chains outlive every edit (`Chains`), and so the whole claim holds (`Demand`).
+-- Desk and wall agree with the reference machine (`Agree`), chains outlive every edit (`Chains`), and so the whole claim holds (`Demand`).
 pub mod Orders
 pub mod Counts
 pub mod Reference

@@ -1,4 +1,4 @@
--- The reference machine's entries: each is the edit of the one before it, and each side of theirs the reference machine had after some of the calls. Assumes nothing.
+-- The reference machine's entries: each is the edit of the one before it, and each of their states the reference machine had after some of the calls. Assumes nothing.
 use mathlib.Core.Path.{_≡_, refl, ap}
 use mathlib.Core.List.{List, [], _∷_, _++_}
 use Prim.Native.Nat.{ℕ, zero, suc, _+_, _≤_, _<_}
@@ -12,7 +12,7 @@ use Rattle.agreement.specs.Machines.{State, Protocol, maxEditNumber, Cal
 use Rattle.agreement.specs.Agreement.{stateAt}
 
 module _ {D E R : Type 0} (p : Protocol D E R) where
-  -- an entry from the side s to the side t
+  -- an entry leads from the state s to the state t
   pub record Step (s : State D) (e : E) (t : State D) (r : R) : Type 0 where
     pub gives : p .edit (s .drawing) e ≡ accepted (t .drawing) r
     pub next : t .count ≡ s .count + 1
@@ -45,10 +45,10 @@ module _ {D E R : Type 0} (p : Protocol D E R) where
   linked-take s [] (suc k) h = tt
   linked-take s (x ∷ xs) (suc k) h = (h .0, linked-take (x .after) xs k (h .1))
 
-  pub side-count : (s : State D) (l : List (Entry D E R)) → Linked s l → (k : ℕ) → k ≤ length l → stateAt s l k .count ≡ s .count + k
-  side-count s l h zero b = omega arith
-  side-count s [] h (suc k) b = absurd (omega arith)
-  side-count s (x ∷ xs) h (suc k) b = let i = side-count (x .after) xs (h .1) k (omega arith) in omega (arith, h .0 .next)
+  pub state-count : (s : State D) (l : List (Entry D E R)) → Linked s l → (k : ℕ) → k ≤ length l → stateAt s l k .count ≡ s .count + k
+  state-count s l h zero b = omega arith
+  state-count s [] h (suc k) b = absurd (omega arith)
+  state-count s (x ∷ xs) h (suc k) b = let i = state-count (x .after) xs (h .1) k (omega arith) in omega (arith, h .0 .next)
 
   -- the reference machine is where its entries end
   pub last-entry : (s : State D) (cs : List (Call E)) → stateAt s (acceptedLog p s cs) (length (acceptedLog p s cs)) ≡ referenceAfter p s cs
@@ -59,7 +59,7 @@ module _ {D E R : Type 0} (p : Protocol D E R) where
       go (refused k) h = h
       go (accepted t r) h = h
 
-  -- ---- each side of theirs, after some of the calls
+  -- ---- each state of the entries, after some of the calls
 
   abbrev pub Booked : State D → List (Call E) → State D → Type 0
   Booked s cs t = (front : List (Call E)) × (later : List (Call E)) × (cs ≡ front ++ later) × (referenceAfter p s front ≡ t)
@@ -67,15 +67,15 @@ module _ {D E R : Type 0} (p : Protocol D E R) where
   BookedAll : State D → List (Call E) → List (Entry D E R) → Type 0
   BookedAll s cs l = (k : ℕ) → k ≤ length l → Booked s cs (stateAt s l k)
 
-  book-step :
+  reference-step :
       (s : State D) (c : Call E) (cs : List (Call E)) (l : List (Entry D E R)) (o : Outcome (State D) R) → callOutcome p s c ≡ o
       → BookedAll (stateAfter s o) cs l → BookedAll s (c ∷ cs) (appendAccepted (c .edit) o l)
   unfolding BookedAll
-  book-step s c cs l (refused n) e ih k b =
+  reference-step s c cs l (refused n) e ih k b =
       let (front, later, q, r) = ih k b in
       (c ∷ front, later, ap (λ (v : List (Call E)). c ∷ v) q, rw e r)
-  book-step s c cs l (accepted t r) e ih zero b = ([], c ∷ cs, refl, refl)
-  book-step s c cs l (accepted t r) e ih (suc k) b =
+  reference-step s c cs l (accepted t r) e ih zero b = ([], c ∷ cs, refl, refl)
+  reference-step s c cs l (accepted t r) e ih (suc k) b =
       let (front, later, q, r) = ih k (omega arith) in
       (c ∷ front, later, ap (λ (v : List (Call E)). c ∷ v) q, rw e r)
 
@@ -83,4 +83,4 @@ module _ {D E R : Type 0} (p : Protocol D E R) where
   unfolding BookedAll
   reference-at s [] zero b = ([], [], refl, refl)
   reference-at s [] (suc k) b = absurd (omega arith)
-  reference-at s (c ∷ cs) k b = book-step s c cs (acceptedLog p (stateAfter s (callOutcome p s c)) cs) (callOutcome p s c) refl (reference-at (stateAfter s (callOutcome p s c)) cs) k b
+  reference-at s (c ∷ cs) k b = reference-step s c cs (acceptedLog p (stateAfter s (callOutcome p s c)) cs) (callOutcome p s c) refl (reference-at (stateAfter s (callOutcome p s c)) cs) k b

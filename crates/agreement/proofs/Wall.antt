@@ -1,4 +1,4 @@
--- The wall's run beside the reference machine's entries: each delivery is the next message, and gives the next entry's side, or leaves the wall. Assumes that edits keep
+-- The wall's run beside the reference machine's entries: each delivery is the next message, and gives the next entry's state, or leaves the wall. Assumes that edits keep
 -- drawings valid (`Keeping`), whatever that means, and that the message of an edit accepted on a valid drawing is read as what it was made of (`Read`).
 use mathlib.Core.Path.{_≡_, refl, sym, ap, _∙_, subst}
 use mathlib.Core.List.{List, [], _∷_, _++_, map, append-nil, List·Memᴰ, List·Memᴰ·cases-cons, List·Memᴰ·not-nil}
@@ -16,7 +16,7 @@ use Rattle.edit_plan.specs.Outcome.{accepted}
 use Rattle.agreement.specs.Machines.{State, message, Protocol, maxEditNumber, Entry, WallReply, wallRefused, wallOld, wallApplied, WallStep, wallAfter, Delivered, wallTransition, WallStepValid, WallRun}
 use Rattle.agreement.specs.Agreement.{stateAt, appliedReplies, Subsequence, CountStep}
 use Rattle.agreement.proofs.Orders.{some-inj, lookup-below, take-more, drop-end, order-nil, order-stay, order-next}
-use Rattle.agreement.proofs.Reference.{Linked, side-count}
+use Rattle.agreement.proofs.Reference.{Linked, state-count}
 use Rattle.agreement.proofs.Runs.{written}
 
 -- what an entry lets the wall tell
@@ -88,7 +88,7 @@ module _ {D E R : Type 0} (p : Protocol D E R) (Valid : D → Type 0) (keeps : K
   found s [] h y m q = absurd (List·Memᴰ·not-nil q)
   found s (x ∷ xs) h y m q = ⊎-elim (found-here s x xs h y m) (λ u. found-later s x xs h m (found (x .after) xs (h .1) (after-valid s x xs h y) m u)) (List·Memᴰ·cases-cons q)
 
-  -- the message at place k carries the number k + 1, and an edit that was accepted
+  -- the message at place k has the number k + 1, and an edit that was accepted
   record Numbered (s : State D) (k : ℕ) (m : List ℕ) : Type 0 where
     e : E
     is : m ≡ p .encode (s .count + k + 1) e
@@ -128,7 +128,7 @@ module _ {D E R : Type 0} (p : Protocol D E R) (Valid : D → Type 0) (keeps : K
       }
 
   module _ (read : Read p Valid) (s₀ : State D) (l : List (Entry D E R)) (h : Linked p s₀ l) (g : Valid (s₀ .drawing)) (z : s₀ .count ≡ 0) where
-    -- the wall's side is the reference machine's at the wall's count
+    -- the wall's state is the reference machine's at the wall's count
     abbrev pub Inv : State D → Type 0
     Inv w = (w ≡ stateAt s₀ l (w .count)) × (w .count ≤ length l)
 
@@ -188,7 +188,7 @@ module _ {D E R : Type 0} (p : Protocol D E R) (Valid : D → Type 0) (keeps : K
 
     inv-moves : (w t : State D) → t ≡ stateAt s₀ l (suc (w .count)) → w .count < length l → (t .count ≡ suc (w .count)) × Inv t
     inv-moves w t e b =
-        let c : t .count ≡ suc (w .count) = ap (λ (u : State D). u .count) e ∙ side-count p s₀ l h (suc (w .count)) (omega arith) ∙ omega arith in
+        let c : t .count ≡ suc (w .count) = ap (λ (u : State D). u .count) e ∙ state-count p s₀ l h (suc (w .count)) (omega arith) ∙ omega arith in
         (c, (e ∙ ap (stateAt s₀ l) (sym c), omega arith))
 
     below : (w : State D) (m : List ℕ) → getElem? (map (written p) l) (w .count) ≡ some m → w .count < length l

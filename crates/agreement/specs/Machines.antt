@@ -113,7 +113,7 @@ module _ {D E R : Type 0} (p : Protocol D E R) where
   wallApply s n (refused k) = (s, wallRefused k)
   wallApply s n (accepted d r) = (record { drawing = d; count = n }, wallApplied r)
 
-  -- old at or below the count, the edit at the next number, 7 beyond it
+  -- old (01's term) at or below the count, the edit at the next number, 7 (ahead, 01's term) beyond it
   abbrev pub wallTransition : State D → Decoded E → State D × WallReply R
   wallTransition s (invalid k) = (s, wallRefused k)
   wallTransition s (message n e) =

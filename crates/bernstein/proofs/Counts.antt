@@ -11,7 +11,7 @@ use Rattle.float.specs.Numbers.{_⊖_, 0f, 1f, 1e-13, 1e-10}
 use Rattle.float.specs.Sign.{abs}
 use Rattle.bernstein.specs.Evaluate.{evaluateOf}
 use Rattle.bernstein.specs.Bisect.{bisectOf}
-use Rattle.bernstein.specs.Roots.{RootsResult, found, refused, allFinite, tiny, toleranceOf, slopes, derivativeOf, sortOnto, insert, dedupAfter, dedupOf, knotsOf, isZero, zerosOf, noBracket, withRoot, andThen, bracketsOf, brackets, gathered, sortedDedup, levelOf, onLevel, rootsAt, rootsOf}
+use Rattle.bernstein.specs.Roots.{RootsResult, found, refused, allFinite, tiny, toleranceOf, slopes, derivativeOf, sortOnto, insert, dedupAfter, dedupOf, knotsOf, isZero, zerosOf, noSignChange, withRoot, andThen, bisectFrom, bisectBetween, gathered, sortedDedup, levelOf, onLevel, rootsAt, rootsOf}
 use Rattle.bernstein.specs.declared.Bisected.{Bisected}
 use Rattle.bernstein.specs.declared.Bisected.the-variants.{At, Spent}
 use Rattle.bernstein.proofs.OrderWalks.{insert-length}
@@ -90,26 +90,26 @@ always : (t : Bool) → cond t true true ≡ true
 always true = refl
 always false = refl
 
-zero-no-bracket : (eps fl fh : Float) → isZero eps fh ≡ true → noBracket eps fl fh ≡ true
-unfolding noBracket
+zero-no-bracket : (eps fl fh : Float) → isZero eps fh ≡ true → noSignChange eps fl fh ≡ true
+unfolding noSignChange
 zero-no-bracket eps fl fh e = rw e (always (isZero eps fl))
 
 module _ (c : List Float) (eps : Float) where
-  after-count : (lo : Float) (l : List Float) (b : ℕ) → length (zerosOf c eps l) + count (bracketsOf c eps lo l b) ≤ length l
-  unfolding zerosOf bracketsOf
+  after-count : (lo : Float) (l : List Float) (b : ℕ) → length (zerosOf c eps l) + count (bisectFrom c eps lo l b) ≤ length l
+  unfolding zerosOf bisectFrom
   after-count lo [] b = omega arith
   after-count lo (hi ∷ l) b =
       let z = length (zerosOf c eps l) in
       let x = bisectOf c 64 lo hi (evaluateOf c lo) b in
-      let rest : ℕ → RootsResult = λ b'. bracketsOf c eps hi l b' in
+      let rest : ℕ → RootsResult = λ b'. bisectFrom c eps hi l b' in
       let k : count (andThen rest x) ≤ suc (length l - z) = then-count rest x (length l - z) (λ b'. omega (arith, after-count hi l b')) in
       let m : z + count (rest b) ≤ length l = after-count hi l b in
-      rw (pick-cons (isZero eps (evaluateOf c hi)) hi (zerosOf c eps l), pick-count (noBracket eps (evaluateOf c lo) (evaluateOf c hi)) (rest b) (andThen rest x))
+      rw (pick-cons (isZero eps (evaluateOf c hi)) hi (zerosOf c eps l), pick-count (noSignChange eps (evaluateOf c lo) (evaluateOf c hi)) (rest b) (andThen rest x))
       (one-each (length l) z (count (rest b)) (count (andThen rest x)) m (omega arith)
-      (isZero eps (evaluateOf c hi)) (noBracket eps (evaluateOf c lo) (evaluateOf c hi)) (zero-no-bracket eps (evaluateOf c lo) (evaluateOf c hi)))
+      (isZero eps (evaluateOf c hi)) (noSignChange eps (evaluateOf c lo) (evaluateOf c hi)) (zero-no-bracket eps (evaluateOf c lo) (evaluateOf c hi)))
 
-  all-count : (l : List Float) (b : ℕ) → length (zerosOf c eps l) + count (brackets c eps l b) ≤ length l
-  unfolding zerosOf brackets
+  all-count : (l : List Float) (b : ℕ) → length (zerosOf c eps l) + count (bisectBetween c eps l b) ≤ length l
+  unfolding zerosOf bisectBetween
   all-count [] b = omega arith
   all-count (k ∷ l) b =
       let h : length (cond (isZero eps (evaluateOf c k)) (k ∷ zerosOf c eps l) (zerosOf c eps l)) ≤ suc (length (zerosOf c eps l))
@@ -121,7 +121,7 @@ pub level-count : (c ts : List Float) (b : ℕ) → count (levelOf c ts b) ≤ l
 unfolding levelOf
 level-count c ts b =
     let eps = toleranceOf c in
-    omega (arith, settled-count (zerosOf c eps (knotsOf ts)) (brackets c eps (knotsOf ts) b), all-count c eps (knotsOf ts) b, knots-length ts)
+    omega (arith, settled-count (zerosOf c eps (knotsOf ts)) (bisectBetween c eps (knotsOf ts) b), all-count c eps (knotsOf ts) b, knots-length ts)
 
 on-count : (c : List Float) (o : RootsResult) (n : ℕ) → count o ≤ n → count (onLevel c o) ≤ n + 2
 unfolding onLevel

@@ -10,7 +10,7 @@ use lib.Seq.{drop-cons, take-suc-set, take-at, length-take-le}
 use lib.Ieee.{Float, nan}
 use Rattle.bernstein.specs.Evaluate.{evaluateOf}
 use Rattle.bernstein.specs.Bisect.{sameSign, bisectOf}
-use Rattle.bernstein.specs.Roots.{RootsResult, found, refused, isZero, zerosOf, noBracket, withRoot, andThen, bracketsOf, brackets, gathered, answerOf}
+use Rattle.bernstein.specs.Roots.{RootsResult, found, refused, isZero, zerosOf, noSignChange, withRoot, andThen, bisectFrom, bisectBetween, gathered, answerOf}
 use Rattle.bernstein.specs.Contracts.{listOf, RootsAtFront}
 use Rattle.bernstein.specs.declared.Bisected.{Bisected}
 use Rattle.bernstein.specs.declared.Bisected.the-variants.{At, Spent}
@@ -92,16 +92,16 @@ module _ (c knots : List Float) (eps : Float) (f₀ f : List Float) (m i : ℕ) 
 -- ---- brackets
 
 module _ (eps fl fh : Float) where
-  pub left-zero : isZero eps fl ≡ true → true ≡ noBracket eps fl fh
-  unfolding noBracket
+  pub left-zero : isZero eps fl ≡ true → true ≡ noSignChange eps fl fh
+  unfolding noSignChange
   left-zero e = rw e
 
-  pub right-zero : isZero eps fl ≡ false → isZero eps fh ≡ true → true ≡ noBracket eps fl fh
-  unfolding noBracket
+  pub right-zero : isZero eps fl ≡ false → isZero eps fh ≡ true → true ≡ noSignChange eps fl fh
+  unfolding noSignChange
   right-zero e f = rw (e, f)
 
-  pub neither : isZero eps fl ≡ false → isZero eps fh ≡ false → sameSign fl fh ≡ noBracket eps fl fh
-  unfolding noBracket
+  pub neither : isZero eps fl ≡ false → isZero eps fh ≡ false → sameSign fl fh ≡ noSignChange eps fl fh
+  unfolding noSignChange
   neither e f = rw (e, f)
 
 pub laid-found : (o : RootsResult) (f : List Float) (q left : ℕ) → found (take q f ++ []) left ≡ o → q ≤ length f → RootsAtFront o f (Found q left)
@@ -114,13 +114,13 @@ pub laid-refused : (o : RootsResult) (f : List Float) → refused 21 0 ≡ o →
 unfolding answerOf listOf
 laid-refused o f e = rw (← e) (record { answer = refl; front = refl })
 
-pub no-knots : (c : List Float) (eps : Float) (knots z : List Float) (b : ℕ) → length knots ≡ 0 → found (z ++ []) b ≡ gathered z (brackets c eps knots b)
-unfolding gathered brackets
+pub no-knots : (c : List Float) (eps : Float) (knots z : List Float) (b : ℕ) → length knots ≡ 0 → found (z ++ []) b ≡ gathered z (bisectBetween c eps knots b)
+unfolding gathered bisectBetween
 no-knots c eps [] z b h = refl
 no-knots c eps (k ∷ knots) z b h = absurd (omega arith)
 
-first-knot : (c : List Float) (eps : Float) (knots : List Float) (b : ℕ) → 0 < length knots → bracketsOf c eps (getD knots 0 nan) (drop 1 knots) b ≡ brackets c eps knots b
-unfolding brackets
+first-knot : (c : List Float) (eps : Float) (knots : List Float) (b : ℕ) → 0 < length knots → bisectFrom c eps (getD knots 0 nan) (drop 1 knots) b ≡ bisectBetween c eps knots b
+unfolding bisectBetween
 first-knot c eps [] b h = absurd (omega arith)
 first-knot c eps (k ∷ knots) b h = refl
 
@@ -136,7 +136,7 @@ pub record Searching (c knots : List Float) (eps : Float) (f₀ : List Float) (z
   pub room : z + length knots ≤ length f
   pub same : length f ≡ length f₀
   pub value : fl ≡ evaluateOf c lo
-  pub done : gathered (take q f) (bracketsOf c eps lo (drop i knots) left) ≡ gathered (take z f₀) (brackets c eps knots budget)
+  pub done : gathered (take q f) (bisectFrom c eps lo (drop i knots) left) ≡ gathered (take z f₀) (bisectBetween c eps knots budget)
 
 pub search-first : (c knots : List Float) (eps : Float) (f : List Float) (z budget : ℕ) (fl : Float) → 0 < length knots → z + length knots ≤ length f
     → fl ≡ evaluateOf c (getD knots 0 nan) → Searching c knots eps f z budget f z budget (getD knots 0 nan) fl 1
@@ -146,23 +146,23 @@ search-first c knots eps f z budget fl h g e =
 module _ (c knots : List Float) (eps : Float) (f₀ : List Float) (z budget : ℕ) (f : List Float) (q left : ℕ) (lo fl : Float) (i : ℕ)
     (s : Searching c knots eps f₀ z budget f q left lo fl i) where
   abbrev whole : RootsResult
-  whole = gathered (take z f₀) (brackets c eps knots budget)
+  whole = gathered (take z f₀) (bisectBetween c eps knots budget)
 
-  module _ (h : i < length knots) (fh : Float) (eh : fh ≡ evaluateOf c (getD knots i nan)) (n : Bool) (en : n ≡ noBracket eps fl fh) where
+  module _ (h : i < length knots) (fh : Float) (eh : fh ≡ evaluateOf c (getD knots i nan)) (n : Bool) (en : n ≡ noSignChange eps fl fh) where
     abbrev hi : Float
     hi = getD knots i nan
 
     abbrev rest : ℕ → RootsResult
-    rest b = bracketsOf c eps hi (drop (suc i) knots) b
+    rest b = bisectFrom c eps hi (drop (suc i) knots) b
 
-    test : (t : Bool) → n ≡ t → noBracket eps (evaluateOf c lo) (evaluateOf c hi) ≡ t
+    test : (t : Bool) → n ≡ t → noSignChange eps (evaluateOf c lo) (evaluateOf c hi) ≡ t
     test t e = rw (← eh, ← s .value) (sym en ∙ e)
 
-    ahead : gathered (take q f) (bracketsOf c eps lo (hi ∷ drop (suc i) knots) left) ≡ whole
+    ahead : gathered (take q f) (bisectFrom c eps lo (hi ∷ drop (suc i) knots) left) ≡ whole
     ahead = rw (← drop-cons knots i nan h) (s .done)
 
-    halves : n ≡ false → bracketsOf c eps lo (hi ∷ drop (suc i) knots) left ≡ andThen rest (bisectOf c 64 lo hi fl left)
-    unfolding bracketsOf
+    halves : n ≡ false → bisectFrom c eps lo (hi ∷ drop (suc i) knots) left ≡ andThen rest (bisectOf c 64 lo hi fl left)
+    unfolding bisectFrom
     halves e = rw (test false e, s .value)
 
     pub out-of : (x : Bisected) → x ≡ bisectOf c 64 lo hi fl left → x ≡ Spent → n ≡ false → refused 21 0 ≡ whole
@@ -171,12 +171,12 @@ module _ (c knots : List Float) (eps : Float) (f₀ : List Float) (z budget : �
 
     module _ (f' : List Float) (q' left' : ℕ) where
       pub passed : n ≡ true → f' ≡ f → q' ≡ q → left' ≡ left → Searching c knots eps f₀ z budget f' q' left' hi fh (i + 1)
-      unfolding bracketsOf
+      unfolding bisectFrom
       passed e ef eq el =
           let w : q + 1 ≤ z + i = s .few in
           let r : z + length knots ≤ length f = s .room in
           let l : length f' ≡ length f = ap length ef in
-          let step : bracketsOf c eps lo (hi ∷ drop (suc i) knots) left ≡ rest left = rw (test true e) in
+          let step : bisectFrom c eps lo (hi ∷ drop (suc i) knots) left ≡ rest left = rw (test true e) in
           record { within = omega arith; few = omega arith; room = omega arith; same = l ∙ s .same; value = eh; done = rw (ef, eq, el, add-one, ← step) ahead }
 
       pub bracketed : (r : Float) (b : ℕ) (x : Bisected) → x ≡ bisectOf c 64 lo hi fl left → x ≡ At r b → n ≡ false → f' ≡ set f q r → q' ≡ q + 1 → left' ≡ b
@@ -187,7 +187,7 @@ module _ (c knots : List Float) (eps : Float) (f₀ : List Float) (z budget : �
           let u : z + length knots ≤ length f = s .room in
           let k : q < length f = omega arith in
           let l : length f' ≡ length f = ap length ef ∙ length-set f q r in
-          let step : bracketsOf c eps lo (hi ∷ drop (suc i) knots) left ≡ withRoot r (rest b) = halves e ∙ ap (andThen rest) (sym ex ∙ ea) in
+          let step : bisectFrom c eps lo (hi ∷ drop (suc i) knots) left ≡ withRoot r (rest b) = halves e ∙ ap (andThen rest) (sym ex ∙ ea) in
           record {
             within = omega arith;
             few = omega arith;
@@ -198,7 +198,7 @@ module _ (c knots : List Float) (eps : Float) (f₀ : List Float) (z budget : �
           }
 
   pub all-searched : length knots ≤ i → RootsAtFront whole f (Found q left)
-  unfolding gathered bracketsOf
+  unfolding gathered bisectFrom
   all-searched h =
       let w : q + 1 ≤ z + i = s .few in
       let g : i ≤ length knots = s .within in

@@ -9,7 +9,7 @@ use lib.ListN.{length, take, drop, length-append, length-take}
 use lib.Seq.{take-at, take-append-le}
 use lib.Ieee.{Float, lt}
 use Rattle.float.specs.Numbers.{_⊗_, 0f, 1f, 1e-28, 2e-13, 1e-13, 1e-10}
-use Rattle.bernstein.specs.Roots.{RootsResult, found, refused, allFinite, largestOf, tiny, toleranceOf, derivativeOf, sortOnto, dedupOf, knotsOf, zerosOf, brackets, gathered, sortedDedup, levelOf, onLevel, rootsAt, rootsOf, searchOf, answerOf, leftIn, Searched}
+use Rattle.bernstein.specs.Roots.{RootsResult, found, refused, allFinite, largestOf, tiny, toleranceOf, derivativeOf, sortOnto, dedupOf, knotsOf, zerosOf, bisectBetween, gathered, sortedDedup, levelOf, onLevel, rootsAt, rootsOf, searchOf, answerOf, leftIn, Searched}
 use Rattle.bernstein.specs.Contracts.{listOf, RootsAtFront}
 use Rattle.bernstein.specs.declared.Roots.{Roots}
 use Rattle.bernstein.specs.declared.Roots.the-variants.{Found, Refused}
@@ -67,7 +67,7 @@ module _ (ts j t : List Float) (m : ℕ) (ej : take (length ts + 2) j ≡ ts ++ 
 
 -- what lies between the zeros and their tidying: k the knots, z the zeros and s the largest coefficient
 module _ (c ts k z : List Float) (b : ℕ) (s : Float) (ek : k ≡ knotsOf ts) (es : s ≡ largestOf 0f c) (ez : z ≡ zerosOf c (s ⊗ 2e-13) k) where
-  pub level-is : levelOf c ts b ≡ sortedDedup (gathered z (brackets c (s ⊗ 2e-13) k b))
+  pub level-is : levelOf c ts b ≡ sortedDedup (gathered z (bisectBetween c (s ⊗ 2e-13) k b))
   unfolding levelOf toleranceOf
   level-is = rw (ez, ek, es)
 
@@ -99,7 +99,7 @@ module _ (c ts : List Float) (b : ℕ) (o : RootsResult) (el : levelOf c ts b �
     pub level-few : length (dedupOf 1e-10 (sortOnto [] (take q f))) ≤ length ts + 2
     level-few = omega (arith, level-count c ts b, ap count level-found)
 
--- ---- the search, by its first test that tells
+-- ---- the search, by its first test that decides
 
 pub tiny-is : (c : List Float) (m : Float) (b : Bool) → m ≡ largestOf 0f c → lt m 1e-28 ≡ b → tiny c ≡ b
 unfolding tiny

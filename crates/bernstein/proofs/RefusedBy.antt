@@ -8,7 +8,7 @@ use lib.ListN.{length}
 use lib.Ieee.{Float}
 use Rattle.bernstein.specs.Evaluate.{evaluateOf}
 use Rattle.bernstein.specs.Bisect.{bisectOf}
-use Rattle.bernstein.specs.Roots.{RootsResult, found, refused, allFinite, tiny, toleranceOf, derivativeOf, knotsOf, zerosOf, noBracket, withRoot, andThen, bracketsOf, brackets, gathered, sortedDedup, levelOf, onLevel, rootsAt, rootsOf}
+use Rattle.bernstein.specs.Roots.{RootsResult, found, refused, allFinite, tiny, toleranceOf, derivativeOf, knotsOf, zerosOf, noSignChange, withRoot, andThen, bisectFrom, bisectBetween, gathered, sortedDedup, levelOf, onLevel, rootsAt, rootsOf}
 use Rattle.bernstein.specs.declared.Bisected.{Bisected}
 use Rattle.bernstein.specs.declared.Bisected.the-variants.{At, Spent}
 
@@ -33,15 +33,15 @@ unfolding andThen
 and-then f (At r b) h = with-root r (f b) (h b)
 and-then f Spent h = (omega arith, omega arith)
 
-between : (c : List Float) (eps lo : Float) (l : List Float) (b : ℕ) → By20Or21 (bracketsOf c eps lo l b)
-unfolding bracketsOf
+between : (c : List Float) (eps lo : Float) (l : List Float) (b : ℕ) → By20Or21 (bisectFrom c eps lo l b)
+unfolding bisectFrom
 between c eps lo [] b = tt
 between c eps lo (hi ∷ l) b =
-    by-either (noBracket eps (evaluateOf c lo) (evaluateOf c hi)) (bracketsOf c eps hi l b) (andThen (λ b'. bracketsOf c eps hi l b') (bisectOf c 64 lo hi (evaluateOf c lo) b))
-    (between c eps hi l b) (and-then (λ b'. bracketsOf c eps hi l b') (bisectOf c 64 lo hi (evaluateOf c lo) b) (λ b'. between c eps hi l b'))
+    by-either (noSignChange eps (evaluateOf c lo) (evaluateOf c hi)) (bisectFrom c eps hi l b) (andThen (λ b'. bisectFrom c eps hi l b') (bisectOf c 64 lo hi (evaluateOf c lo) b))
+    (between c eps hi l b) (and-then (λ b'. bisectFrom c eps hi l b') (bisectOf c 64 lo hi (evaluateOf c lo) b) (λ b'. between c eps hi l b'))
 
-between-all : (c : List Float) (eps : Float) (l : List Float) (b : ℕ) → By20Or21 (brackets c eps l b)
-unfolding brackets
+between-all : (c : List Float) (eps : Float) (l : List Float) (b : ℕ) → By20Or21 (bisectBetween c eps l b)
+unfolding bisectBetween
 between-all c eps [] b = tt
 between-all c eps (k ∷ l) b = between c eps k l b
 
@@ -52,7 +52,7 @@ in-order z (refused n b) h = h
 
 on-level : (c : List Float) (o : RootsResult) → By20Or21 o → By20Or21 (onLevel c o)
 unfolding onLevel levelOf
-on-level c (found ts b) h = in-order (zerosOf c (toleranceOf c) (knotsOf ts)) (brackets c (toleranceOf c) (knotsOf ts) b) (between-all c (toleranceOf c) (knotsOf ts) b)
+on-level c (found ts b) h = in-order (zerosOf c (toleranceOf c) (knotsOf ts)) (bisectBetween c (toleranceOf c) (knotsOf ts) b) (between-all c (toleranceOf c) (knotsOf ts) b)
 on-level c (refused n b) h = h
 
 at-level : (n : ℕ) (c : List Float) (b : ℕ) → By20Or21 (rootsAt n c b)

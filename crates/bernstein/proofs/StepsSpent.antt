@@ -12,7 +12,7 @@ use lib.ListN.{length}
 use lib.Ieee.{Float}
 use Rattle.bernstein.specs.Evaluate.{evaluateOf}
 use Rattle.bernstein.specs.Bisect.{middle, narrow, sameSign, bisectOf}
-use Rattle.bernstein.specs.Roots.{RootsResult, found, refused, allFinite, tiny, toleranceOf, derivativeOf, knotsOf, zerosOf, noBracket, withRoot, andThen, bracketsOf, brackets, gathered, sortedDedup, levelOf, onLevel, rootsAt, rootsOf}
+use Rattle.bernstein.specs.Roots.{RootsResult, found, refused, allFinite, tiny, toleranceOf, derivativeOf, knotsOf, zerosOf, noSignChange, withRoot, andThen, bisectFrom, bisectBetween, gathered, sortedDedup, levelOf, onLevel, rootsAt, rootsOf}
 use Rattle.bernstein.specs.declared.Bisected.{Bisected}
 use Rattle.bernstein.specs.declared.Bisected.the-variants.{At, Spent}
 use Rattle.bernstein.proofs.Counts.{count, knots-length, at-count}
@@ -66,19 +66,19 @@ then-spends rest (At r b') b n h k = omega (arith, k b', with-left r (rest b'))
 then-spends rest Spent b n h k = omega arith
 
 module _ (c : List Float) (eps : Float) where
-  pairs-spend : (lo : Float) (l : List Float) (b : ℕ) → b ≤ left (bracketsOf c eps lo l b) + 64 * length l
-  unfolding bracketsOf
+  pairs-spend : (lo : Float) (l : List Float) (b : ℕ) → b ≤ left (bisectFrom c eps lo l b) + 64 * length l
+  unfolding bisectFrom
   pairs-spend lo [] b = omega arith
   pairs-spend lo (hi ∷ l) b =
-      let rest : ℕ → RootsResult = λ b'. bracketsOf c eps hi l b' in
+      let rest : ℕ → RootsResult = λ b'. bisectFrom c eps hi l b' in
       let x = bisectOf c 64 lo hi (evaluateOf c lo) b in
       let n : 64 * suc (length l) ≡ 64 * length l + 64 = omega arith in
       let h : b ≤ left (rest b) + (64 * length l + 64) = omega (arith, pairs-spend hi l b) in
-      rw n (pick-left (noBracket eps (evaluateOf c lo) (evaluateOf c hi)) (rest b) (andThen rest x) b (64 * length l + 64) h
+      rw n (pick-left (noSignChange eps (evaluateOf c lo) (evaluateOf c hi)) (rest b) (andThen rest x) b (64 * length l + 64) h
       (then-spends rest x b (64 * length l) (bisect-spends c 64 lo hi (evaluateOf c lo) b) (λ b'. pairs-spend hi l b')))
 
-  brackets-spend : (l : List Float) (b n : ℕ) → length l ≤ n + 1 → b ≤ left (brackets c eps l b) + 64 * n
-  unfolding brackets
+  brackets-spend : (l : List Float) (b n : ℕ) → length l ≤ n + 1 → b ≤ left (bisectBetween c eps l b) + 64 * n
+  unfolding bisectBetween
   brackets-spend [] b n h = omega arith
   brackets-spend (k ∷ l) b n h = omega (arith, pairs-spend k l b)
 
@@ -92,7 +92,7 @@ pub level-spends : (c ts : List Float) (b : ℕ) → b ≤ left (levelOf c ts b)
 unfolding levelOf
 level-spends c ts b =
     let eps = toleranceOf c in
-    let o = brackets c eps (knotsOf ts) b in
+    let o = bisectBetween c eps (knotsOf ts) b in
     rw (settled-left (zerosOf c eps (knotsOf ts)) o) (brackets-spend c eps (knotsOf ts) b (length ts + 1) (omega (arith, knots-length ts)))
 
 -- ---- all levels

@@ -1,4 +1,4 @@
--- How a level's roots lie in a buffer, for the contracts of functions that nothing outside calls. Definitions only.
+-- The contracts of private functions, which nothing outside needs: how a level's roots lie in a buffer. Definitions only.
 use mathlib.Core.List.{List, []}
 use mathlib.Core.Path.{_≡_}
 use lib.ListN.{length, take}

@@ -93,8 +93,8 @@ zerosOf c eps (t ∷ l) =
     cond (isZero eps (evaluateOf c t)) (t ∷ rest) rest
 
 -- no root lies between two knots with these values: one of them is a zero itself, or the signs agree
-unfoldable pub noBracket : Float → Float → Float → Bool
-noBracket eps fl fh = cond (isZero eps fl) true (cond (isZero eps fh) true (sameSign fl fh))
+unfoldable pub noSignChange : Float → Float → Float → Bool
+noSignChange eps fl fh = cond (isZero eps fl) true (cond (isZero eps fh) true (sameSign fl fh))
 
 unfoldable pub withRoot : Float → RootsResult → RootsResult
 withRoot r (found l b) = found (r ∷ l) b
@@ -106,16 +106,16 @@ andThen rest (At r b) = withRoot r (rest b)
 andThen rest Spent = refused 21 0
 
 -- the roots between neighbours, from lo on
-unfoldable pub bracketsOf : List Float → Float → Float → List Float → ℕ → RootsResult
-bracketsOf c eps lo [] b = found [] b
-bracketsOf c eps lo (hi ∷ l) b =
-    let passed = bracketsOf c eps hi l b in
-    let halved = andThen (λ b'. bracketsOf c eps hi l b') (bisectOf c 64 lo hi (evaluateOf c lo) b) in
-    cond (noBracket eps (evaluateOf c lo) (evaluateOf c hi)) passed halved
+unfoldable pub bisectFrom : List Float → Float → Float → List Float → ℕ → RootsResult
+bisectFrom c eps lo [] b = found [] b
+bisectFrom c eps lo (hi ∷ l) b =
+    let passed = bisectFrom c eps hi l b in
+    let halved = andThen (λ b'. bisectFrom c eps hi l b') (bisectOf c 64 lo hi (evaluateOf c lo) b) in
+    cond (noSignChange eps (evaluateOf c lo) (evaluateOf c hi)) passed halved
 
-unfoldable pub brackets : List Float → Float → List Float → ℕ → RootsResult
-brackets c eps [] b = found [] b
-brackets c eps (k ∷ l) b = bracketsOf c eps k l b
+unfoldable pub bisectBetween : List Float → Float → List Float → ℕ → RootsResult
+bisectBetween c eps [] b = found [] b
+bisectBetween c eps (k ∷ l) b = bisectFrom c eps k l b
 
 -- roots, and those of an outcome behind them
 unfoldable pub gathered : List Float → RootsResult → RootsResult
@@ -128,7 +128,7 @@ sortedDedup (found l b) = found (dedupOf 1e-10 (sortOnto [] l)) b
 sortedDedup (refused w b) = refused w b
 
 unfoldable pub levelOf : List Float → List Float → ℕ → RootsResult
-levelOf c ts b = sortedDedup (gathered (zerosOf c (toleranceOf c) (knotsOf ts)) (brackets c (toleranceOf c) (knotsOf ts) b))
+levelOf c ts b = sortedDedup (gathered (zerosOf c (toleranceOf c) (knotsOf ts)) (bisectBetween c (toleranceOf c) (knotsOf ts) b))
 
 -- ---- the search
 
@@ -154,6 +154,11 @@ searchOf room c b = cond (ltb room 28) (refused 25 b) (rootsOf c b)
 unfoldable pub answerOf : RootsResult → Roots
 answerOf (found l b) = Found (length l) b
 answerOf (refused w b) = Refused w b
+
+-- the refusal's number, or 0
+abbrev pub numberOf : RootsResult → ℕ
+numberOf (found l b) = 0
+numberOf (refused w b) = w
 
 -- the lent floats afterwards: the roots at the front and the rest unchanged, or all of it unchanged
 unfoldable pub leftIn : RootsResult → List Float → List Float

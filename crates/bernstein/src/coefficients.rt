@@ -1,4 +1,4 @@
-// What the search asks of the coefficients as a whole, and those of the derivative.
+// Tests of the coefficients as a whole, and the derivative's coefficients.
 use crate::MOST;
 ghost use Prim.Native.Nat.{_-_, _≤_};
 ghost use mathlib.Core.Path.{_≡_};

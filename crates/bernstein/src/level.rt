@@ -11,7 +11,7 @@ ghost use mathlib.Core.List.{[], _∷_, _++_};
 ghost use mathlib.Core.Path.{_≡_};
 ghost use lib.ListN.{length, take, drop};
 ghost use Rattle.float.specs.Numbers.{0f, 1f, 1e-10};
-ghost use Rattle.bernstein.specs.Roots.{sortOnto, dedupOf, isZero, zerosOf, noBracket, brackets, gathered, levelOf, Searched};
+ghost use Rattle.bernstein.specs.Roots.{sortOnto, dedupOf, isZero, zerosOf, noSignChange, bisectBetween, gathered, levelOf, Searched};
 ghost use Rattle.bernstein.specs.Contracts.{RootsAtFront};
 
 // The derivative's roots and the two ends.
@@ -56,8 +56,8 @@ fn zeros(c: &[f64], knots: &[f64], eps: f64, f: &mut [f64]) -> usize
 }
 
 // Whether two neighbouring knots with these values have no root between them.
-fn no_bracket(eps: f64, fl: f64, fh: f64) -> bool
-    ensures { λ r. ⌜ r ≡ noBracket eps fl fh ⌝ }
+fn no_sign_change(eps: f64, fl: f64, fh: f64) -> bool
+    ensures { λ r. ⌜ r ≡ noSignChange eps fl fh ⌝ }
 {
     if is_zero(eps, fl) {
         return true;
@@ -71,7 +71,7 @@ fn no_bracket(eps: f64, fl: f64, fh: f64) -> bool
 // The roots between neighbouring knots, behind the first z of f.
 fn between(c: &[f64], knots: &[f64], eps: f64, f: &mut [f64], z: usize, budget: usize) -> Roots
     requires { ⌜ z + length (now knots) ≤ length (now f) ⌝ }
-    ensures { λ r. ⌜ RootsAtFront (gathered (take z (now (f .entry))) (brackets (now (c .entry)) eps (now (knots .entry)) budget)) (now (f .exit)) r ⌝ }
+    ensures { λ r. ⌜ RootsAtFront (gathered (take z (now (f .entry))) (bisectBetween (now (c .entry)) eps (now (knots .entry)) budget)) (now (f .exit)) r ⌝ }
 {
     let mut q = z;
     let mut left = budget;
@@ -84,7 +84,7 @@ fn between(c: &[f64], knots: &[f64], eps: f64, f: &mut [f64], z: usize, budget: 
     while i < knots.len() {
         let hi = knots[i];
         let fh = evaluate(c, hi);
-        if !no_bracket(eps, fl, fh) {
+        if !no_sign_change(eps, fl, fh) {
             let Bisected::At(r, rest) = bisect(c, lo, hi, fl, left) else {
                 return Roots::Refused(21, 0);
             };

@@ -6,7 +6,7 @@ use mathlib.Core.List.{List, [], _∷_, _++_}
 use lib.Dec.{leb}
 use lib.ListN.{length, take, drop, getD}
 
--- the number that the n bytes at `at` spell, the highest first; bytes past the end count as 0
+-- the big-endian value of the n bytes at `at`; bytes past the end count as 0
 unfoldable pub field : List ℕ → ℕ → ℕ → ℕ
 field s at zero = 0
 field s at (suc n) = field s at n * 256 + getD s (at + n) 0
@@ -24,7 +24,7 @@ part s at n = take n (drop at s)
 unfoldable pub over : List ℕ → ℕ → List ℕ → List ℕ
 over l at b = take at l ++ (b ++ drop (at + length b) l)
 
--- the same where b fits in l, and l unchanged where it doesn't
+-- b written over l where it fits, and l unchanged where it doesn't
 unfoldable pub overIfFits : List ℕ → ℕ → List ℕ → List ℕ
 overIfFits l at b = cond (leb (at + length b) (length l)) (over l at b) l
 

@@ -13,7 +13,7 @@ pub fn get1(s: &[u8], at: usize) -> u8
     if at < s.len() { s[at] } else { 0 }
 }
 
-// The number that two bytes spell; those past the end count as 0.
+// The big-endian value of two bytes; bytes past the end count as 0.
 pub fn get2(s: &[u8], at: usize) -> u16
     ensures { λ r. ⌜ r ≡ field (now (s .entry)) at 2 ⌝ }
 {
@@ -27,7 +27,7 @@ pub fn get2(s: &[u8], at: usize) -> u16
     get1(s, at) as u16 * 256
 }
 
-// The number that four bytes spell; those past the end count as 0.
+// The big-endian value of four bytes; bytes past the end count as 0.
 pub fn get4(s: &[u8], at: usize) -> u32
     ensures { λ r. ⌜ r ≡ field (now (s .entry)) at 4 ⌝ }
 {
@@ -41,7 +41,7 @@ pub fn get4(s: &[u8], at: usize) -> u32
     load::load4(s, at)
 }
 
-// The number that eight bytes spell; those past the end count as 0.
+// The big-endian value of eight bytes; bytes past the end count as 0.
 pub fn get8(s: &[u8], at: usize) -> u64
     ensures { λ r. ⌜ r ≡ field (now (s .entry)) at 8 ⌝ }
 {

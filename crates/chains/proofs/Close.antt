@@ -211,7 +211,7 @@ module _ (d : Drawing) (w : Low (d .next) (d .curves)) (t : ℕ) (here : 0 < occ
                   let v : occurrences i (ids d) ≡ 0 = ap (λ (j : ℕ). occurrences j (ids d)) z ∙ w .above in
                   (ap endsAt (look-none (d″ .curves) i u ∙ sym (look-none (d .curves) i v)), u ∙ sym v)
 
-  -- t went, of which no ends are told: it is its own chain, a ring of one
+  -- t is removed, and its report has no ends: it is its own chain, a ring of one
   module _ (d″ : Drawing) (same : (i : ℕ) → (i ≡ t → ⊥) → occurrences i (ids d″) ≡ occurrences i (ids d)) (went : occurrences t (ids d″) ≡ 0) where
     none-added : (i : ℕ) → occurrences i (added curveView d d″ (link t 0 0)) ≡ 0
     none-added i = go (ℕ-discrete (occurrences i (ids d)) 0)

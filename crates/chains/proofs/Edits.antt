@@ -1,4 +1,4 @@
--- What a plan does, once it is applied: a valid drawing stays valid, and its chains whole. So the claim over desk and wall holds of any edit that carries
+-- What a plan does, once it is applied: a valid drawing stays valid, and its chains whole. So the claim over desk and wall holds of any edit that applies
 -- out a plan with its pins held (`planned-demand-3`). Assumes of the edit `Planned`, and of its messages `Read`.
 use mathlib.Core.Path.{_≡_, _∙_}
 use mathlib.Core.Bool.{Bool, true}

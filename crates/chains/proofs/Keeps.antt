@@ -121,14 +121,14 @@ module _ (m : Limits) where
         holds-then (SplitHeld m eased (c .id)) Ok (splitAt m eased c vs) _ (keep-split m eased (valid-release m d v (c .id) c at) (c .id) c at vs) λ d′ q h.
         holds-then (λ d″ x. Kept m d′ d″) Ok (tie m d′ (c .id) (q .pieces)) _ (keep-tie m d′ (h .sort) (h .solid) (c .id) (q .pieces) (h .held .valid) (h .sort-is) (h .sorted) (h .up)) λ d″ x k. k .valid
 
-    carried-valid : (plan : Plan) → Pinned d (c .id) plan → Holds Ok (applyPlanTo met m d c plan)
+    applied-valid : (plan : Plan) → Pinned d (c .id) plan → Holds Ok (applyPlanTo met m d c plan)
     unfolding applyPlanTo
-    carried-valid Whole f = valid-remove m d v (c .id)
-    carried-valid (Cut w first-goes) f = keep-cut (w ∷ []) first-goes (held-lies m d v (c .id) (w .pin) f, tt)
-    carried-valid (CutTwo w u first-goes) f = keep-cut (w ∷ u ∷ []) first-goes (held-lies m d v (c .id) (w .pin) (f .0), (held-lies m d v (c .id) (u .pin) (f .1), tt))
-    carried-valid (Divide u) f = keep-divide (u ∷ [])
-    carried-valid (DivideTwo u w) f = keep-divide (u ∷ w ∷ [])
-    carried-valid (Move at-end u w) f = keep-extend at-end u w (held-lies m d v (c .id) w f)
+    applied-valid Whole f = valid-remove m d v (c .id)
+    applied-valid (Cut w first-goes) f = keep-cut (w ∷ []) first-goes (held-lies m d v (c .id) (w .pin) f, tt)
+    applied-valid (CutTwo w u first-goes) f = keep-cut (w ∷ u ∷ []) first-goes (held-lies m d v (c .id) (w .pin) (f .0), (held-lies m d v (c .id) (u .pin) (f .1), tt))
+    applied-valid (Divide u) f = keep-divide (u ∷ [])
+    applied-valid (DivideTwo u w) f = keep-divide (u ∷ w ∷ [])
+    applied-valid (Move at-end u w) f = keep-extend at-end u w (held-lies m d v (c .id) w f)
 
   -- the theorem
   pub apply-plan-valid : (met : Drawing → Bool) (d : Drawing) → Valid m d → (t : ℕ) (plan : Plan) → Pinned d t plan → Holds (λ d′ r. Valid m d′) (applyPlan met m d t plan)
@@ -139,4 +139,4 @@ module _ (m : Limits) where
       go none e = tt
       go (some c) e =
           let q : c .id ≡ t = look-some (d .curves) t c e .1 in
-          carried-valid met d v c (ap (curveIn (d .curves)) q ∙ e) plan (subst (λ (z : ℕ). Pinned d z plan) (sym q) f)
+          applied-valid met d v c (ap (curveIn (d .curves)) q ∙ e) plan (subst (λ (z : ℕ). Pinned d z plan) (sym q) f)

@@ -26,7 +26,7 @@ use Rattle.edit_plan.specs.declared.Plan.{Plan}
 use Rattle.edit_plan.specs.declared.Plan.the-variants.{Whole, Cut, CutTwo, Divide, DivideTwo, Move}
 use Rattle.edit_plan.specs.Outcome.{Outcome, refused, accepted, _then_, guard}
 use Rattle.edit_plan.specs.Tables.{addPoint, addCurve, addRelation, setKind, movePoint}
-use Rattle.edit_plan.specs.Steps.{endsOf, isLine, releaseExtent, links, piecesOf, addPoints, addCurves, addPieces, splitAt, pin, pinAll, lineAt, tied, tie, swap}
+use Rattle.edit_plan.specs.Steps.{endsOf, isLine, releaseExtent, links, piecesOf, addPoints, addCurves, addPieces, splitAt, pin, pinAll, lineAt, tieRelation, tie, swap}
 use Rattle.edit_plan.specs.ApplyPlan.{removePiece, cut, divide, checkMet, moveEnd, applyPlanTo, applyPlanAt, applyPlan}
 use Rattle.edit_plan.specs.Suited.{suitsOpen, suitsClosed, suits}
 use Rattle.edit_plan.proofs.Tables.{Holds, holds-map, holds-then}
@@ -174,7 +174,7 @@ module _ (m : Limits) where
   by-tie : (d : Drawing) (a : ℕ) (bs : List ℕ) → By cutting (tie m d a bs)
   by-tie d a [] = tt
   by-tie d a (b ∷ bs) =
-      let r = tied (lineAt (curveIn (d .curves) a)) a b in
+      let r = tieRelation (lineAt (curveIn (d .curves) a)) a b in
       by-next cutting (addRelation m d r) _ (by-relation cutting refl m d r) λ d′ u. by-tie d′ b bs
 
   by-without : (t : ℕ) (b : Bool) (is : List ℕ) (d : Drawing) → 0 < length is → By cutting (removePiece m t b is d)

@@ -15,7 +15,7 @@ use Rattle.edit_plan.specs.declared.Pin.the-variants.{On, At}
 use Rattle.edit_plan.specs.declared.PinnedPoint.{PinnedPoint}
 use Rattle.edit_plan.specs.Outcome.{accepted}
 use Rattle.edit_plan.specs.Tables.{addPoint, addRelation}
-use Rattle.edit_plan.specs.Steps.{addPoints, pin, pinAll, lineAt, tied, tie}
+use Rattle.edit_plan.specs.Steps.{addPoints, pin, pinAll, lineAt, tieRelation, tie}
 use Rattle.edit_plan.proofs.Tables.{Holds, holds-map, holds-then, holds-need}
 
 pub record Same (d d′ : Drawing) : Type 0 where
@@ -61,5 +61,5 @@ same-pins m d (p ∷ ps) (w ∷ ws) =
 pub same-tie : (m : Limits) (d : Drawing) (a : ℕ) (bs : List ℕ) → Holds (λ d′ u. Same d d′) (tie m d a bs)
 same-tie m d a [] = same-refl d
 same-tie m d a (b ∷ bs) =
-    holds-then (λ d′ u. Same d d′) (λ d′ u. Same d d′) (addRelation m d (tied (lineAt (curveIn (d .curves) a)) a b)) _ (same-relation m d _) λ d′ u h.
+    holds-then (λ d′ u. Same d d′) (λ d′ u. Same d d′) (addRelation m d (tieRelation (lineAt (curveIn (d .curves) a)) a b)) _ (same-relation m d _) λ d′ u h.
     holds-map (λ d″ u. Same d′ d″) (λ d″ u. Same d d″) (tie m d′ b bs) (λ d″ u q. same-trans h q) (same-tie m d′ b bs)

@@ -223,14 +223,14 @@ module _ (met : Drawing → Bool) (m : Limits) (d : Drawing) (w : Low (d .next) 
       let k = cut-same (c .id) c at d′ d″ s h in
       close (c .id) c at d″ (link (c .id) (k .a) (k .cut-is .mid) ∷ k .cut-is .rest) (k .cut-is .laid) (way (c .id) c at (k .a) (k .b) (link (c .id) (k .a) (k .cut-is .mid) ∷ k .cut-is .rest) (k .whose) (k .round) (refl, k .cut-is .linked))
 
-  carried-shape : (c : Curve) → curveIn (d .curves) (c .id) ≡ some c → (plan : Plan) → Holds (ShapeAt (c .id)) (applyPlanTo met m d c plan)
+  applied-shape : (c : Curve) → curveIn (d .curves) (c .id) ≡ some c → (plan : Plan) → Holds (ShapeAt (c .id)) (applyPlanTo met m d c plan)
   unfolding applyPlanTo
-  carried-shape c at Whole = whole-shape (c .id) c at
-  carried-shape c at (Cut w first-goes) = cut-shape c at (w ∷ []) first-goes
-  carried-shape c at (CutTwo w v first-goes) = cut-shape c at (w ∷ v ∷ []) first-goes
-  carried-shape c at (Divide v) = divide-shape c at (v ∷ [])
-  carried-shape c at (DivideTwo v u) = divide-shape c at (v ∷ u ∷ [])
-  carried-shape c at (Move at-end v w) = move-shape (c .id) c at at-end v w
+  applied-shape c at Whole = whole-shape (c .id) c at
+  applied-shape c at (Cut w first-goes) = cut-shape c at (w ∷ []) first-goes
+  applied-shape c at (CutTwo w v first-goes) = cut-shape c at (w ∷ v ∷ []) first-goes
+  applied-shape c at (Divide v) = divide-shape c at (v ∷ [])
+  applied-shape c at (DivideTwo v u) = divide-shape c at (v ∷ u ∷ [])
+  applied-shape c at (Move at-end v w) = move-shape (c .id) c at at-end v w
 
   -- the theorem: whatever the plan
   pub apply-plan-effect : (t : ℕ) (plan : Plan) → Holds (ShapeAt t) (applyPlan met m d t plan)
@@ -241,4 +241,4 @@ module _ (met : Drawing → Bool) (m : Limits) (d : Drawing) (w : Low (d .next) 
       go none e = tt
       go (some c) e =
           let q : c .id ≡ t = look-some (d .curves) t c e .1 in
-          subst (λ (z : ℕ). Holds (ShapeAt z) (applyPlanTo met m d c plan)) q (carried-shape c (ap (curveIn (d .curves)) q ∙ e) plan)
+          subst (λ (z : ℕ). Holds (ShapeAt z) (applyPlanTo met m d c plan)) q (applied-shape c (ap (curveIn (d .curves)) q ∙ e) plan)

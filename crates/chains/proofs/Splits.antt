@@ -13,12 +13,12 @@ use Rattle.sketch.specs.declared.CurveKind.{CurveKind}
 use Rattle.sketch.specs.declared.CurveKind.the-variants.{Line, Arc, Circle, Bezier, Conic}
 use Rattle.sketch.specs.Lists.{every}
 use Rattle.sketch.specs.Lookup.{among}
-use Rattle.sketch.specs.Drawing.{Drawing, Limits, pointIds, curveIn, usesOf}
+use Rattle.sketch.specs.Drawing.{Drawing, Limits, pointIds, curveIn, usesOf, noSlots}
 use Rattle.sketch.specs.Valid.{okNumber, inSlots, okCurve, sortOf, sortAt, differ, distinct}
 use Rattle.sketch.specs.Facts.{Valid}
 use Rattle.sketch.proofs.Bools.{never, and-left, and-right, both}
 use Rattle.edit_plan.specs.Outcome.{_then_}
-use Rattle.edit_plan.specs.Tables.{noSlots, newCurve, addCurve, setKind}
+use Rattle.edit_plan.specs.Tables.{newCurve, addCurve, setKind}
 use Rattle.edit_plan.specs.Steps.{links, piecesOf, addPoints, addCurves, Parts, addPieces}
 use Rattle.edit_plan.proofs.Tables.{Holds, holds-map, holds-then, holds-need, look-some}
 use Rattle.edit_plan.proofs.Every.{or-right, or-cases, among-same, rising-look, every-in, differ-is, is-differ, every-imp, rising-among}

@@ -13,7 +13,7 @@ use Rattle.sketch.specs.Valid.{okRelation, sortOf, sortAt, isLineSort, differ, 
 use Rattle.sketch.specs.Facts.{Valid}
 use Rattle.sketch.proofs.Bools.{never, both}
 use Rattle.edit_plan.specs.Tables.{addRelation}
-use Rattle.edit_plan.specs.Steps.{lineEnds, isSome, lineAt, tied, tie}
+use Rattle.edit_plan.specs.Steps.{lineEnds, isSome, lineAt, tieRelation, tie}
 use Rattle.edit_plan.proofs.Tables.{Holds, holds-map, holds-then}
 use Rattle.edit_plan.proofs.Every.{is-differ}
 use Rattle.chains.proofs.Grown.{has, sortOn, alike, Grown, grown-refl}
@@ -45,11 +45,11 @@ line-sort (some c) = go (c .kind)
     go (Bezier n) = refl
     go (Conic a p b rho) = refl
 
-tied-sound : (d : Drawing) (s : ℕ) → alike s s ≡ true → (a b : ℕ) → sortOn d a ≡ s → sortOn d b ≡ s → (a ≡ b → ⊥) → (okRelation (tied (isLineSort s) a b) ≡ true) × (soundRelation (has d) (sortOn d) (tied (isLineSort s) a b) ≡ true)
+tied-sound : (d : Drawing) (s : ℕ) → alike s s ≡ true → (a b : ℕ) → sortOn d a ≡ s → sortOn d b ≡ s → (a ≡ b → ⊥) → (okRelation (tieRelation (isLineSort s) a b) ≡ true) × (soundRelation (has d) (sortOn d) (tieRelation (isLineSort s) a b) ≡ true)
 unfolding okRelation pointsOf fits apart
 tied-sound d s l a b p q ne = go (isLineSort s) refl
   where
-    go : (u : Bool) → isLineSort s ≡ u → (okRelation (tied u a b) ≡ true) × (soundRelation (has d) (sortOn d) (tied u a b) ≡ true)
+    go : (u : Bool) → isLineSort s ≡ u → (okRelation (tieRelation u a b) ≡ true) × (soundRelation (has d) (sortOn d) (tieRelation u a b) ≡ true)
     go true e = (refl, both (isLineSort (sortOn d a) && isLineSort (sortOn d b)) (differ a b) (both (isLineSort (sortOn d a)) (isLineSort (sortOn d b)) (ap isLineSort p ∙ e) (ap isLineSort q ∙ e)) (is-differ a b ne))
     go false e = (refl, both (alike (sortOn d a) (sortOn d b)) (differ a b) (ap (λ (x : ℕ). alike x (sortOn d b)) p ∙ ap (alike s) q ∙ l) (is-differ a b ne))
 
@@ -59,7 +59,7 @@ module _ (m : Limits) where
   keep-tie d s l a (b ∷ is) v p q u =
       let e : lineAt (curveIn (d .curves) a) ≡ isLineSort s = line-sort (curveIn (d .curves) a) ∙ ap isLineSort p in
       let t = tied-sound d s l a b p (q .0) (λ z. omega (arith, u .0)) in
-      holds-then (λ d′ x. Kept m d d′) (λ d′ x. Kept m d d′) (addRelation m d (tied (lineAt (curveIn (d .curves) a)) a b)) _
-      (keep-relation m d (tied (lineAt (curveIn (d .curves) a)) a b) v (ap (λ (z : Bool). okRelation (tied z a b)) e ∙ t .0) (ap (λ (z : Bool). soundRelation (has d) (sortOn d) (tied z a b)) e ∙ t .1)) λ d′ x g.
+      holds-then (λ d′ x. Kept m d d′) (λ d′ x. Kept m d d′) (addRelation m d (tieRelation (lineAt (curveIn (d .curves) a)) a b)) _
+      (keep-relation m d (tieRelation (lineAt (curveIn (d .curves) a)) a b) v (ap (λ (z : Bool). okRelation (tieRelation z a b)) e ∙ t .0) (ap (λ (z : Bool). soundRelation (has d) (sortOn d) (tieRelation z a b)) e ∙ t .1)) λ d′ x g.
       holds-map (λ d″ x. Kept m d′ d″) (λ d″ x. Kept m d d″) (tie m d′ b is) (λ d″ x k. kept-trans m g k)
       (keep-tie d′ s l b is (g .valid) (sort-grown d d′ (g .grown) s l b (q .0)) (sorted-grown d d′ (g .grown) s l is (q .1)) (u .1))

@@ -83,24 +83,24 @@ module _ (sh : Shape) (o : Cutter) (q : Vec2) (n : ℕ) (ts px py : List Float) 
 
   pub step-off : onBounded sh q ≡ false → found ≡ cutStep sh o found q
   unfolding cutStep cutsHere
-  step-off e = rw (e, and-false (o .endless || onBounded (o .shape) q))
+  step-off e = rw (e, and-false (o .infinite || onBounded (o .shape) q))
 
-  pub step-past : o .endless ≡ false → onBounded (o .shape) q ≡ false → found ≡ cutStep sh o found q
+  pub step-past : o .infinite ≡ false → onBounded (o .shape) q ≡ false → found ≡ cutStep sh o found q
   unfolding cutStep cutsHere
   step-past e h = rw (e, h)
 
   pub step-again : foundAmong (placesIn n px py) q ≡ true → found ≡ cutStep sh o found q
   unfolding cutStep cutsHere
-  step-again e = rw (taken-places n ts px py who q, e, and-false (onBounded sh q), and-false (o .endless || onBounded (o .shape) q))
+  step-again e = rw (taken-places n ts px py who q, e, and-false (onBounded sh q), and-false (o .infinite || onBounded (o .shape) q))
 
   -- an endless line meets it anywhere, another only between its ends
-  pub met-anywhere : o .endless ≡ true → (o .endless || onBounded (o .shape) q) ≡ true
+  pub met-anywhere : o .infinite ≡ true → (o .infinite || onBounded (o .shape) q) ≡ true
   met-anywhere e = rw e
 
-  pub met-between : onBounded (o .shape) q ≡ true → (o .endless || onBounded (o .shape) q) ≡ true
-  met-between e = rw e (or-true (o .endless))
+  pub met-between : onBounded (o .shape) q ≡ true → (o .infinite || onBounded (o .shape) q) ≡ true
+  met-between e = rw e (or-true (o .infinite))
 
-  pub step-cuts : (t : Float) → t ≡ param sh q → onBounded sh q ≡ true → (o .endless || onBounded (o .shape) q) ≡ true → foundAmong (placesIn n px py) q ≡ false
+  pub step-cuts : (t : Float) → t ≡ param sh q → onBounded sh q ≡ true → (o .infinite || onBounded (o .shape) q) ≡ true → foundAmong (placesIn n px py) q ≡ false
       → Room (n + 1) ts px py who → cutsIn (n + 1) (set ts n t) (set px n (q .x)) (set py n (q .y)) (set who n (o .id)) ≡ cutStep sh o found q
   unfolding cutStep cutsHere
   step-cuts t et h e k room = pushed n ts px py who t q (o .id) room ∙ rw (et, e, h, taken-places n ts px py who q, k)

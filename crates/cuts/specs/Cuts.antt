@@ -31,7 +31,7 @@ foundNear found q = any (λ k. lt (distance (k .at) q) 1e-6) found
 
 -- q is on both curves, an infinite line reaching beyond its ends, and was not found before
 unfoldable pub cutsHere : Shape → Cutter → List Cut → Vec2 → Bool
-cutsHere sh o found q = (o .endless || onBounded (o .shape) q) && (onBounded sh q && not (foundNear found q))
+cutsHere sh o found q = (o .infinite || onBounded (o .shape) q) && (onBounded sh q && not (foundNear found q))
 
 unfoldable pub cutStep : Shape → Cutter → List Cut → Vec2 → List Cut
 cutStep sh o found q = cond (cutsHere sh o found q) (found ++ mkCut (param sh q) q (o .id) ∷ []) found

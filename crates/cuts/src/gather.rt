@@ -55,7 +55,7 @@ fn candidate<'a>(
     if !lies_on(sh, slack, q) {
         return n;
     }
-    if !o.endless {
+    if !o.infinite {
         let shape = o.shape;
         if !on_bounded(shape, q) {
             return n;

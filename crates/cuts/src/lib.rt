@@ -14,7 +14,7 @@ pub use brackets::bracket;
 // A line or round that may cut: its id, whether it is an infinite line, and its shape.
 pub struct Cutter {
     pub id: Id,
-    pub endless: bool,
+    pub infinite: bool,
     pub shape: Shape,
 }
 

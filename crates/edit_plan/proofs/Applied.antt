@@ -14,7 +14,7 @@ use Rattle.sketch.specs.declared.CurveKind.{CurveKind}
 use Rattle.sketch.specs.declared.Relation.{Relation}
 use Rattle.sketch.specs.Lists.{ite, every, keep}
 use Rattle.sketch.specs.Lookup.{among}
-use Rattle.sketch.specs.Drawing.{Drawing, Limits, curveIds, curveIn, usesOf}
+use Rattle.sketch.specs.Drawing.{Drawing, Limits, curveIds, curveIn, usesOf, noSlots}
 use Rattle.sketch.specs.Valid.{distinct, hasPoint}
 use Rattle.sketch.specs.Facts.{Every, Valid}
 use Rattle.sketch.proofs.Bools.{and-right}
@@ -23,14 +23,14 @@ use Rattle.edit_plan.specs.declared.Plan.the-variants.{Cut, CutTwo}
 use Rattle.edit_plan.specs.declared.Removed.{Removed}
 use Rattle.edit_plan.specs.Counts.{occurrences}
 use Rattle.edit_plan.specs.Outcome.{Outcome, accepted}
-use Rattle.edit_plan.specs.Tables.{noSlots, newPoint, newCurve, rekind, uses}
-use Rattle.edit_plan.specs.Steps.{endsOf, isLine, tied, swap, reported, removal}
+use Rattle.edit_plan.specs.Tables.{newPoint, newCurve, rekind, uses}
+use Rattle.edit_plan.specs.Steps.{endsOf, isLine, tieRelation, swap, reported, removal}
 use Rattle.edit_plan.specs.ApplyPlan.{applyPlanTo}
 use Rattle.edit_plan.specs.Suited.{PinHolds}
-use Rattle.edit_plan.specs.Changes.{isCircle, isWhole, startOf, endOf, pieceOf, keptPiece, gonePiece, pinned, cutMiddle, changeFor, extentOf, staying, unusedBy, candidatesFor}
+use Rattle.edit_plan.specs.Changes.{isCircle, isWhole, startOf, endOf, pieceOf, keptPiece, gonePiece, pinRelation, cutMiddle, changeFor, extentOf, staying, unusedBy, candidatesFor}
 use Rattle.edit_plan.specs.Room.{mkAdditions, additionsFor, roomWith}
 use Rattle.edit_plan.proofs.Leaves.{or-false}
-use Rattle.edit_plan.proofs.Bridge.{verdict, needPoint, needCurve, needRelation, freed, isOpen, openLaid, middleLaid, cut-chain, middle-chain, room-one, room-middle}
+use Rattle.edit_plan.proofs.Bridge.{unlessRefused, needPoint, needCurve, needRelation, freed, isOpen, openLaid, middleLaid, cut-chain, middle-chain, room-one, room-middle}
 use Rattle.edit_plan.proofs.Finals.{same, Given, stays, laid, swapped, removal-is, used-is, kept-used, added-used, tie-stays, pin-stays, none-go, end-used, report-is, far-alone, middle-used}
 use Rattle.edit_plan.proofs.AtOnce.{finalOf, orphansOf, roomNumber, left-cut, freed-is, given, sound, start-old, end-old, target-old, pin-apart, old-other}
 
@@ -58,7 +58,7 @@ module _ {m : Limits} {d : Drawing} (v : Valid m d) (c : Curve) (found : curveIn
       ps = d .points ++ (newPoint i (w .at) ∷ [])
 
       abbrev rs : List Relation
-      rs = pinned (w .pin) i ∷ []
+      rs = pinRelation (w .pin) i ∷ []
 
       abbrev os : List ℕ
       os = unusedBy (map (rekind (c .id) kept) (d .curves) ++ []) (usesOf gone noSlots)
@@ -89,7 +89,7 @@ module _ {m : Limits} {d : Drawing} (v : Valid m d) (c : Curve) (found : curveIn
           (λ p. used-is d c (suc i) at-g ps rs (suc (suc i)) kept gone [] refl p ∙ or-false _)
 
       pub cut-bridge : let e = extentOf (c .kind) (c .id) (Cut w b) in let h = changeFor c k n (Cut w b) i in
-          applyPlanTo met m d c (Cut w b) ≡ verdict (roomNumber m d c (Cut w b) e) (accepted (finalOf d c h e (orphansOf d c (Cut w b))) (h .removed))
+          applyPlanTo met m d c (Cut w b) ≡ unlessRefused (roomNumber m d c (Cut w b) e) (accepted (finalOf d c h e (orphansOf d c (Cut w b))) (h .removed))
       unfolding changeFor additionsFor isWhole
       cut-bridge =
           let e = extentOf (c .kind) (c .id) (Cut w b) in
@@ -106,7 +106,7 @@ module _ {m : Limits} {d : Drawing} (v : Valid m d) (c : Curve) (found : curveIn
           cut-chain met m d c found o w (pin-apart v c found (w .pin) i held (omega arith)) b
           ∙ ap (λ x. needPoint m i np (w .at) (needCurve m (suc i) nc (needRelation m nr x))) ends
           ∙ sym (room-one m i np nc nr r (w .at))
-          ∙ ap (λ x. verdict (roomWith m i np nc (not (ltb (x + 0) (m .relations))) (mkAdditions (w .at) (w .at) 0 0 0)) r) (sym (freed-is c (Cut w b) (d .relations)))
+          ∙ ap (λ x. unlessRefused (roomWith m i np nc (not (ltb (x + 0) (m .relations))) (mkAdditions (w .at) (w .at) 0 0 0)) r) (sym (freed-is c (Cut w b) (d .relations)))
 
     -- ---- two cuts of a line or an arc
 
@@ -133,7 +133,7 @@ module _ {m : Limits} {d : Drawing} (v : Valid m d) (c : Curve) (found : curveIn
       points = d .points ++ (newPoint i (w .at) ∷ newPoint j (u .at) ∷ [])
 
       abbrev relations : List Relation
-      relations = pinned (w .pin) i ∷ pinned (u .pin) j ∷ tied (isLine (c .kind)) (c .id) (suc g) ∷ []
+      relations = pinRelation (w .pin) i ∷ pinRelation (u .pin) j ∷ tieRelation (isLine (c .kind)) (c .id) (suc g) ∷ []
 
       abbrev unused : List ℕ
       unused = unusedBy (map (rekind (c .id) first) (d .curves) ++ ys) (usesOf middle noSlots)
@@ -169,7 +169,7 @@ module _ {m : Limits} {d : Drawing} (v : Valid m d) (c : Curve) (found : curveIn
       report-middle = report-is true (c .kind) g i j 0 (rw o)
 
       pub middle-bridge : let e = extentOf (c .kind) (c .id) (CutTwo w u false) in let h = changeFor c k n (CutTwo w u false) i in
-          applyPlanTo met m d c (CutTwo w u false) ≡ verdict (roomNumber m d c (CutTwo w u false) e) (accepted (finalOf d c h e (orphansOf d c (CutTwo w u false))) (h .removed))
+          applyPlanTo met m d c (CutTwo w u false) ≡ unlessRefused (roomNumber m d c (CutTwo w u false) e) (accepted (finalOf d c h e (orphansOf d c (CutTwo w u false))) (h .removed))
       unfolding changeFor additionsFor candidatesFor isWhole
       middle-bridge =
           let plan = CutTwo w u false in
@@ -182,10 +182,10 @@ module _ {m : Limits} {d : Drawing} (v : Valid m d) (c : Curve) (found : curveIn
           let r : Outcome Drawing Removed = accepted (finalOf d c h e []) (h .removed) in
           let cs = map (rekind (c .id) first) (d .curves) in
           let g-piece = newCurve g middle (c .construction) in
-          let laid-is : middleLaid met m d c found o (w .at) (u .at) (((fs ++ (pinned (w .pin) i ∷ [])) ++ (pinned (u .pin) j ∷ [])) ++ (tied (isLine (c .kind)) (c .id) (suc g) ∷ [])) ≡ record { next = suc (suc g); points = points; curves = cs ++ (g-piece ∷ ys); relations = fs ++ relations } =
+          let laid-is : middleLaid met m d c found o (w .at) (u .at) (((fs ++ (pinRelation (w .pin) i ∷ [])) ++ (pinRelation (u .pin) j ∷ [])) ++ (tieRelation (isLine (c .kind)) (c .id) (suc g) ∷ [])) ≡ record { next = suc (suc g); points = points; curves = cs ++ (g-piece ∷ ys); relations = fs ++ relations } =
           same _ _ _ _ _ _ _ _ refl (append-assoc (d .points) (newPoint i (w .at) ∷ []) (newPoint j (u .at) ∷ [])) (append-assoc cs (g-piece ∷ []) ys)
-          (ap (λ l. l ++ (tied (isLine (c .kind)) (c .id) (suc g) ∷ [])) (append-assoc fs (pinned (w .pin) i ∷ []) (pinned (u .pin) j ∷ [])) ∙ append-assoc fs (pinned (w .pin) i ∷ pinned (u .pin) j ∷ []) (tied (isLine (c .kind)) (c .id) (suc g) ∷ [])) in
-          let ends : removal g (middleLaid met m d c found o (w .at) (u .at) (((fs ++ (pinned (w .pin) i ∷ [])) ++ (pinned (u .pin) j ∷ [])) ++ (tied (isLine (c .kind)) (c .id) (suc g) ∷ []))) ≡ r =
+          (ap (λ l. l ++ (tieRelation (isLine (c .kind)) (c .id) (suc g) ∷ [])) (append-assoc fs (pinRelation (w .pin) i ∷ []) (pinRelation (u .pin) j ∷ [])) ∙ append-assoc fs (pinRelation (w .pin) i ∷ pinRelation (u .pin) j ∷ []) (tieRelation (isLine (c .kind)) (c .id) (suc g) ∷ [])) in
+          let ends : removal g (middleLaid met m d c found o (w .at) (u .at) (((fs ++ (pinRelation (w .pin) i ∷ [])) ++ (pinRelation (u .pin) j ∷ [])) ++ (tieRelation (isLine (c .kind)) (c .id) (suc g) ∷ []))) ≡ r =
           ap (removal g) laid-is ∙ removal-is d c g free points relations (suc (suc g)) first middle ys apart-last all-stay
           ∙ ap (λ l. accepted (record { next = suc (suc g); points = keep (λ p. staying unused (p .id)) points; curves = cs ++ ys; relations = l ++ relations }) (reported g (endsOf middle))) (left-cut c plan unused (d .relations) refl)
           ∙ ap (λ x. accepted (finalOf d c h e x) (reported g (endsOf middle))) none-unused
@@ -193,5 +193,5 @@ module _ {m : Limits} {d : Drawing} (v : Valid m d) (c : Curve) (found : curveIn
           middle-chain met m d c found o w u (pin-apart v c found (w .pin) i held (omega arith)) (pin-apart v c found (u .pin) j held′ (omega arith))
           ∙ ap (λ x. needPoint m i np (w .at) (needPoint m j (suc np) (u .at) (needCurve m g nc (needCurve m (suc g) (suc nc) (needRelation m nr (needRelation m (suc nr) (needRelation m (suc (suc nr)) x))))))) ends
           ∙ sym (room-middle m i np nc nr r (w .at) (u .at))
-          ∙ ap (λ x. verdict (roomWith m i np nc (not (ltb (x + 2) (m .relations))) (mkAdditions (w .at) (u .at) 1 1 2)) r) (sym (freed-is c plan (d .relations)))
+          ∙ ap (λ x. unlessRefused (roomWith m i np nc (not (ltb (x + 2) (m .relations))) (mkAdditions (w .at) (u .at) 1 1 2)) r) (sym (freed-is c plan (d .relations)))
           ∙ rw circle

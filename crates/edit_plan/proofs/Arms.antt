@@ -8,6 +8,7 @@ use types.Run.{OneOf, miss}
 use denote.Enum.Declared.{tagOf}
 use Rattle.sketch.proofs.CurveKind.{the-type as kind-type}
 use Rattle.sketch.proofs.Relation.{the-type as relation-type}
+use Rattle.geom.specs.Plane.{origin}
 use Rattle.edit_plan.proofs.Plan.{the-type as plan-type}
 use Rattle.sketch.specs.declared.Curve.{Curve}
 use Rattle.sketch.specs.declared.CurveKind.{CurveKind}
@@ -22,8 +23,8 @@ use Rattle.edit_plan.specs.declared.Plan.{Plan}
 use Rattle.edit_plan.specs.declared.Plan.the-variants.{Whole, Cut, CutTwo, Divide, DivideTwo, Move}
 use Rattle.edit_plan.specs.declared.Extent.{Extent}
 use Rattle.edit_plan.specs.Tables.{curvesOf}
-use Rattle.edit_plan.specs.Steps.{isLine, releaseRelation, tied}
-use Rattle.edit_plan.specs.Changes.{isCircle, isWhole, startOf, endOf, pieceOf, noOrphans, ownPoints, candidatesFor, noHalves, divideOnce, changeFor, origin}
+use Rattle.edit_plan.specs.Steps.{isLine, releaseRelation, tieRelation}
+use Rattle.edit_plan.specs.Changes.{isCircle, isWhole, startOf, endOf, pieceOf, noOrphans, ownPoints, candidatesFor, noHalves, divideOnce, changeFor}
 use Rattle.edit_plan.specs.Room.{mkAdditions, additionsFor, roomOf, refusalFor}
 
 -- ---- kinds
@@ -47,7 +48,7 @@ no-line (Circle c r) h = refl
 no-line (Bezier n) h = refl
 no-line (Conic a p b rho) h = refl
 
-pub no-tie : (k : CurveKind) (a b : ℕ) → OneOf notLine (tagOf kind-type k) → Equal a b ≡ tied (isLine k) a b
+pub no-tie : (k : CurveKind) (a b : ℕ) → OneOf notLine (tagOf kind-type k) → Equal a b ≡ tieRelation (isLine k) a b
 no-tie (Line x y) a b h = absurd (miss notLine 0 tt h)
 no-tie (Arc c x y) a b h = refl
 no-tie (Circle c r) a b h = refl

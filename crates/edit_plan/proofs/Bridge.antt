@@ -23,9 +23,9 @@ use Rattle.edit_plan.specs.declared.PinnedPoint.{PinnedPoint}
 use Rattle.edit_plan.specs.declared.Plan.the-variants.{Cut, CutTwo, Divide, DivideTwo}
 use Rattle.edit_plan.specs.Outcome.{Outcome, refused, accepted, _then_, guard}
 use Rattle.edit_plan.specs.Tables.{okPosition, newPoint, newCurve, rekind, addRelation}
-use Rattle.edit_plan.specs.Steps.{lineEnds, isLine, releaseRelation, piecesOf, addPieces, pin, lineAt, tied, swap, nothing, removal}
+use Rattle.edit_plan.specs.Steps.{lineEnds, isLine, releaseRelation, piecesOf, addPieces, pin, lineAt, tieRelation, swap, nothing, removal}
 use Rattle.edit_plan.specs.ApplyPlan.{removePiece, applyPlanTo}
-use Rattle.edit_plan.specs.Changes.{isCircle, startOf, endOf, pieceOf, pinned}
+use Rattle.edit_plan.specs.Changes.{isCircle, startOf, endOf, pieceOf, pinRelation}
 use Rattle.edit_plan.specs.Room.{mkAdditions, roomWith}
 use Rattle.edit_plan.proofs.Tables.{look-set}
 use Rattle.edit_plan.proofs.Leaves.{add-none, add-two}
@@ -38,22 +38,22 @@ need-then true n o f = refl
 need-then false n o f = refl
 
 -- what a number decides: 0 accepts
-unfoldable pub verdict : {D A : Type 0} → ℕ → Outcome D A → Outcome D A
-verdict n o = ite (eqb n 0) o (refused n)
+unfoldable pub unlessRefused : {D A : Type 0} → ℕ → Outcome D A → Outcome D A
+unlessRefused n o = ite (eqb n 0) o (refused n)
 
 module _ {D A : Type 0} where
-  verdict-rule : (b : Bool) (n rest : ℕ) (o : Outcome D A) → eqb n 0 ≡ false → verdict (guardNumber b n rest) o ≡ guard b n (verdict rest o)
-  unfolding verdict guardNumber guard
-  verdict-rule true n rest o h = refl
-  verdict-rule false n rest o h = rw h
+  unless-refused-guard : (b : Bool) (n rest : ℕ) (o : Outcome D A) → eqb n 0 ≡ false → unlessRefused (guardNumber b n rest) o ≡ guard b n (unlessRefused rest o)
+  unfolding unlessRefused guardNumber guard
+  unless-refused-guard true n rest o h = refl
+  unless-refused-guard false n rest o h = rw h
 
-  pub verdict-none : (o : Outcome D A) → verdict 0 o ≡ o
-  unfolding verdict
-  verdict-none o = refl
+  pub unless-refused-none : (o : Outcome D A) → unlessRefused 0 o ≡ o
+  unfolding unlessRefused
+  unless-refused-none o = refl
 
-  pub verdict-refused : (n : ℕ) (o : Outcome D A) → (n ≡ 0 → ⊥) → verdict n o ≡ refused n
-  unfolding verdict
-  verdict-refused n o h = rw (ne-eqb n 0 h)
+  pub unless-refused-by : (n : ℕ) (o : Outcome D A) → (n ≡ 0 → ⊥) → unlessRefused n o ≡ refused n
+  unfolding unlessRefused
+  unless-refused-by n o h = rw (ne-eqb n 0 h)
 
   again : (b : Bool) (n : ℕ) (o : Outcome D A) → guard b n (guard b n o) ≡ guard b n o
   unfolding guard
@@ -109,10 +109,10 @@ module _ {D A : Type 0} where
     -- the number's tests, one by one
     room-needs :
         (i np nc nr : ℕ) (v u : Vec2) (p q r : ℕ) (o : Outcome D A)
-        → verdict (roomWith m i np nc (not (ltb (nr + r) (m .relations))) (mkAdditions v u p q r)) o
+        → unlessRefused (roomWith m i np nc (not (ltb (nr + r) (m .relations))) (mkAdditions v u p q r)) o
         ≡ needPoint m i np v (needPoint m (i + p) (np + p) u (needCurve m (suc (i + p)) nc (needCurve m (suc (i + p) + q) (nc + q) (needRelation m (nr + r) o))))
     unfolding roomWith
-    room-needs i np nc nr v u p q r o = simp (verdict-rule, verdict-none, not-not)
+    room-needs i np nc nr v u p q r o = simp (unless-refused-guard, unless-refused-none, not-not)
       where
         not-not : (b : Bool) → not (not b) ≡ b
         not-not true = refl
@@ -120,18 +120,18 @@ module _ {D A : Type 0} where
 
     module _ (i np nc nr : ℕ) (o : Outcome D A) where
       -- one place: a point, a curve and a relation
-      pub room-one : (v : Vec2) → verdict (roomWith m i np nc (not (ltb (nr + 0) (m .relations))) (mkAdditions v v 0 0 0)) o ≡ needPoint m i np v (needCurve m (suc i) nc (needRelation m nr o))
+      pub room-one : (v : Vec2) → unlessRefused (roomWith m i np nc (not (ltb (nr + 0) (m .relations))) (mkAdditions v v 0 0 0)) o ≡ needPoint m i np v (needCurve m (suc i) nc (needRelation m nr o))
       room-one v = room-needs i np nc nr v v 0 0 0 o ∙ simp (add-none, point-again, curve-again)
 
       -- two places of a circle: two points, a curve, and one or two relations
-      pub room-circle : (v u : Vec2) → verdict (roomWith m i np nc (not (ltb (nr + 0) (m .relations))) (mkAdditions v u 1 0 0)) o ≡ needPoint m i np v (needPoint m (suc i) (suc np) u (needCurve m (suc (suc i)) nc (needRelation m nr o)))
+      pub room-circle : (v u : Vec2) → unlessRefused (roomWith m i np nc (not (ltb (nr + 0) (m .relations))) (mkAdditions v u 1 0 0)) o ≡ needPoint m i np v (needPoint m (suc i) (suc np) u (needCurve m (suc (suc i)) nc (needRelation m nr o)))
       room-circle v u = room-needs i np nc nr v u 1 0 0 o ∙ simp (add-none, add-one, curve-again)
 
-      pub room-pinned : (v u : Vec2) → verdict (roomWith m i np nc (not (ltb (nr + 1) (m .relations))) (mkAdditions v u 1 0 1)) o ≡ needPoint m i np v (needPoint m (suc i) (suc np) u (needCurve m (suc (suc i)) nc (needRelation m nr (needRelation m (suc nr) o))))
+      pub room-pinned : (v u : Vec2) → unlessRefused (roomWith m i np nc (not (ltb (nr + 1) (m .relations))) (mkAdditions v u 1 0 1)) o ≡ needPoint m i np v (needPoint m (suc i) (suc np) u (needCurve m (suc (suc i)) nc (needRelation m nr (needRelation m (suc nr) o))))
       room-pinned v u = room-needs i np nc nr v u 1 0 1 o ∙ simp (add-none, add-one, curve-again, relation-lower nr (suc nr) o (omega arith))
 
       -- two places of a line or an arc: two points, two curves and three relations
-      pub room-middle : (v u : Vec2) → verdict (roomWith m i np nc (not (ltb (nr + 2) (m .relations))) (mkAdditions v u 1 1 2)) o ≡ needPoint m i np v (needPoint m (suc i) (suc np) u (needCurve m (suc (suc i)) nc (needCurve m (suc (suc (suc i))) (suc nc) (needRelation m nr (needRelation m (suc nr) (needRelation m (suc (suc nr)) o))))))
+      pub room-middle : (v u : Vec2) → unlessRefused (roomWith m i np nc (not (ltb (nr + 2) (m .relations))) (mkAdditions v u 1 1 2)) o ≡ needPoint m i np v (needPoint m (suc i) (suc np) u (needCurve m (suc (suc i)) nc (needCurve m (suc (suc (suc i))) (suc nc) (needRelation m nr (needRelation m (suc nr) (needRelation m (suc (suc nr)) o))))))
       room-middle v u =
           room-needs i np nc nr v u 1 1 2 o
           ∙ simp (add-one, add-two, relation-lower (suc nr) (suc (suc nr)) o (omega arith), relation-lower nr (suc (suc nr)) o (omega arith))
@@ -207,8 +207,8 @@ abbrev pub Apart : ℕ → Pin → Type 0
 Apart p (On c) = Unit {0}
 Apart p (At e) = eqb e p ≡ false
 
-pub pin-is : (m : Limits) (d : Drawing) (p : ℕ) (w : Pin) → Apart p w → pin m d p w ≡ addRelation m d (pinned w p)
-unfolding pin pinned
+pub pin-is : (m : Limits) (d : Drawing) (p : ℕ) (w : Pin) → Apart p w → pin m d p w ≡ addRelation m d (pinRelation w p)
+unfolding pin pinRelation
 pin-is m d p (On c) h = refl
 pin-is m d p (At e) h = rw h
 
@@ -252,16 +252,16 @@ module _ (met : Drawing → Bool) (m : Limits) (d : Drawing) (c : Curve) (found 
 
     pub divide-chain :
         (v : Vec2) → applyPlanTo met m d c (Divide v)
-        ≡ needPoint m i np v (needCurve m (suc i) nc (needRelation m nr (accepted (openLaid v (freed c (d .relations) ++ (tied (isLine (c .kind)) (c .id) (suc i) ∷ []))) nothing)))
+        ≡ needPoint m i np v (needCurve m (suc i) nc (needRelation m nr (accepted (openLaid v (freed c (d .relations) ++ (tieRelation (isLine (c .kind)) (c .id) (suc i) ∷ []))) nothing)))
     unfolding applyPlanTo addPieces
     divide-chain v = simp (need-then, two-pieces (c .kind) i o, length-map, line-laid)
 
     module _ (w : PinnedPoint) (apart : Apart i (w .pin)) where
-      pinned-there : (e : Drawing) → pin m e i (w .pin) ≡ addRelation m e (pinned (w .pin) i)
+      pinned-there : (e : Drawing) → pin m e i (w .pin) ≡ addRelation m e (pinRelation (w .pin) i)
       pinned-there e = pin-is m e i (w .pin) apart
 
       pub cut-chain :
-          (first-goes : Bool) → let l = openLaid (w .at) (freed c (d .relations) ++ (pinned (w .pin) i ∷ [])) in
+          (first-goes : Bool) → let l = openLaid (w .at) (freed c (d .relations) ++ (pinRelation (w .pin) i ∷ [])) in
           applyPlanTo met m d c (Cut w first-goes)
           ≡ needPoint m i np (w .at) (needCurve m (suc i) nc (needRelation m nr (removal (suc i) (ite first-goes (swap (c .id) (suc i) l) l))))
       unfolding applyPlanTo addPieces removePiece
@@ -278,10 +278,10 @@ module _ (met : Drawing → Bool) (m : Limits) (d : Drawing) (c : Curve) (found 
         }
 
     module _ (w v : PinnedPoint) (apart : Apart i (w .pin)) (apart′ : Apart (suc i) (v .pin)) where
-      first-there : (e : Drawing) → pin m e i (w .pin) ≡ addRelation m e (pinned (w .pin) i)
+      first-there : (e : Drawing) → pin m e i (w .pin) ≡ addRelation m e (pinRelation (w .pin) i)
       first-there e = pin-is m e i (w .pin) apart
 
-      second-there : (e : Drawing) → pin m e (suc i) (v .pin) ≡ addRelation m e (pinned (v .pin) (suc i))
+      second-there : (e : Drawing) → pin m e (suc i) (v .pin) ≡ addRelation m e (pinRelation (v .pin) (suc i))
       second-there e = pin-is m e (suc i) (v .pin) apart′
 
       line-there : lineAt (curveIn (middleLaid (w .at) (v .at) [] .curves) (c .id)) ≡ isLine (c .kind)
@@ -295,7 +295,7 @@ module _ (met : Drawing → Bool) (m : Limits) (d : Drawing) (c : Curve) (found 
           applyPlanTo met m d c (CutTwo w v false)
           ≡ needPoint m i np (w .at) (needPoint m (suc i) (suc np) (v .at) (needCurve m (suc (suc i)) nc (needCurve m (suc (suc (suc i))) (suc nc)
           (needRelation m nr (needRelation m (suc nr) (needRelation m (suc (suc nr))
-          (removal (suc (suc i)) (middleLaid (w .at) (v .at) (((freed c (d .relations) ++ (pinned (w .pin) i ∷ [])) ++ (pinned (v .pin) (suc i) ∷ [])) ++ (tied (isLine (c .kind)) (c .id) (suc (suc (suc i))) ∷ []))))))))))
+          (removal (suc (suc i)) (middleLaid (w .at) (v .at) (((freed c (d .relations) ++ (pinRelation (w .pin) i ∷ [])) ++ (pinRelation (v .pin) (suc i) ∷ [])) ++ (tieRelation (isLine (c .kind)) (c .id) (suc (suc (suc i))) ∷ []))))))))))
       unfolding applyPlanTo addPieces removePiece
       middle-chain = simp (need-then, three-pieces (c .kind) i (suc i) o, length-map, length-end, first-there, second-there, line-there)
 
@@ -311,19 +311,19 @@ module _ (met : Drawing → Bool) (m : Limits) (d : Drawing) (c : Curve) (found 
 
     pub divide-circle-chain :
         (v u : Vec2) → applyPlanTo met m d c (DivideTwo v u)
-        ≡ needPoint m i np v (needPoint m (suc i) (suc np) u (needCurve m (suc (suc i)) nc (needRelation m nr (accepted (circleLaid v u (freed c (d .relations) ++ (tied (isLine (c .kind)) (c .id) (suc (suc i)) ∷ []))) nothing))))
+        ≡ needPoint m i np v (needPoint m (suc i) (suc np) u (needCurve m (suc (suc i)) nc (needRelation m nr (accepted (circleLaid v u (freed c (d .relations) ++ (tieRelation (isLine (c .kind)) (c .id) (suc (suc i)) ∷ []))) nothing))))
     unfolding applyPlanTo addPieces
     divide-circle-chain v u = simp (need-then, circle-pieces (c .kind) i (suc i) o, length-map, length-end, line-laid)
 
     module _ (w v : PinnedPoint) (apart : Apart i (w .pin)) (apart′ : Apart (suc i) (v .pin)) where
-      first-pinned : (e : Drawing) → pin m e i (w .pin) ≡ addRelation m e (pinned (w .pin) i)
+      first-pinned : (e : Drawing) → pin m e i (w .pin) ≡ addRelation m e (pinRelation (w .pin) i)
       first-pinned e = pin-is m e i (w .pin) apart
 
-      second-pinned : (e : Drawing) → pin m e (suc i) (v .pin) ≡ addRelation m e (pinned (v .pin) (suc i))
+      second-pinned : (e : Drawing) → pin m e (suc i) (v .pin) ≡ addRelation m e (pinRelation (v .pin) (suc i))
       second-pinned e = pin-is m e (suc i) (v .pin) apart′
 
       pub cut-circle-chain :
-          (first-goes : Bool) → let l = circleLaid (w .at) (v .at) ((freed c (d .relations) ++ (pinned (w .pin) i ∷ [])) ++ (pinned (v .pin) (suc i) ∷ [])) in
+          (first-goes : Bool) → let l = circleLaid (w .at) (v .at) ((freed c (d .relations) ++ (pinRelation (w .pin) i ∷ [])) ++ (pinRelation (v .pin) (suc i) ∷ [])) in
           applyPlanTo met m d c (CutTwo w v first-goes)
           ≡ needPoint m i np (w .at) (needPoint m (suc i) (suc np) (v .at) (needCurve m (suc (suc i)) nc (needRelation m nr (needRelation m (suc nr)
           (removal (suc (suc i)) (ite first-goes (swap (c .id) (suc (suc i)) l) l))))))

@@ -31,7 +31,7 @@ use Rattle.edit_plan.specs.Room.{additionsFor, roomOf, refusalFor}
 use Rattle.edit_plan.specs.Contracts.{HasRoom, Released, ChangeStored, Cleared, Without, refusedAs, remainingRelations}
 use Rattle.edit_plan.proofs.Loops.{look-at, recut-is-map}
 use Rattle.edit_plan.proofs.Unused.{keep-true}
-use Rattle.edit_plan.proofs.Bridge.{verdict, verdict-none, verdict-refused}
+use Rattle.edit_plan.proofs.Bridge.{unlessRefused, unless-refused-none, unless-refused-by}
 use Rattle.edit_plan.proofs.Finals.{same}
 use Rattle.edit_plan.proofs.AtOnce.{finalOf, orphansOf, roomNumber}
 use Rattle.edit_plan.proofs.Plans.{restOf, whole-bridge, cuts-bridge, no-move}
@@ -100,8 +100,8 @@ module _ (s : Sketch) (z : Sized s) (lp : length (s .points) ≡ 512) (lc : leng
       abbrev made : Outcome Drawing Removed
       made = accepted (finalOf (view s) c h e (orphansOf (view s) c plan)) (h .removed)
 
-      decided : (met : Drawing → Bool) → isWhole plan ≡ false → applyPlan met limits (view s) (c .id) plan ≡ verdict (refusalFor s (c .kind) e plan) made
-      decided met q = carry-is met plan ∙ cuts-bridge v c found met k (s .ncurves) plan su q ∙ ap (λ x. verdict x made) (number-is q)
+      decided : (met : Drawing → Bool) → isWhole plan ≡ false → applyPlan met limits (view s) (c .id) plan ≡ unlessRefused (refusalFor s (c .kind) e plan) made
+      decided met q = carry-is met plan ∙ cuts-bridge v c found met k (s .ncurves) plan su q ∙ ap (λ x. unlessRefused x made) (number-is q)
 
       -- ---- refused
 
@@ -115,7 +115,7 @@ module _ (s : Sketch) (z : Sized s) (lp : length (s .points) ≡ 512) (lc : leng
       pub refused-is : (n : ℕ) → n ≡ refusalFor s (c .kind) e plan → (n ≡ 0 → ⊥) → PlanApplied s k plan (refusedAs s n)
       refused-is n r ne =
           record {
-            outcome = λ met. rw (ne-eqb n 0 ne) (sym (decided met (cut-if n r ne) ∙ ap (λ x. verdict x made) (sym r) ∙ verdict-refused n made ne));
+            outcome = λ met. rw (ne-eqb n 0 ne) (sym (decided met (cut-if n r ne) ∙ ap (λ x. unlessRefused x made) (sym r) ∙ unless-refused-by n made ne));
             kept = λ _. refl;
             sized = λ q. absurd (ne q);
           }
@@ -127,7 +127,7 @@ module _ (s : Sketch) (z : Sized s) (lp : length (s .points) ≡ 512) (lc : leng
           → PlanApplied s k plan (record { sketch = t; refusal = 0; place = 0; removed = h .removed })
       accepted-is q zero t f y =
           record {
-            outcome = λ met. ap (λ x. accepted x (h .removed)) f ∙ sym (decided met q ∙ ap (λ x. verdict x made) zero ∙ verdict-none made);
+            outcome = λ met. ap (λ x. accepted x (h .removed)) f ∙ sym (decided met q ∙ ap (λ x. unlessRefused x made) zero ∙ unless-refused-none made);
             kept = λ ne. absurd (ne refl);
             sized = λ _. y;
           }
@@ -180,7 +180,7 @@ module _ (s : Sketch) (z : Sized s) (lp : length (s .points) ≡ 512) (lc : leng
 
           pub less : (u : Sketch) → Cleared t os u → view u ≡ finalOf (view s) c h e (orphansOf (view s) c plan)
           less u f =
-              f .drawn
+              f .view-is
               ∙ same _ _ _ _ _ _ _ _ (w .next) (ap (keep (λ (p : Point). staying (orphanList os) (p .id))) stored-points) stored-curves stored-relations
               ∙ ap (finalOf (view s) c h e) o
 
@@ -196,8 +196,8 @@ module _ (s : Sketch) (z : Sized s) (lp : length (s .points) ≡ 512) (lc : leng
               let stay : List Point → List Point = keep (λ p. staying (orphanList os) (p .id)) in
               let was : view t ≡ record { next = s .next; points = view s .points; curves = view s .curves; relations = remainingRelations e os s } =
               same _ _ _ _ _ _ _ _ (w .next) (rw (w .npoints, w .points)) (rw (w .ncurves, w .curves)) (w .relations) in
-              y .drawn
-              ∙ ap (λ (d : Drawing). record { next = d .next; points = stay (d .points); curves = d .curves; relations = d .relations }) (f .drawn)
+              y .view-is
+              ∙ ap (λ (d : Drawing). record { next = d .next; points = stay (d .points); curves = d .curves; relations = d .relations }) (f .view-is)
               ∙ ap (λ (d : Drawing). record { next = d .next; points = stay (d .points); curves = others (c .id) (d .curves); relations = d .relations }) was
               ∙ ap (restOf (view s) c e) o
 

@@ -16,7 +16,7 @@ use Rattle.edit_plan.specs.declared.Plan.the-variants.{Whole, Cut, CutTw
 use Rattle.edit_plan.specs.declared.Additions.{Additions}
 use Rattle.edit_plan.specs.declared.Extent.{Extent}
 use Rattle.edit_plan.specs.Tables.{okPosition}
-use Rattle.edit_plan.specs.Changes.{isCircle, isWhole, pinned, halfCircles, cutOnce, cutMiddle, changeFor}
+use Rattle.edit_plan.specs.Changes.{isCircle, isWhole, pinRelation, halfCircles, cutOnce, cutMiddle, changeFor}
 use Rattle.edit_plan.specs.Room.{mkAdditions, additionsFor, roomWith, roomOf, refusalFor, leftOver, takes}
 use Rattle.edit_plan.specs.Contracts.{HasRoom}
 
@@ -62,7 +62,7 @@ module _ (s : Sketch) (e : Extent) where
         record { points = u .points; place = omega (arith, u .curves); curves = omega (arith, u .curves); order = omega arith; relations = u .relations }
     roomy (CutTwo w v b) z h = go (isCircle (c .kind)) z
       where
-        go : (x : Bool) → roomOf s e (ite x (mkAdditions (w .at) (v .at) 1 0 1) (mkAdditions (w .at) (v .at) 1 1 2)) ≡ 0 → HasRoom s e (ite x (cutOnce c k (halfCircles (w .at) (v .at) (s .next)) b (pinned (w .pin) (s .next)) (pinned (v .pin) (suc (s .next)))) (cutMiddle c (s .ncurves) w v (s .next)))
+        go : (x : Bool) → roomOf s e (ite x (mkAdditions (w .at) (v .at) 1 0 1) (mkAdditions (w .at) (v .at) 1 1 2)) ≡ 0 → HasRoom s e (ite x (cutOnce c k (halfCircles (w .at) (v .at) (s .next)) b (pinRelation (w .pin) (s .next)) (pinRelation (v .pin) (suc (s .next)))) (cutMiddle c (s .ncurves) w v (s .next)))
         go true z =
             let u = space (mkAdditions (w .at) (v .at) 1 0 1) z in
             record { points = u .points; place = omega (arith, u .curves); curves = omega (arith, u .curves); order = omega arith; relations = u .relations }

@@ -13,7 +13,7 @@ use Rattle.sketch.specs.declared.CurveKind.the-variants.{Line, Arc, Circle, Bez
 use Rattle.sketch.specs.declared.Relation.{Relation}
 use Rattle.sketch.specs.Lists.{ite, every, keep, concatMap}
 use Rattle.sketch.specs.Lookup.{among}
-use Rattle.sketch.specs.Drawing.{Drawing, curveIds, curveIn, usesOf, pointsOf}
+use Rattle.sketch.specs.Drawing.{Drawing, curveIds, curveIn, usesOf, pointsOf, noSlots}
 use Rattle.sketch.specs.Valid.{differ, distinct}
 use Rattle.sketch.specs.Facts.{Every, Rising}
 use Rattle.sketch.proofs.Bools.{never, and-left, and-right}
@@ -22,9 +22,9 @@ use Rattle.edit_plan.specs.declared.Pin.the-variants.{On, At}
 use Rattle.edit_plan.specs.Counts.{occurrences}
 use Rattle.edit_plan.specs.Outcome.{accepted}
 use Rattle.edit_plan.specs.Suited.{PinHolds}
-use Rattle.edit_plan.specs.Tables.{noSlots, newCurve, rekind, curvesOf, uses, others, remove}
-use Rattle.edit_plan.specs.Steps.{endsOf, endsAt, lineEnds, releaseRelation, tied, swapKinds, swap, reported, removal}
-use Rattle.edit_plan.specs.Changes.{isCircle, startOf, endOf, pieceOf, keptPiece, gonePiece, goneAs, pinned, staying, unusedBy}
+use Rattle.edit_plan.specs.Tables.{newCurve, rekind, curvesOf, uses, others, remove}
+use Rattle.edit_plan.specs.Steps.{endsOf, endsAt, lineEnds, releaseRelation, tieRelation, swapKinds, swap, reported, removal}
+use Rattle.edit_plan.specs.Changes.{isCircle, startOf, endOf, pieceOf, keptPiece, gonePiece, goneAs, pinRelation, staying, unusedBy}
 use Rattle.edit_plan.proofs.Every.{differ-is}
 use Rattle.edit_plan.proofs.Tables.{look-set, look-right, ids-set, rekind-same}
 use Rattle.edit_plan.proofs.Loops.{map-append}
@@ -142,13 +142,13 @@ module _ (d : Drawing) (c : Curve) (g : ℕ) (z : Given d c g) (ps : List Point)
     pub point-stays : (p : ℕ) → among p (uses cs) ≡ true → staying os p ≡ true
     point-stays p h = in-use-stays cs (usesOf q noSlots) p h
 
-    pub tie-stays : (b : Bool) (h : ℕ) → (g ≡ c .id → ⊥) → (g ≡ h → ⊥) → stays g os (tied b (c .id) h) ≡ true
+    pub tie-stays : (b : Bool) (h : ℕ) → (g ≡ c .id → ⊥) → (g ≡ h → ⊥) → stays g os (tieRelation b (c .id) h) ≡ true
     unfolding curvesOf pointsOf
     tie-stays true h n m = rw (ne-eqb g (c .id) n, ne-eqb g h m)
     tie-stays false h n m = rw (ne-eqb g (c .id) n, ne-eqb g h m)
 
-    pub pin-stays : (w : Pin) (p : ℕ) → PinHolds d (c .id) w → (among-old : (i : ℕ) → among i (curveIds (d .curves)) ≡ true → g ≡ i → ⊥) → among p (uses cs) ≡ true → stays g os (pinned w p) ≡ true
-    unfolding pinned curvesOf pointsOf
+    pub pin-stays : (w : Pin) (p : ℕ) → PinHolds d (c .id) w → (among-old : (i : ℕ) → among i (curveIds (d .curves)) ≡ true → g ≡ i → ⊥) → among p (uses cs) ≡ true → stays g os (pinRelation w p) ≡ true
+    unfolding pinRelation curvesOf pointsOf
     pin-stays (On i) p h old u = rw (ne-eqb g i (old i (h .1)), point-stays p u)
     pin-stays (At e) p h old u = rw (point-stays p u, point-stays e (others-used e h))
 
@@ -183,7 +183,7 @@ report-is false (Circle o r) g x m y h = refl
 report-is b (Bezier n) g x m y h = never h
 report-is b (Conic u q v rho) g x m y h = never h
 
--- the far end alone may go with a piece of a line or an arc: u tells what is used then, v what other curves use
+-- the far end alone may be removed with a piece of a line or an arc: u says what is used then, v what other curves use
 pub far-alone :
     (b : Bool) (k : CurveKind) (i : ℕ) (s : List ℕ) (u v : ℕ → Bool) → isOpen k ≡ true → distinct k ≡ true → (startOf k ≡ i → ⊥) → (endOf k ≡ i → ⊥)
     → ((p : ℕ) → u p ≡ (among p (usesOf (keptPiece k b (startOf k) i (endOf k)) s) || v p))

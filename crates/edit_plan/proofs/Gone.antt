@@ -14,11 +14,11 @@ use Rattle.sketch.specs.declared.Relation.{Relation}
 use Rattle.sketch.specs.declared.Relation.the-variants.{Coincident, PointOnCurve, Collinear, Equal, Length, Distance, Midpoint, ArcLength, ArcSweep}
 use Rattle.sketch.specs.Lists.{ite, every, keep, concatMap}
 use Rattle.sketch.specs.Lookup.{among}
-use Rattle.sketch.specs.Drawing.{Drawing, curveIds, curveIn, usesOf, pointsOf}
+use Rattle.sketch.specs.Drawing.{Drawing, curveIds, curveIn, usesOf, pointsOf, noSlots}
 use Rattle.sketch.specs.Facts.{Every, Rising}
 use Rattle.sketch.proofs.Bools.{never}
 use Rattle.edit_plan.specs.Counts.{occurrences}
-use Rattle.edit_plan.specs.Tables.{noSlots, newCurve, rekind, curvesOf, uses, others, ofId, orphans, remove}
+use Rattle.edit_plan.specs.Tables.{newCurve, rekind, curvesOf, uses, others, ofId, orphans, remove}
 use Rattle.edit_plan.specs.Steps.{isSome, dropIf, measured, releaseRelation}
 use Rattle.edit_plan.specs.Changes.{staying, unusedBy}
 use Rattle.edit_plan.proofs.Every.{every-append, rising-low}

@@ -26,7 +26,7 @@ use Rattle.edit_plan.specs.ApplyPlan.{applyPlanTo}
 use Rattle.edit_plan.specs.Suited.{suits, suitsOpen, suitsClosed, Suited}
 use Rattle.edit_plan.specs.Changes.{isCircle, isWhole, startOf, endOf, changeFor, extentOf, orphanList, staying, leftOf, unusedBy, ownPoints, candidatesFor}
 use Rattle.edit_plan.proofs.Gone.{of-found}
-use Rattle.edit_plan.proofs.Bridge.{verdict}
+use Rattle.edit_plan.proofs.Bridge.{unlessRefused}
 use Rattle.edit_plan.proofs.AtOnce.{open-cut, open-divide, circle-divide, open-middle, finalOf, orphansOf, roomNumber}
 use Rattle.edit_plan.proofs.Applied.{cut-bridge, middle-bridge}
 use Rattle.edit_plan.proofs.Rounds.{cut-circle-bridge, divide-bridge, divide-circle-bridge}
@@ -50,13 +50,13 @@ own-points (Circle c r) s h = refl
 own-points (Bezier n) s h = never h
 own-points (Conic a p b rho) s h = never h
 
-ends-told : (g : ℕ) (k : CurveKind) → reported g (endsOf k) ≡ record { curve = g; from = startOf k; to = endOf k }
+ends-answered : (g : ℕ) (k : CurveKind) → reported g (endsOf k) ≡ record { curve = g; from = startOf k; to = endOf k }
 unfolding reported endsOf startOf endOf
-ends-told g (Line a b) = refl
-ends-told g (Arc c a b) = refl
-ends-told g (Circle c r) = refl
-ends-told g (Bezier n) = refl
-ends-told g (Conic a p b rho) = refl
+ends-answered g (Line a b) = refl
+ends-answered g (Arc c a b) = refl
+ends-answered g (Circle c r) = refl
+ends-answered g (Bezier n) = refl
+ends-answered g (Conic a p b rho) = refl
 
 -- two tests of a relation, one after the other
 left-whole : (n f : Relation → Bool) (l : List Relation) → keep (λ r. not (n r) && f r) l ≡ concatMap (λ v. keep f (dropIf (n v) v)) l
@@ -92,19 +92,19 @@ module _ {m : Limits} {d : Drawing} (v : Valid m d) (c : Curve) (found : curveIn
   unfolding applyPlanTo endsAt isWhole
   whole-bridge h =
       let os = orphans (c .id) (d .curves) in
-      let told = reported (c .id) (endsAt (curveIn (d .curves) (c .id))) in
-      ap (λ l. accepted (record { next = d .next; points = keep (λ p. staying os (p .id)) (d .points); curves = others (c .id) (d .curves); relations = l }) told)
+      let report = reported (c .id) (endsAt (curveIn (d .curves) (c .id))) in
+      ap (λ l. accepted (record { next = d .next; points = keep (λ p. staying os (p .id)) (d .points); curves = others (c .id) (d .curves); relations = l }) report)
       (left-whole (λ r. among (c .id) (curvesOf r)) (λ r. every (staying os) (pointsOf r)) (d .relations))
-      ∙ ap (λ o. accepted (restOf d c e o) told) (orphans-are h)
+      ∙ ap (λ o. accepted (restOf d c e o) report) (orphans-are h)
       ∙ ap (λ x. accepted (restOf d c e (orphansOf d c Whole)) (reported (c .id) (endsAt x))) found
-      ∙ ap (accepted (restOf d c e (orphansOf d c Whole))) (ends-told (c .id) (c .kind))
+      ∙ ap (accepted (restOf d c e (orphansOf d c Whole))) (ends-answered (c .id) (c .kind))
 
   -- ---- cuts and divisions
 
   abbrev pub AtOnce : ℕ → ℕ → Plan → Type 0
   AtOnce k n plan =
       applyPlanTo met m d c plan
-      ≡ verdict (roomNumber m d c plan (extentOf (c .kind) (c .id) plan)) (accepted (finalOf d c (changeFor c k n plan (d .next)) (extentOf (c .kind) (c .id) plan) (orphansOf d c plan)) (changeFor c k n plan (d .next) .removed))
+      ≡ unlessRefused (roomNumber m d c plan (extentOf (c .kind) (c .id) plan)) (accepted (finalOf d c (changeFor c k n plan (d .next)) (extentOf (c .kind) (c .id) plan) (orphansOf d c plan)) (changeFor c k n plan (d .next) .removed))
 
   module _ (k n : ℕ) where
     two-cuts : (w u : PinnedPoint) (b : Bool) → Suited d c (CutTwo w u b) → (x : Bool) → isCircle (c .kind) ≡ x → AtOnce k n (CutTwo w u b)

@@ -17,7 +17,7 @@ use Rattle.edit_plan.specs.declared.PinnedPoint.{PinnedPoint}
 use Rattle.edit_plan.specs.declared.Plan.{Plan}
 use Rattle.edit_plan.specs.declared.Plan.the-variants.{Whole, Cut, CutTwo, Divide, DivideTwo, Move}
 use Rattle.edit_plan.specs.declared.Change.{Change}
-use Rattle.edit_plan.specs.Changes.{isCircle, recut, pinned, halvesOf, halfCircles, noHalves, cutOnce, divideOnce, cutMiddle, changeFor, pointsNew, curvesNew, relationsNew}
+use Rattle.edit_plan.specs.Changes.{isCircle, recut, pinRelation, halvesOf, halfCircles, noHalves, cutOnce, divideOnce, cutMiddle, changeFor, pointsNew, curvesNew, relationsNew}
 use Rattle.edit_plan.specs.Contracts.{relationsIn, slot}
 use Rattle.edit_plan.proofs.Leaves.{add-none}
 use Rattle.edit_plan.proofs.Loops.{map-append}
@@ -102,11 +102,11 @@ module _ (c : Curve) (k n : ℕ) where
   pub pushes : (plan : Plan) (i : ℕ) → Pushes c k n (changeFor c k n plan i)
   unfolding changeFor
   pushes Whole i = nothing-pushes i
-  pushes (Cut w b) i = cut-pushes (w .at) i b (pinned (w .pin) i)
+  pushes (Cut w b) i = cut-pushes (w .at) i b (pinRelation (w .pin) i)
   pushes (CutTwo w v b) i = go (isCircle (c .kind))
     where
-      go : (x : Bool) → Pushes c k n (ite x (cutOnce c k (halfCircles (w .at) (v .at) i) b (pinned (w .pin) i) (pinned (v .pin) (suc i))) (cutMiddle c n w v i))
-      go true = circle-pushes (w .at) (v .at) i b (pinned (w .pin) i) (pinned (v .pin) (suc i))
+      go : (x : Bool) → Pushes c k n (ite x (cutOnce c k (halfCircles (w .at) (v .at) i) b (pinRelation (w .pin) i) (pinRelation (v .pin) (suc i))) (cutMiddle c n w v i))
+      go true = circle-pushes (w .at) (v .at) i b (pinRelation (w .pin) i) (pinRelation (v .pin) (suc i))
       go false = middle-pushes w v i
   pushes (Divide v) i = divide-pushes v i
   pushes (DivideTwo v u) i = divide-circle-pushes v u i

@@ -14,20 +14,20 @@ use Rattle.sketch.specs.declared.CurveKind.{CurveKind}
 use Rattle.sketch.specs.declared.Relation.{Relation}
 use Rattle.sketch.specs.Lists.{ite, keep}
 use Rattle.sketch.specs.Lookup.{among}
-use Rattle.sketch.specs.Drawing.{Drawing, Limits, curveIn, usesOf}
+use Rattle.sketch.specs.Drawing.{Drawing, Limits, curveIn, usesOf, noSlots}
 use Rattle.sketch.specs.Facts.{Every, Valid}
 use Rattle.edit_plan.specs.declared.PinnedPoint.{PinnedPoint}
 use Rattle.edit_plan.specs.declared.Plan.the-variants.{CutTwo, Divide, DivideTwo}
 use Rattle.edit_plan.specs.declared.Removed.{Removed}
 use Rattle.edit_plan.specs.Outcome.{Outcome, accepted}
-use Rattle.edit_plan.specs.Tables.{noSlots, newPoint, rekind, uses}
-use Rattle.edit_plan.specs.Steps.{endsOf, isLine, tied, swap, reported, removal, nothing}
+use Rattle.edit_plan.specs.Tables.{newPoint, rekind, uses}
+use Rattle.edit_plan.specs.Steps.{endsOf, isLine, tieRelation, swap, reported, removal, nothing}
 use Rattle.edit_plan.specs.ApplyPlan.{applyPlanTo}
 use Rattle.edit_plan.specs.Suited.{PinHolds}
-use Rattle.edit_plan.specs.Changes.{isCircle, isWhole, pieceOf, keptPiece, gonePiece, pinned, halvesOf, halfCircles, cutOnce, divideOnce, changeFor, extentOf, staying, unusedBy, candidatesFor}
+use Rattle.edit_plan.specs.Changes.{isCircle, isWhole, pieceOf, keptPiece, gonePiece, pinRelation, halvesOf, halfCircles, cutOnce, divideOnce, changeFor, extentOf, staying, unusedBy, candidatesFor}
 use Rattle.edit_plan.specs.Room.{mkAdditions, additionsFor, roomWith}
 use Rattle.edit_plan.proofs.Leaves.{or-true}
-use Rattle.edit_plan.proofs.Bridge.{verdict, needPoint, needCurve, needRelation, freed, isOpen, openLaid, circleLaid, divide-chain, divide-circle-chain, cut-circle-chain, room-one, room-circle, room-pinned}
+use Rattle.edit_plan.proofs.Bridge.{unlessRefused, needPoint, needCurve, needRelation, freed, isOpen, openLaid, circleLaid, divide-chain, divide-circle-chain, cut-circle-chain, room-one, room-circle, room-pinned}
 use Rattle.edit_plan.proofs.Finals.{same, Given, stays, laid, swapped, removal-is, kept-used, pin-stays, none-go, end-used, report-is, halves-alike}
 use Rattle.edit_plan.proofs.AtOnce.{finalOf, orphansOf, roomNumber, nobody-goes, left-all, left-cut, freed-is, seam-used, given, pin-apart, old-other}
 
@@ -55,7 +55,7 @@ module _ {m : Limits} {d : Drawing} (v : Valid m d) (c : Curve) (found : curveIn
       points′ = d .points ++ (newPoint i (w .at) ∷ newPoint j′ (u .at) ∷ [])
 
       abbrev relations′ : List Relation
-      relations′ = pinned (w .pin) i ∷ pinned (u .pin) j′ ∷ []
+      relations′ = pinRelation (w .pin) i ∷ pinRelation (u .pin) j′ ∷ []
 
       abbrev unused′ : List ℕ
       unused′ = unusedBy (map (rekind (c .id) half) (d .curves) ++ []) (usesOf other-half noSlots)
@@ -87,21 +87,21 @@ module _ {m : Limits} {d : Drawing} (v : Valid m d) (c : Curve) (found : curveIn
       turned false = refl
 
       pub cut-circle-bridge : let e = extentOf (c .kind) (c .id) (CutTwo w u b) in let h = changeFor c k n (CutTwo w u b) i in
-          applyPlanTo met m d c (CutTwo w u b) ≡ verdict (roomNumber m d c (CutTwo w u b) e) (accepted (finalOf d c h e (orphansOf d c (CutTwo w u b))) (h .removed))
+          applyPlanTo met m d c (CutTwo w u b) ≡ unlessRefused (roomNumber m d c (CutTwo w u b) e) (accepted (finalOf d c h e (orphansOf d c (CutTwo w u b))) (h .removed))
       unfolding changeFor additionsFor candidatesFor isWhole
       cut-circle-bridge =
           let plan = CutTwo w u b in
           let e = extentOf (c .kind) (c .id) plan in
-          let h = cutOnce c k (halfCircles (w .at) (u .at) i) b (pinned (w .pin) i) (pinned (u .pin) j′) in
+          let h = cutOnce c k (halfCircles (w .at) (u .at) i) b (pinRelation (w .pin) i) (pinRelation (u .pin) j′) in
           let np = length (d .points) in
           let nc = length (d .curves) in
           let fs = freed c (d .relations) in
           let nr = length fs in
           let r : Outcome Drawing Removed = accepted (finalOf d c h e []) (h .removed) in
           let cs = map (rekind (c .id) half) (d .curves) in
-          let l : Drawing = circleLaid met m d c found o (w .at) (u .at) ((fs ++ (pinned (w .pin) i ∷ [])) ++ (pinned (u .pin) j′ ∷ [])) in
+          let l : Drawing = circleLaid met m d c found o (w .at) (u .at) ((fs ++ (pinRelation (w .pin) i ∷ [])) ++ (pinRelation (u .pin) j′ ∷ [])) in
           let laid-is : l ≡ laid d c g′ free′ points′ relations′ (suc g′) (pieceOf (c .kind) i j′) (pieceOf (c .kind) j′ i) =
-          same _ _ _ _ _ _ _ _ refl (append-assoc (d .points) (newPoint i (w .at) ∷ []) (newPoint j′ (u .at) ∷ [])) refl (append-assoc fs (pinned (w .pin) i ∷ []) (pinned (u .pin) j′ ∷ [])) in
+          same _ _ _ _ _ _ _ _ refl (append-assoc (d .points) (newPoint i (w .at) ∷ []) (newPoint j′ (u .at) ∷ [])) refl (append-assoc fs (pinRelation (w .pin) i ∷ []) (pinRelation (u .pin) j′ ∷ [])) in
           let ends : removal g′ (ite b (swap (c .id) g′ l) l) ≡ r =
           ap (λ x. removal g′ (ite b (swap (c .id) g′ x) x)) laid-is ∙ ap (removal g′) (turned b)
           ∙ removal-is d c g′ free′ points′ relations′ (suc g′) half other-half [] refl both-stay
@@ -111,13 +111,13 @@ module _ {m : Limits} {d : Drawing} (v : Valid m d) (c : Curve) (found : curveIn
           cut-circle-chain met m d c found o w u (pin-apart v c found (w .pin) i held (omega arith)) (pin-apart v c found (u .pin) j′ held′ (omega arith)) b
           ∙ ap (λ x. needPoint m i np (w .at) (needPoint m j′ (suc np) (u .at) (needCurve m g′ nc (needRelation m nr (needRelation m (suc nr) x))))) ends
           ∙ sym (room-pinned m i np nc nr r (w .at) (u .at))
-          ∙ ap (λ x. verdict (roomWith m i np nc (not (ltb (x + 1) (m .relations))) (mkAdditions (w .at) (u .at) 1 0 1)) r) (sym (freed-is c plan (d .relations)))
+          ∙ ap (λ x. unlessRefused (roomWith m i np nc (not (ltb (x + 1) (m .relations))) (mkAdditions (w .at) (u .at) 1 0 1)) r) (sym (freed-is c plan (d .relations)))
           ∙ rw o
 
     -- ---- divisions: nothing goes
 
     pub divide-bridge : (p : Vec2) → isOpen (c .kind) ≡ true → let e = extentOf (c .kind) (c .id) (Divide p) in let h = changeFor c k n (Divide p) i in
-        applyPlanTo met m d c (Divide p) ≡ verdict (roomNumber m d c (Divide p) e) (accepted (finalOf d c h e (orphansOf d c (Divide p))) (h .removed))
+        applyPlanTo met m d c (Divide p) ≡ unlessRefused (roomNumber m d c (Divide p) e) (accepted (finalOf d c h e (orphansOf d c (Divide p))) (h .removed))
     unfolding changeFor additionsFor candidatesFor isWhole
     divide-bridge p o =
         let plan = Divide p in
@@ -127,17 +127,17 @@ module _ {m : Limits} {d : Drawing} (v : Valid m d) (c : Curve) (found : curveIn
         let nc = length (d .curves) in
         let fs = freed c (d .relations) in
         let nr = length fs in
-        let tie = tied (isLine (c .kind)) (c .id) (suc i) ∷ [] in
+        let tie = tieRelation (isLine (c .kind)) (c .id) (suc i) ∷ [] in
         let r : Outcome Drawing Removed = accepted (finalOf d c h e []) nothing in
         let ends : accepted (openLaid met m d c found o p (fs ++ tie)) nothing ≡ r =
         ap (λ x. accepted x nothing) (same _ _ _ _ _ _ _ _ refl (sym (nobody-goes (d .points ++ (newPoint i p ∷ [])))) refl (ap (λ x. x ++ tie) (left-all c plan (d .relations) refl))) in
         divide-chain met m d c found o p
         ∙ ap (λ x. needPoint m i np p (needCurve m (suc i) nc (needRelation m nr x))) ends
         ∙ sym (room-one m i np nc nr r p)
-        ∙ ap (λ x. verdict (roomWith m i np nc (not (ltb (x + 0) (m .relations))) (mkAdditions p p 0 0 0)) r) (sym (freed-is c plan (d .relations)))
+        ∙ ap (λ x. unlessRefused (roomWith m i np nc (not (ltb (x + 0) (m .relations))) (mkAdditions p p 0 0 0)) r) (sym (freed-is c plan (d .relations)))
 
     pub divide-circle-bridge : (p q : Vec2) → isCircle (c .kind) ≡ true → let e = extentOf (c .kind) (c .id) (DivideTwo p q) in let h = changeFor c k n (DivideTwo p q) i in
-        applyPlanTo met m d c (DivideTwo p q) ≡ verdict (roomNumber m d c (DivideTwo p q) e) (accepted (finalOf d c h e (orphansOf d c (DivideTwo p q))) (h .removed))
+        applyPlanTo met m d c (DivideTwo p q) ≡ unlessRefused (roomNumber m d c (DivideTwo p q) e) (accepted (finalOf d c h e (orphansOf d c (DivideTwo p q))) (h .removed))
     unfolding changeFor additionsFor candidatesFor isWhole
     divide-circle-bridge p q o =
         let plan = DivideTwo p q in
@@ -147,7 +147,7 @@ module _ {m : Limits} {d : Drawing} (v : Valid m d) (c : Curve) (found : curveIn
         let nc = length (d .curves) in
         let fs = freed c (d .relations) in
         let nr = length fs in
-        let tie = tied (isLine (c .kind)) (c .id) (suc (suc i)) ∷ [] in
+        let tie = tieRelation (isLine (c .kind)) (c .id) (suc (suc i)) ∷ [] in
         let new = newPoint i p ∷ newPoint (suc i) q ∷ [] in
         let r : Outcome Drawing Removed = accepted (finalOf d c h e []) nothing in
         let ends : accepted (circleLaid met m d c found o p q (fs ++ tie)) nothing ≡ r =
@@ -156,4 +156,4 @@ module _ {m : Limits} {d : Drawing} (v : Valid m d) (c : Curve) (found : curveIn
         divide-circle-chain met m d c found o p q
         ∙ ap (λ x. needPoint m i np p (needPoint m (suc i) (suc np) q (needCurve m (suc (suc i)) nc (needRelation m nr x)))) ends
         ∙ sym (room-circle m i np nc nr r p q)
-        ∙ ap (λ x. verdict (roomWith m i np nc (not (ltb (x + 0) (m .relations))) (mkAdditions p q 1 0 0)) r) (sym (freed-is c plan (d .relations)))
+        ∙ ap (λ x. unlessRefused (roomWith m i np nc (not (ltb (x + 0) (m .relations))) (mkAdditions p q 1 0 0)) r) (sym (freed-is c plan (d .relations)))

@@ -225,7 +225,7 @@ module _ (s : Sketch) where
       → Cleared s os (record { next = s .next; npoints = n; ncurves = s .ncurves; nrelations = s .nrelations; points = l; curves = s .curves; relations = s .relations })
   cleared-is os l n e h =
       record {
-        drawn = ap (λ p. record { next = s .next; points = p; curves = view s .curves; relations = view s .relations }) e;
+        view-is = ap (λ p. record { next = s .next; points = p; curves = view s .curves; relations = view s .relations }) e;
         npoints = h;
         ncurves = refl;
         nrelations = refl;
@@ -236,7 +236,7 @@ module _ (s : Sketch) where
       → Without s g (record { next = s .next; npoints = s .npoints; ncurves = n; nrelations = s .nrelations; points = s .points; curves = l; relations = s .relations })
   without-is g l n e h =
       record {
-        drawn = ap (λ c. record { next = s .next; points = view s .points; curves = c; relations = view s .relations }) e;
+        view-is = ap (λ c. record { next = s .next; points = view s .points; curves = c; relations = view s .relations }) e;
         npoints = refl;
         ncurves = h;
         nrelations = refl;

@@ -16,12 +16,12 @@ use Rattle.edit_plan.specs.Outcome.{Outcome, refused, accepted, _then_, 
 use Rattle.edit_plan.specs.Tables.{okPosition, movePoint}
 use Rattle.edit_plan.specs.Steps.{endsOf, releaseExtent, splitAt, pin, pinAll, tie, swap, nothing, removal}
 
--- where the piece that goes is the first, the curve keeps its id and takes the geometry of the second, which goes in its stead; then what stays is tied
+-- where the removed piece is the first, the curve keeps its id and takes the geometry of the second, which is removed in its stead; then what stays is tied
 unfoldable pub removePiece : Limits → ℕ → Bool → List ℕ → Drawing → Outcome Drawing Removed
 removePiece m t first-goes [] d = refused 12
 removePiece m t first-goes (g ∷ is) d = tie m (ite first-goes (swap t g d) d) t is then (λ d′ u. removal g d′)
 
--- cut at the places, pinned there, without the piece that goes
+-- cut at the places, pinned there, without the removed piece
 abbrev pub cut : Limits → Drawing → Curve → List PinnedPoint → Bool → Outcome Drawing Removed
 cut m d c ws first-goes =
     splitAt m (releaseExtent (c .id) (c .kind) d) c (map (λ w. w .at) ws)
@@ -43,7 +43,7 @@ moveEnd met m d at-end v w (some e) =
     let p : ℕ = ite at-end (e .1) (e .0) in
     guard (okPosition v) 24 (pin m (movePoint p v d) p w then (λ d′ u. checkMet met d′))
 
--- `met` tells whether every relation is
+-- `met` says whether every relation of a drawing is met
 unfoldable pub applyPlanTo : (Drawing → Bool) → Limits → Drawing → Curve → Plan → Outcome Drawing Removed
 applyPlanTo met m d c Whole = removal (c .id) d
 applyPlanTo met m d c (Cut w first-goes) = cut m d c (w ∷ []) first-goes

@@ -6,6 +6,7 @@ use mathlib.Core.Option.{Option, some, none}
 use lib.Dec.{eqb}
 use lib.Ieee.{binary64, ofBits}
 use Rattle.geom.specs.declared.Vec2.{Vec2}
+use Rattle.geom.specs.Plane.{origin}
 use Rattle.sketch.specs.declared.Point.{Point}
 use Rattle.sketch.specs.declared.Curve.{Curve}
 use Rattle.sketch.specs.declared.CurveKind.{CurveKind}
@@ -28,7 +29,7 @@ use Rattle.edit_plan.specs.declared.Kept.the-variants.{Keep, Dropped}
 use Rattle.edit_plan.specs.declared.Halves.{Halves}
 use Rattle.edit_plan.specs.declared.Change.{Change}
 use Rattle.edit_plan.specs.Tables.{newPoint, newCurve, curvesOf, uses}
-use Rattle.edit_plan.specs.Steps.{isLine, dropIf, releaseRelation, tied, nothing}
+use Rattle.edit_plan.specs.Steps.{isLine, dropIf, releaseRelation, tieRelation, nothing}
 
 -- ---- kinds and plans
 
@@ -70,7 +71,7 @@ pieceOf (Circle c r) p q = Arc c p q
 pieceOf (Bezier n) p q = Bezier n
 pieceOf (Conic a u b rho) p q = Conic a u b rho
 
--- of the pieces from a to m and from m to b, the one that stays and the one that goes
+-- of the pieces from a to m and from m to b, the one that stays and the one that is removed
 abbrev pub keptPiece : CurveKind → Bool → ℕ → ℕ → ℕ → CurveKind
 keptPiece k first-goes a m b = ite first-goes (pieceOf k m b) (pieceOf k a m)
 
@@ -82,9 +83,9 @@ goneAs g first-goes a m b =
     ite first-goes (record { curve = g; from = a; to = m }) (record { curve = g; from = m; to = b })
 
 -- the relation that pins p
-unfoldable pub pinned : Pin → ℕ → Relation
-pinned (On c) p = PointOnCurve p c
-pinned (At e) p = Coincident p e
+unfoldable pub pinRelation : Pin → ℕ → Relation
+pinRelation (On c) p = PointOnCurve p c
+pinRelation (At e) p = Coincident p e
 
 abbrev pub recut : Curve → CurveKind → Curve
 recut c k =
@@ -125,9 +126,6 @@ halfCircles v u i =
       next = suc (suc (suc i));
     }
 
-abbrev pub origin : Vec2
-origin = record { x = ofBits binary64 0; y = ofBits binary64 0 }
-
 abbrev pub noHalves : ℕ → Halves
 noHalves i =
     record {
@@ -163,7 +161,7 @@ cutOnce c k h first-goes r s =
 
 abbrev pub divideOnce : Curve → ℕ → Halves → Change
 divideOnce c n h =
-    let tie = tied (isLine (c .kind)) (c .id) (h .half) in
+    let tie = tieRelation (isLine (c .kind)) (c .id) (h .half) in
     record {
       next = h .next;
       p = h .p;
@@ -192,9 +190,9 @@ cutMiddle c n w v i =
       added = newCurve (suc (suc (suc i))) (pieceOf (c .kind) (suc i) (endOf (c .kind))) (c .construction);
       place = n;
       curves = 1;
-      r = pinned (w .pin) i;
-      s = pinned (v .pin) (suc i);
-      t = tied (isLine (c .kind)) (c .id) (suc (suc (suc i)));
+      r = pinRelation (w .pin) i;
+      s = pinRelation (v .pin) (suc i);
+      t = tieRelation (isLine (c .kind)) (c .id) (suc (suc (suc i)));
       second = 1;
       third = 2;
       removed = record { curve = suc (suc i); from = i; to = suc i };
@@ -204,10 +202,10 @@ cutMiddle c n w v i =
 unfoldable pub changeFor : Curve → ℕ → ℕ → Plan → ℕ → Change
 changeFor c k n Whole i = divideOnce c n (noHalves i)
 changeFor c k n (Cut w first-goes) i =
-    cutOnce c k (halvesOf (c .kind) (w .at) i) first-goes (pinned (w .pin) i) (pinned (w .pin) i)
+    cutOnce c k (halvesOf (c .kind) (w .at) i) first-goes (pinRelation (w .pin) i) (pinRelation (w .pin) i)
 changeFor c k n (CutTwo w v first-goes) i =
     ite (isCircle (c .kind))
-    (cutOnce c k (halfCircles (w .at) (v .at) i) first-goes (pinned (w .pin) i) (pinned (v .pin) (suc i)))
+    (cutOnce c k (halfCircles (w .at) (v .at) i) first-goes (pinRelation (w .pin) i) (pinRelation (v .pin) (suc i)))
     (cutMiddle c n w v i)
 changeFor c k n (Divide v) i = divideOnce c n (halvesOf (c .kind) v i)
 changeFor c k n (DivideTwo v u) i = divideOnce c n (halfCircles v u i)
@@ -222,7 +220,7 @@ curvesNew h = ite (eqb (h .curves) 0) [] (h .added ∷ [])
 abbrev pub relationsNew : Change → List Relation
 relationsNew h = ite (eqb (h .third) 0) (h .r ∷ []) (ite (eqb (h .third) 1) (h .r ∷ h .s ∷ []) (h .r ∷ h .s ∷ h .t ∷ []))
 
--- ---- what goes
+-- ---- what is removed
 
 abbrev pub extentOf : CurveKind → ℕ → Plan → Extent
 extentOf k i plan = record { id = i; line = isLine k; whole = isWhole plan; from = startOf k; to = endOf k }
@@ -243,7 +241,7 @@ orphanList o = lone (o .pgoes) (o .p) ++ (lone (o .qgoes) (o .q) ++ lone (o .rgo
 abbrev pub staying : List ℕ → ℕ → Bool
 staying os p = not (among p os)
 
--- the relation as far as the curve goes, and then the points
+-- what is left of a relation without the curve, and then without the points
 abbrev pub leftBy : Extent → Relation → List Relation
 leftBy e v = ite (e .whole) (dropIf (among (e .id) (curvesOf v)) v) (releaseRelation (e .id) (chord e) v)
 
@@ -260,7 +258,7 @@ mkOrphans p q r b c d = record { p = p; q = q; r = r; pgoes = b; qgoes = c; rgoe
 abbrev pub noOrphans : Orphans
 noOrphans = mkOrphans 0 0 0 false false false
 
--- all points of a curve that goes
+-- all points of a curve that is removed
 unfoldable pub ownPoints : CurveKind → Orphans
 ownPoints (Line a b) = mkOrphans a b 0 true true false
 ownPoints (Arc c a b) = mkOrphans c a b true true true

@@ -1,4 +1,4 @@
--- What the code's steps on a whole sketch ask and answer.
+-- The contracts of private functions, which nothing outside needs: the code's steps on a whole sketch.
 use mathlib.Core.Path.{_≡_}
 use mathlib.Core.Bool.{true, false}
 use mathlib.Core.List.{List, map}
@@ -46,7 +46,7 @@ slot r = record { relation = r }
 abbrev pub remainingRelations : Extent → Orphans → Sketch → List Relation
 remainingRelations e os s = concatMap (leftOf e (orphanList os)) (view s .relations)
 
--- where the curve goes, nothing but the relations is touched
+-- where the curve is removed, nothing but the relations is touched
 pub record Released (s : Sketch) (e : Extent) (os : Orphans) (r : Sketch) : Type 0 where
   pub next : r .next ≡ s .next
   pub npoints : r .npoints ≡ s .npoints
@@ -77,14 +77,14 @@ pub record Rewritten (s : Sketch) (k : ℕ) (e : Extent) (os : Orphans) (h : Cha
 
 -- the points without those that go
 pub record Cleared (s : Sketch) (os : Orphans) (r : Sketch) : Type 0 where
-  pub drawn : view r ≡ record { next = s .next; points = keep (λ p. staying (orphanList os) (p .id)) (view s .points); curves = view s .curves; relations = view s .relations }
+  pub view-is : view r ≡ record { next = s .next; points = keep (λ p. staying (orphanList os) (p .id)) (view s .points); curves = view s .curves; relations = view s .relations }
   pub npoints : r .npoints ≤ s .npoints
   pub ncurves : r .ncurves ≡ s .ncurves
   pub nrelations : r .nrelations ≡ s .nrelations
 
--- the curves without the one that goes
+-- the curves without the removed one
 pub record Without (s : Sketch) (g : ℕ) (r : Sketch) : Type 0 where
-  pub drawn : view r ≡ record { next = s .next; points = view s .points; curves = others g (view s .curves); relations = view s .relations }
+  pub view-is : view r ≡ record { next = s .next; points = view s .points; curves = others g (view s .curves); relations = view s .relations }
   pub npoints : r .npoints ≡ s .npoints
   pub ncurves : r .ncurves ≤ s .ncurves
   pub nrelations : r .nrelations ≡ s .nrelations
@@ -101,10 +101,10 @@ pub record Ready (s : Sketch) (k : ℕ) (c : Curve) (e : Extent) (plan : Plan) :
 abbrev pub refusedAs : Sketch → ℕ → Edited
 refusedAs s n = record { sketch = s; refusal = n; place = 0; removed = nothing }
 
--- applied, with what went
+-- applied, with the report of what is removed
 abbrev pub editedAs : Sketch → Removed → Edited
 editedAs s gone = record { sketch = s; refusal = 0; place = 0; removed = gone }
 
--- a curve that went as a whole
+-- a curve that is removed whole
 abbrev pub wholeGone : Extent → Removed
 wholeGone e = record { curve = e .id; from = e .from; to = e .to }

@@ -1,8 +1,8 @@
--- What a call comes to, and steps of which the first refusal counts. Definitions only.
+-- The outcome of a call, and steps of which the first refusal counts. Definitions only.
 use Prim.Native.Nat.{ℕ}
 use mathlib.Core.Bool.{Bool, true, false}
 
--- refused by a number; or accepted, with what is left and what is told
+-- refused by a number; or accepted, with the new value and a report
 pub data Outcome (D A : Type 0) : Type 0 where
   refused : ℕ → Outcome D A
   accepted : D → A → Outcome D A

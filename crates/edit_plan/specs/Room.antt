@@ -5,6 +5,7 @@ use mathlib.Core.List.{List}
 use lib.ListN.{length}
 use lib.Dec.{ltb}
 use Rattle.geom.specs.declared.Vec2.{Vec2}
+use Rattle.geom.specs.Plane.{origin}
 use Rattle.sketch.specs.declared.CurveKind.{CurveKind}
 use Rattle.sketch.specs.declared.Relation.{Relation}
 use Rattle.sketch.specs.declared.Sketch.{Sketch}
@@ -16,7 +17,7 @@ use Rattle.edit_plan.specs.declared.Additions.{Additions}
 use Rattle.edit_plan.specs.declared.Extent.{Extent}
 use Rattle.edit_plan.specs.Tables.{okPosition}
 use Rattle.edit_plan.specs.Steps.{releaseRelation}
-use Rattle.edit_plan.specs.Changes.{isCircle, chord, origin}
+use Rattle.edit_plan.specs.Changes.{isCircle, chord}
 
 abbrev pub mkAdditions : Vec2 → Vec2 → ℕ → ℕ → ℕ → Additions
 mkAdditions v u points curves relations =
@@ -37,7 +38,7 @@ pointRoom m i n v rest = guardNumber (ltb i (m .ids)) 23 (guardNumber (ltb n (m 
 abbrev pub curveRoom : Limits → ℕ → ℕ → ℕ → ℕ
 curveRoom m i n rest = guardNumber (ltb i (m .ids)) 23 (guardNumber (ltb n (m .curves)) 22 rest)
 
--- where no second point or curve is added, the first is tested again; `full` tells that the relations don't fit
+-- where no second point or curve is added, the first is tested again; `full` says that the relations don't fit
 unfoldable pub roomWith : Limits → ℕ → ℕ → ℕ → Bool → Additions → ℕ
 roomWith m i np nc full d =
     pointRoom m i np (d .first)

@@ -129,12 +129,12 @@ abbrev pub lineAt : Option Curve → Bool
 lineAt none = false
 lineAt (some c) = isLine (c .kind)
 
-abbrev pub tied : Bool → ℕ → ℕ → Relation
-tied line a b = ite line (Collinear a b) (Equal a b)
+abbrev pub tieRelation : Bool → ℕ → ℕ → Relation
+tieRelation line a b = ite line (Collinear a b) (Equal a b)
 
 abbrev pub tie : Limits → Drawing → ℕ → List ℕ → Outcome Drawing (Unit {0})
 tie m d a [] = accepted d tt
-tie m d a (b ∷ bs) = addRelation m d (tied (lineAt (curveIn (d .curves) a)) a b) then (λ d′ u. tie m d′ b bs)
+tie m d a (b ∷ bs) = addRelation m d (tieRelation (lineAt (curveIn (d .curves) a)) a b) then (λ d′ u. tie m d′ b bs)
 
 -- ---- the swap, the removal and the report
 
@@ -152,7 +152,7 @@ unfoldable pub reported : ℕ → Option (ℕ × ℕ) → Removed
 reported g none = record { curve = g; from = 0; to = 0 }
 reported g (some e) = record { curve = g; from = e .0; to = e .1 }
 
--- three zeros where none went
+-- the report is three zeros where no curve is removed
 abbrev pub nothing : Removed
 nothing = record { curve = 0; from = 0; to = 0 }
 

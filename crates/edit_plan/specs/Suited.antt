@@ -26,7 +26,7 @@ use Rattle.edit_plan.specs.Outcome.{Outcome, refused, accepted}
 use Rattle.edit_plan.specs.Tables.{uses, others}
 use Rattle.edit_plan.specs.ApplyPlan.{applyPlan}
 
--- a line or an arc is cut at one place, or at two, between which a piece goes
+-- a line or an arc is cut at one place, or at two, between which a piece is removed
 unfoldable pub suitsOpen : Plan → Bool
 suitsOpen Whole = true
 suitsOpen (Cut w first-goes) = true

@@ -14,7 +14,7 @@ use Rattle.sketch.specs.declared.Relation.{Relation}
 use Rattle.sketch.specs.declared.Relation.the-variants.{Coincident, PointOnCurve, Collinear, Equal, Length, Distance, Midpoint, ArcLength, ArcSweep}
 use Rattle.sketch.specs.Lists.{ite, every, keep, concatMap}
 use Rattle.sketch.specs.Lookup.{among}
-use Rattle.sketch.specs.Drawing.{Drawing, Limits, curveIn, usesOf, pointsOf}
+use Rattle.sketch.specs.Drawing.{Drawing, Limits, curveIn, usesOf, pointsOf, noSlots}
 use Rattle.sketch.specs.Valid.{okCoordinate}
 use Rattle.edit_plan.specs.Outcome.{Outcome, accepted, guard}
 
@@ -30,9 +30,6 @@ abbrev pub withPoint : Drawing → Vec2 → Drawing
 withPoint d v =
     record { next = suc (d .next); points = d .points ++ (newPoint (d .next) v ∷ []); curves = d .curves; relations = d .relations }
 
-abbrev pub noSlots : List ℕ
-noSlots = 0 ∷ 0 ∷ 0 ∷ 0 ∷ 0 ∷ 0 ∷ 0 ∷ 0 ∷ []
-
 -- of its curve's flags a new piece keeps construction only
 abbrev pub newCurve : ℕ → CurveKind → Bool → Curve
 newCurve i k construction =
@@ -45,7 +42,7 @@ withCurve d k b =
 abbrev pub withRelation : Drawing → Relation → Drawing
 withRelation d r = record { next = d .next; points = d .points; curves = d .curves; relations = d .relations ++ (r ∷ []) }
 
--- what is new takes the next id, which it tells, and stands last
+-- what is new takes the next id, which is answered, and stands last
 abbrev pub addPoint : Limits → Drawing → Vec2 → Outcome Drawing ℕ
 addPoint m d v =
     guard (ltb (d .next) (m .ids)) 23
@@ -81,7 +78,7 @@ abbrev pub moved : ℕ → Vec2 → Point → Point
 moved i v p =
     record { id = p .id; fixed = p .fixed; x = ite (eqb i (p .id)) (v .x) (p .x); y = ite (eqb i (p .id)) (v .y) (p .y) }
 
--- the point i comes to lie at v
+-- the point i is moved to v
 abbrev pub movePoint : ℕ → Vec2 → Drawing → Drawing
 movePoint i v d = record { next = d .next; points = map (moved i v) (d .points); curves = d .curves; relations = d .relations }
 

@@ -110,7 +110,7 @@ fn edited(sketch: Sketch, removed: Removed) -> Edited
     }
 }
 
-// The curve of an extent, gone as a whole.
+// The report of a curve that is removed whole.
 fn whole_gone(e: Extent) -> Removed
     ensures { λ x. ⌜ x ≡ wholeGone e ⌝ }
 {
@@ -123,7 +123,7 @@ fn whole_gone(e: Extent) -> Removed
 
 // The plan applied on the curve at place k. A plan that doesn't suit it may come to anything. All is written here, to one working
 // copy, as each function that takes a sketch and gives one costs two more: the relations that are left, all that a cut or a division
-// adds and sets, and what goes.
+// adds and sets, and what is removed.
 pub fn apply_plan(sk: Sketch, k: usize, plan: Plan) -> Edited
     ensures { λ r. ⌜ AppliesPlan sk k plan r ⌝ }
 {

@@ -11,10 +11,10 @@ use crate::pieces::kept_piece;
 use crate::pieces::new_curve;
 use crate::pieces::new_point;
 use crate::pieces::piece;
-use crate::pieces::pin_of;
+use crate::pieces::pin_relation;
 use crate::pieces::recut;
 use crate::pieces::start_of;
-use crate::pieces::tie_of;
+use crate::pieces::tie_relation;
 use geom::Vec2;
 use sketch::Curve;
 use sketch::CurveKind;
@@ -22,7 +22,7 @@ use sketch::Id;
 use sketch::Relation;
 ghost use mathlib.Core.Path.{_≡_};
 ghost use Prim.Native.Nat.{suc, _+_, _≤_};
-ghost use Rattle.edit_plan.specs.Changes.{pinned, halvesOf, halfCircles, noHalves, cutOnce, divideOnce, cutMiddle, changeFor};
+ghost use Rattle.edit_plan.specs.Changes.{pinRelation, halvesOf, halfCircles, noHalves, cutOnce, divideOnce, cutMiddle, changeFor};
 ghost use Rattle.edit_plan.specs.Room.{takes};
 ghost use Rattle.sketch.specs.Drawing.{limits};
 
@@ -79,7 +79,7 @@ fn no_halves(next: Id) -> Halves
     }
 }
 
-// One half goes, and the ends of what stays are pinned.
+// One half is removed, and the ends of the other are pinned.
 fn cut_once(c: Curve, k: usize, h: Halves, lead: bool, r: Relation, s: Relation) -> Change
     ensures { λ x. ⌜ x ≡ cutOnce c k h lead r s ⌝ }
 {
@@ -112,7 +112,7 @@ fn divide_once(c: Curve, n: usize, h: Halves) -> Change
     let p = h.p;
     let q = h.q;
     let kind = c.kind;
-    let tie = tie_of(kind, c.id, h.half);
+    let tie = tie_relation(kind, c.id, h.half);
     Change {
         next: h.next,
         p: p,
@@ -138,18 +138,18 @@ fn divide_once(c: Curve, n: usize, h: Halves) -> Change
 // A circle becomes the arc between its cuts, or the other one.
 fn cut_circle(c: Curve, k: usize, w: PinnedPoint, v: PinnedPoint, lead: bool, next: Id) -> Change
     requires { ⌜ next + 3 ≤ limits .ids ⌝ }
-    ensures { λ x. ⌜ x ≡ cutOnce c k (halfCircles (w .at) (v .at) next) lead (pinned (w .pin) next) (pinned (v .pin) (suc next)) ⌝ }
+    ensures { λ x. ⌜ x ≡ cutOnce c k (halfCircles (w .at) (v .at) next) lead (pinRelation (w .pin) next) (pinRelation (v .pin) (suc next)) ⌝ }
 {
     let x = w.at;
     let y = v.at;
     let first = w.pin;
     let second = v.pin;
-    let r = pin_of(first, next);
-    let s = pin_of(second, next + 1);
+    let r = pin_relation(first, next);
+    let s = pin_relation(second, next + 1);
     cut_once(c, k, half_circles(x, y, next), lead, r, s)
 }
 
-// The middle piece of a line or an arc goes; its last piece is new, and comes after n curves.
+// The middle piece of a line or an arc is removed; its last piece is new, and comes after n curves.
 fn cut_middle(c: Curve, n: usize, w: PinnedPoint, v: PinnedPoint, next: Id) -> Change
     requires { ⌜ next + 4 ≤ limits .ids ⌝ }
     ensures { λ x. ⌜ x ≡ cutMiddle c n w v next ⌝ }
@@ -163,9 +163,9 @@ fn cut_middle(c: Curve, n: usize, w: PinnedPoint, v: PinnedPoint, next: Id) -> C
     let y = v.at;
     let first = w.pin;
     let second = v.pin;
-    let r = pin_of(first, next);
-    let s = pin_of(second, i);
-    let tie = tie_of(kind, c.id, g);
+    let r = pin_relation(first, next);
+    let s = pin_relation(second, i);
+    let tie = tie_relation(kind, c.id, g);
     Change {
         next: next + 4,
         p: new_point(next, x),
@@ -198,7 +198,7 @@ pub(crate) fn change_for(c: Curve, k: usize, n: usize, plan: Plan, next: Id) -> 
         Plan::Cut(w, lead) => {
             let v = w.at;
             let end = w.pin;
-            let pin = pin_of(end, next);
+            let pin = pin_relation(end, next);
             cut_once(c, k, halves(kind, v, next), lead, pin, pin)
         }
         Plan::CutTwo(w, v, lead) => if is_circle(kind) {

@@ -8,7 +8,7 @@ mod unused_points;
 
 pub use apply::apply_plan;
 use geom::Vec2;
-pub use pieces::pin_of;
+pub use pieces::pin_relation;
 use sketch::Curve;
 use sketch::Id;
 use sketch::Point;
@@ -29,8 +29,9 @@ pub struct PinnedPoint {
 }
 
 // What an edit does to a curve.
-// Whole: it goes. Cut: it is cut, and a piece goes: the first of two (true) or else the second. CutTwo: the same at
-// two cuts. Divide, DivideTwo: it is cut, and every piece stays. Move: its start or (true) its end moves.
+// Whole: it is removed. Cut: it is cut, and the first (true) or the second of two pieces is removed. CutTwo: it is cut twice,
+// and a piece is removed: of a circle the first (true) or the second, else the middle one. Divide, DivideTwo: it is cut, and
+// every piece stays. Move: its start or (true) its end moves.
 pub enum Plan {
     Whole,
     Cut(PinnedPoint, bool),
@@ -40,7 +41,7 @@ pub enum Plan {
     Move(bool, Vec2, Pin),
 }
 
-// The curve that went, with its two ends; zeros where it had none, and three where nothing went.
+// The removed curve's id with its two ends; zeros for ends that it has not, and three zeros where nothing is removed.
 pub struct Removed {
     pub curve: Id,
     pub from: Id,
@@ -56,7 +57,7 @@ pub struct Edited {
     pub removed: Removed,
 }
 
-// The curve that is cut, or goes (`whole`), with the ends of a line (`line`) or an arc; zeros where there are none.
+// The curve that is cut, or removed whole (`whole`), with the ends of a line (`line`) or an arc; zeros where there are none.
 struct Extent {
     id: Id,
     line: bool,
@@ -65,7 +66,7 @@ struct Extent {
     to: Id,
 }
 
-// Up to three points, each with whether it goes.
+// Up to three points, each with whether it is removed.
 struct Orphans {
     p: Id,
     q: Id,
@@ -116,7 +117,7 @@ struct Halves {
 }
 
 // What a cut or a division writes. A second point comes `points` places after the first: where there is none, that is
-// the same again at the same place; and so for a new piece, which comes to lie at `place`, and for the relations.
+// the same again at the same place; and so for a new piece, which stands at `place`, and for the relations.
 struct Change {
     next: Id,
     p: Point,

@@ -9,8 +9,8 @@ use sketch::Point;
 use sketch::Relation;
 ghost use mathlib.Core.Path.{_≡_};
 ghost use Rattle.edit_plan.specs.Changes as O;
-ghost use Rattle.edit_plan.specs.Changes.{isCircle, startOf, endOf, pieceOf, keptPiece, goneAs, pinned};
-ghost use Rattle.edit_plan.specs.Steps.{isLine, tied};
+ghost use Rattle.edit_plan.specs.Changes.{isCircle, startOf, endOf, pieceOf, keptPiece, goneAs, pinRelation};
+ghost use Rattle.edit_plan.specs.Steps.{isLine, tieRelation};
 ghost use Rattle.edit_plan.specs.Tables.{newPoint, newCurve};
 
 pub(crate) fn is_circle(kind: CurveKind) -> bool
@@ -86,9 +86,9 @@ pub(crate) fn gone_piece(g: Id, lead: bool, a: Id, m: Id, b: Id) -> Removed
     }
 }
 
-// The relation by which a pin holds a point.
-pub fn pin_of(pin: Pin, p: Id) -> Relation
-    ensures { λ x. ⌜ x ≡ pinned pin p ⌝ }
+// The relation that a pin adds for a point.
+pub fn pin_relation(pin: Pin, p: Id) -> Relation
+    ensures { λ x. ⌜ x ≡ pinRelation pin p ⌝ }
 {
     match pin {
         Pin::On(c) => Relation::PointOnCurve(p, c),
@@ -96,8 +96,8 @@ pub fn pin_of(pin: Pin, p: Id) -> Relation
     }
 }
 
-pub(crate) fn tie_of(kind: CurveKind, a: Id, b: Id) -> Relation
-    ensures { λ x. ⌜ x ≡ tied (isLine kind) a b ⌝ }
+pub(crate) fn tie_relation(kind: CurveKind, a: Id, b: Id) -> Relation
+    ensures { λ x. ⌜ x ≡ tieRelation (isLine kind) a b ⌝ }
 {
     match kind {
         CurveKind::Line(_, _) => Relation::Collinear(a, b),

@@ -1,4 +1,4 @@
-// What goes from the tables: relations that are released or dropped, points that no curve uses any more, a curve.
+// Removals from the tables: relations that are released or dropped, points that no curve uses any more, a curve.
 use crate::CurveTable;
 use crate::Extent;
 use crate::Kept;
@@ -25,7 +25,7 @@ fn drop_if(drop: bool, v: Relation) -> Kept
 }
 
 // What is left of a relation where a curve is cut.
-pub(crate) fn release_extent(v: Relation, e: Extent) -> Kept
+pub(crate) fn release_relation(v: Relation, e: Extent) -> Kept
     ensures { λ x. ⌜ keptOf x ≡ releaseRelation (e .id) (chord e) v ⌝ }
 {
     match v {
@@ -81,17 +81,17 @@ fn keeps_all_points(v: Relation, os: Orphans) -> bool
     }
 }
 
-// What is left of a relation where a curve is cut or goes.
+// What is left of a relation where a curve is cut or removed.
 fn left_by(v: Relation, e: Extent) -> Kept
     ensures { λ x. ⌜ keptOf x ≡ leftBy e v ⌝ }
 {
     if e.whole {
         return drop_if(names(v, e.id), v);
     }
-    release_extent(v, e)
+    release_relation(v, e)
 }
 
-// The same where points go, too.
+// What is left of a relation where a curve is cut or removed and points are removed with it.
 pub(crate) fn left_of(v: Relation, e: Extent, os: Orphans) -> Kept
     ensures { λ x. ⌜ keptOf x ≡ leftOf e (orphanList os) v ⌝ }
 {

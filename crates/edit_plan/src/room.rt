@@ -4,7 +4,7 @@ use crate::Extent;
 use crate::Kept;
 use crate::Plan;
 use crate::pieces::is_circle;
-use crate::removal::release_extent;
+use crate::removal::release_relation;
 use geom::Vec2;
 use sketch::CurveKind;
 use sketch::Id;
@@ -117,7 +117,7 @@ fn left_over(sk: Sketch, e: Extent) -> usize
         let s = sk.relations[i];
         let v = s.relation;
         i += 1;
-        match release_extent(v, e) {
+        match release_relation(v, e) {
             Kept::Keep(_) => {
                 j += 1;
             }
@@ -138,7 +138,7 @@ fn full_with(sk: Sketch, e: Extent, more: usize) -> bool
     256 <= left_over(sk, e) + more
 }
 
-// The refusal that applying the plan comes to, or 0.
+// The number that applying the plan is refused by, or 0.
 pub(crate) fn refusal_of(sk: Sketch, kind: CurveKind, e: Extent, plan: Plan) -> u8
     requires { ⌜ sk .nrelations ≤ 256 ⌝ }
     ensures { λ x. ⌜ x ≡ refusalFor sk kind e plan ⌝ }

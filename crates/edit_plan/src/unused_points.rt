@@ -49,14 +49,14 @@ pub fn curve_uses(c: Curve, p: Id) -> bool
     }
 }
 
-// Whether a point goes, the curve c having been looked at.
+// Whether a point stays an orphan once the curve c is looked at.
 fn still_unused(goes: bool, c: Curve, p: Id) -> bool
     ensures { λ x. ⌜ x ≡ (goes && not (among p (usesOf (c .kind) (c .slots)))) ⌝ }
 {
     if goes { !curve_uses(c, p) } else { false }
 }
 
-// Three points, each of which goes or doesn't.
+// Three points, each with whether it is an orphan.
 fn orphans_of_three(p: Id, q: Id, r: Id, pgoes: bool, qgoes: bool, rgoes: bool) -> Orphans
     ensures { λ x. ⌜ x ≡ mkOrphans p q r pgoes qgoes rgoes ⌝ }
 {
@@ -82,7 +82,7 @@ fn own_points(kind: CurveKind) -> Orphans
     }
 }
 
-// The points that may go: all of a curve that goes, the far end of one that loses its first piece or its last.
+// The points that may be orphaned: all points of a curve that is removed, the far end of one that loses its first or its last piece.
 fn candidates_of(kind: CurveKind, plan: Plan) -> Orphans
     ensures { λ x. ⌜ x ≡ candidatesFor kind plan ⌝ }
 {

@@ -8,7 +8,7 @@ use Rattle.image.specs.Image.{headFault, rowsAt, resultOf}
 use Rattle.image.specs.Encode.{header, encode}
 use Rattle.bernstein.specs.Evaluate.{casteljauStep, casteljauSteps, evaluateOf}
 use Rattle.bernstein.specs.Bisect.{middle, narrow, sameSign, bisectOf}
-use Rattle.bernstein.specs.Roots.{allFinite, largestOf, tiny, toleranceOf, slopes, derivativeOf, insert, sortOnto, dedupAfter, dedupOf, knotsOf, isZero, zerosOf, noBracket, withRoot, andThen, bracketsOf, brackets, gathered, sortedDedup, levelOf, onLevel, rootsAt, rootsOf}
+use Rattle.bernstein.specs.Roots.{allFinite, largestOf, tiny, toleranceOf, slopes, derivativeOf, insert, sortOnto, dedupAfter, dedupOf, knotsOf, isZero, zerosOf, noSignChange, withRoot, andThen, bisectFrom, bisectBetween, gathered, sortedDedup, levelOf, onLevel, rootsAt, rootsOf}
 use Rattle.shape.proofs.Opened.{opened}
 use Rattle.sketch_geometry.specs.Geometry.{positionOf, shapeOf, shapeFrom}
 use Rattle.relations.specs.Met.{met, on}
@@ -21,9 +21,10 @@ use Rattle.edit_plan.specs.Outcome.{guard}
 use Rattle.edit_plan.specs.Tables.{curvesOf}
 use Rattle.edit_plan.specs.Steps.{endsOf, endsAt, measured, releaseRelation, piecesOf, addPieces, pin, swapKinds, reported}
 use Rattle.edit_plan.specs.ApplyPlan.{removePiece, checkMet, moveEnd, applyPlanTo, applyPlanAt}
+use Rattle.edit_plan.specs.Changes.{isCircle}
 use Rattle.modify.specs.Planning.{guardPlan, cutterOf, paramOfPick, nearEnd, pinTo, between, firstGoes, trimAt, trimPlan, splitFull, atEnd, splitPlan}
 use Rattle.modify.specs.Extend.{gapOf, boundary, curveHits, better, bestOf, continueWith, nearestHit, planMove, isFixed, extendEnd, extendCurve}
-use Rattle.modify.specs.Edits.{isCircle, isFullArc, noFreeform, trimCurve, splitCurve, planOnCurve, planOnFound, applyPlanned}
+use Rattle.modify.specs.Edits.{isFullArc, noFreeform, trimCurve, splitCurve, planOnCurve, planOnFound, applyPlanned}
 use Rattle.example_proofs.specs.Examples.{Examples}
 
 -- to name one of these under `unfolding` opens the definitions of images, of roots, or of edits
@@ -32,7 +33,7 @@ unfolding field bytes guardNumber headFault rowsAt resultOf header encode
 opened-images = tt
 
 unfoldable opened-roots : Unit {0}
-unfolding casteljauStep casteljauSteps evaluateOf middle narrow sameSign bisectOf allFinite largestOf tiny toleranceOf slopes derivativeOf insert sortOnto dedupAfter dedupOf knotsOf isZero zerosOf noBracket withRoot andThen bracketsOf brackets gathered sortedDedup levelOf onLevel rootsAt rootsOf
+unfolding casteljauStep casteljauSteps evaluateOf middle narrow sameSign bisectOf allFinite largestOf tiny toleranceOf slopes derivativeOf insert sortOnto dedupAfter dedupOf knotsOf isZero zerosOf noSignChange withRoot andThen bisectFrom bisectBetween gathered sortedDedup levelOf onLevel rootsAt rootsOf
 opened-roots = tt
 
 unfoldable opened-edits : Unit {0}

@@ -1,4 +1,4 @@
--- The drawings that the worked examples speak of.
+-- The drawings of the worked examples.
 use Prim.Native.Nat.{ℕ}
 use mathlib.Core.Bool.{false}
 use mathlib.Core.List.{List, [], _∷_}
@@ -16,11 +16,11 @@ use Rattle.edit_plan.specs.Tables.{newPoint, newCurve}
 abbrev pub −1 : Float
 −1 = neg (asFloat 1)
 
-abbrev pub position : ℕ → ℕ → Vec2
-position x y = vec (asFloat x) (asFloat y)
+abbrev pub mkVec : ℕ → ℕ → Vec2
+mkVec x y = vec (asFloat x) (asFloat y)
 
 abbrev pub mkPoint : ℕ → ℕ → ℕ → Point
-mkPoint i x y = newPoint i (position x y)
+mkPoint i x y = newPoint i (mkVec x y)
 
 -- a point below the x axis, by 1
 abbrev pub below : ℕ → ℕ → Point

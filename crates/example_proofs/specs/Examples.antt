@@ -16,7 +16,7 @@ use Rattle.edit_plan.specs.declared.Removed.{Removed}
 use Rattle.edit_plan.specs.Outcome.{refused, accepted}
 use Rattle.edit_plan.specs.Steps.{nothing}
 use Rattle.modify.specs.Edits.{editOf}
-use Rattle.example_proofs.specs.Drawings.{position, mkPoint, below, mkLine, mkDrawing, L, T, T5}
+use Rattle.example_proofs.specs.Drawings.{mkVec, mkPoint, below, mkLine, mkDrawing, L, T, T5}
 
 -- ---- images
 
@@ -49,24 +49,24 @@ pub record Examples : Type 0 where
   pub empty-written : encode emptyDrawing ≡ emptyImage 1
   pub version-two : I.parse (emptyImage 2) ≡ I.refused 2
   pub split-inside :
-      editOf Split limits (L []) 3 (position 1 3)
+      editOf Split limits (L []) 3 (mkVec 1 3)
       ≡ accepted (mkDrawing 6 (mkPoint 1 0 0 ∷ mkPoint 2 4 0 ∷ mkPoint 4 1 0 ∷ []) (mkLine 3 1 4 ∷ mkLine 5 4 2 ∷ []) (Collinear 3 5 ∷ [])) nothing
   pub split-measured :
-      editOf Split limits (L (Length 3 (asFloat 4) ∷ [])) 3 (position 1 3)
+      editOf Split limits (L (Length 3 (asFloat 4) ∷ [])) 3 (mkVec 1 3)
       ≡ accepted (mkDrawing 6 (mkPoint 1 0 0 ∷ mkPoint 2 4 0 ∷ mkPoint 4 1 0 ∷ []) (mkLine 3 1 4 ∷ mkLine 5 4 2 ∷ []) (Distance 1 2 (asFloat 4) ∷ Collinear 3 5 ∷ [])) nothing
-  pub split-at-the-end : editOf Split limits (L []) 3 (position 0 3) ≡ refused 12
+  pub split-at-the-end : editOf Split limits (L []) 3 (mkVec 0 3) ≡ refused 12
   pub trim-before :
       editOf Trim limits T 3 (vec ½ 0f)
       ≡ accepted (mkDrawing 9 (mkPoint 2 4 0 ∷ below 4 1 ∷ mkPoint 5 1 1 ∷ mkPoint 7 1 0 ∷ []) (mkLine 3 7 2 ∷ mkLine 6 4 5 ∷ []) (PointOnCurve 7 6 ∷ [])) (removed 8 1 7)
   pub trim-after :
-      editOf Trim limits T 3 (position 3 0)
+      editOf Trim limits T 3 (mkVec 3 0)
       ≡ accepted (mkDrawing 9 (mkPoint 1 0 0 ∷ below 4 1 ∷ mkPoint 5 1 1 ∷ mkPoint 7 1 0 ∷ []) (mkLine 3 1 7 ∷ mkLine 6 4 5 ∷ []) (PointOnCurve 7 6 ∷ [])) (removed 8 7 2)
-  pub trim-whole : editOf Trim limits (L []) 3 (position 1 0) ≡ accepted (mkDrawing 4 [] [] []) (removed 3 1 2)
+  pub trim-whole : editOf Trim limits (L []) 3 (mkVec 1 0) ≡ accepted (mkDrawing 4 [] [] []) (removed 3 1 2)
   pub root-of-rising : rootsOf rising 100 ≡ found (nearHalf ∷ []) 53
   pub budget-suffices : rootsOf rising 47 ≡ found (nearHalf ∷ []) 0
   pub budget-short : rootsOf rising 46 ≡ R.refused 21 0
   pub root-at-the-start : rootsOf (0f ∷ 1f ∷ []) 100 ≡ found (0f ∷ []) 100
   pub root-touched : rootsOf (1f ∷ neg 1f ∷ 1f ∷ []) 100 ≡ found (nearHalf ∷ []) 53
   pub extended :
-      editOf Extend limits T5 3 (position 2 0)
+      editOf Extend limits T5 3 (mkVec 2 0)
       ≡ accepted (mkDrawing 7 (mkPoint 1 0 0 ∷ mkPoint 2 5 0 ∷ below 4 5 ∷ mkPoint 5 5 1 ∷ []) (mkLine 3 1 2 ∷ mkLine 6 4 5 ∷ []) (PointOnCurve 2 6 ∷ [])) nothing

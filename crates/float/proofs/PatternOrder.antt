@@ -78,7 +78,7 @@ module _ (f : Format) where
       let e : u .0 * L ≤ v .0 * L = transfer (u .0) (v .0) L L (num x) (num y) (den x) (den y) (den-pos x) (den-pos y) (sym (u .1)) (sym (v .1)) h in
       le-trans (le-of-eq (u .2)) (le-trans (written-rises (prec f) (u .0) (v .0) (two-le-pos (prec f) (two f)) (le-of-mul-le-mul-right e (pow-pos (low f)))) (le-of-eq (sym (v .2))))
 
-  -- the pattern tells the value
+  -- the pattern determines the value
   pub pattern-one : (x y : Float) → T (fits f x) → T (fits f y) → toBits f x ≡ toBits f y → x ≡ y
   pattern-one x y hx hy e = sym (ofBits-toBits f x hx) ∙ ap (ofBits f) e ∙ ofBits-toBits f y hy
 

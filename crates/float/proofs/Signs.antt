@@ -1,4 +1,4 @@
--- How a sign is told: a NaN differs from itself, and the sign of any other value is its pattern's highest bit. Assumes nothing.
+-- How a sign is found: a NaN differs from itself, and the sign of any other value is its pattern's highest bit. Assumes nothing.
 use mathlib.Core.Path.{_≡_, refl, sym, _∙_, ap, subst}
 use mathlib.Core.Bool.{Bool, true, false, not, _&&_, cond, true≢false}
 use Prim.Native.Nat.{ℕ, zero, suc, _+_, _-_, _*_, _/_, _%_, _^_, _<_}

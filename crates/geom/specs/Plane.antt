@@ -17,7 +17,7 @@ vec x y = record { x = x; y = y }
 abbrev pub origin : Vec2
 origin = vec 0f 0f
 
--- both coordinates are
+-- both coordinates are finite
 abbrev pub finite : Vec2 → Bool
 finite u = isFinite (u .x) && isFinite (u .y)
 

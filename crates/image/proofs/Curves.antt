@@ -18,7 +18,8 @@ use Rattle.sketch.specs.declared.Curve.{Curve}
 use Rattle.sketch.specs.declared.CurveKind.{CurveKind}
 use Rattle.sketch.specs.declared.CurveKind.the-variants.{Line, Arc, Circle, Bezier, Conic}
 use Rattle.sketch.specs.Valid.{okCurve, okNumber, okRadius, okRho, inSlots, sortOf, isLineSort}
-use Rattle.image.specs.Records.{idsAt, slotsOf, usedSlots, curveFields, curveForm, kindOf, noSlots, curveOf, curveSize}
+use Rattle.sketch.specs.Drawing.{noSlots}
+use Rattle.image.specs.Records.{idsAt, slotsOf, usedSlots, curveFields, curveForm, kindOf, curveOf, curveSize}
 use Rattle.image.specs.Encode.{bit, bits, kindByte, degreeOf, numberBits, slotIds, flagByte, encodeCurve}
 use Rattle.image.specs.Stored.{Each, Id, StoredKind, StoredCurve}
 use Rattle.image.proofs.Floats.{bits-back, radius-rejects, rho-rejects}

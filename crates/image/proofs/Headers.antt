@@ -23,7 +23,7 @@ rule-kept b n rest e = rule-none b (suc n) rest (omega arith) e
 pub record Head (s : List ℕ) : Type 0 where
   pub long : headerSize ≤ length s
   pub version-is : field s 4 1 ≡ version
-  pub told : field s 0 4 + 4 ≡ length s
+  pub length-field : field s 0 4 + 4 ≡ length s
   pub few-points : pointCount s ≤ 512
   pub few-curves : curveCount s ≤ 128
   pub few-relations : relationCount s ≤ 256
@@ -45,7 +45,7 @@ head-kept s rest e =
       record {
         long = leb-true _ _ (a .0);
         version-is = eqb-true _ _ (k2 .0);
-        told = eqb-true _ _ (a .1);
+        length-field = eqb-true _ _ (a .1);
         few-points = leb-true _ _ (b1 .0);
         few-curves = leb-true _ _ (b1 .1);
         few-relations = leb-true _ _ (b2 .1);
@@ -62,7 +62,7 @@ head-passes s rest h =
       le-leb 5 (length s) (omega (arith, h .long)),
       eq-eqb (field s 4 1) version (h .version-is),
       le-leb headerSize (length s) (h .long),
-      eq-eqb (field s 0 4 + 4) (length s) (h .told),
+      eq-eqb (field s 0 4 + 4) (length s) (h .length-field),
       le-leb (pointCount s) 512 (h .few-points),
       le-leb (curveCount s) 128 (h .few-curves),
       le-leb (relationCount s) 256 (h .few-relations),
@@ -76,7 +76,7 @@ length-header next np nc nr = simp (length-append, length-bytes)
 
 -- the fields of what was written
 pub record Fields (s : List ℕ) (next np nc nr : ℕ) : Type 0 where
-  pub told-is : field s 0 4 ≡ sizeOf np nc nr - 4
+  pub length-field-is : field s 0 4 ≡ sizeOf np nc nr - 4
   pub version-is : field s 4 1 ≡ version
   pub next-is : nextAt s ≡ next
   pub points-are : pointCount s ≡ np
@@ -94,7 +94,7 @@ header-there s post next np nc nr e hn hp hc hr =
     let b4 = bytes 2 nc in
     let b5 = bytes 2 nr in
     record {
-      told-is = field-in s [] (b1 ++ (b2 ++ (b3 ++ (b4 ++ (b5 ++ post))))) 0 4 (sizeOf np nc nr - 4) (e ∙ simp append-assoc) refl (omega arith);
+      length-field-is = field-in s [] (b1 ++ (b2 ++ (b3 ++ (b4 ++ (b5 ++ post))))) 0 4 (sizeOf np nc nr - 4) (e ∙ simp append-assoc) refl (omega arith);
       version-is = field-in s b0 (b2 ++ (b3 ++ (b4 ++ (b5 ++ post)))) 4 1 version (e ∙ simp append-assoc) (length-bytes 4 _) (lit< tt);
       next-is = field-in s (b0 ++ b1) (b3 ++ (b4 ++ (b5 ++ post))) 5 4 next (e ∙ simp append-assoc) (simp (length-append, length-bytes)) hn;
       points-are = field-in s (b0 ++ (b1 ++ b2)) (b4 ++ (b5 ++ post)) 9 2 np (e ∙ simp append-assoc) (simp (length-append, length-bytes)) hp;
@@ -105,7 +105,7 @@ header-there s post next np nc nr e hn hp hc hr =
 pub header-back : (s : List ℕ) → Bytes s → Head s → header (nextAt s) (pointCount s) (curveCount s) (relationCount s) ≡ part s 0 headerSize
 unfolding header
 header-back s b h =
-    let e : sizeOf (pointCount s) (curveCount s) (relationCount s) - 4 ≡ field s 0 4 = omega (arith, h .size, h .told) in
+    let e : sizeOf (pointCount s) (curveCount s) (relationCount s) - 4 ≡ field s 0 4 = omega (arith, h .size, h .length-field) in
     let l = h .long in
     let v : bytes 1 version ≡ part s 4 1 = ap (bytes 1) (sym (h .version-is)) ∙ bytes-field s 4 1 b (omega arith) in
     rw (

@@ -11,7 +11,8 @@ use borrow.Author.Tests.{eqb-true, le-leb, lt-leb}
 use Rattle.big_endian.specs.Fields.{field}
 use Rattle.sketch.specs.Lists.{ite, every}
 use Rattle.sketch.specs.Valid.{okPoint, okCurve, okRelation, okCoordinate, okNumber, okRadius, okRho, okMeasure, inSlots, sortOf, isLineSort}
-use Rattle.image.specs.Records.{pointForm, pointOf, curveForm, curveOf, relationForm, relationOf, slotsOf, kindOf, relationBy, usedSlots, curveFields, relationFields, noSlots}
+use Rattle.sketch.specs.Drawing.{noSlots}
+use Rattle.image.specs.Records.{pointForm, pointOf, curveForm, curveOf, relationForm, relationOf, slotsOf, kindOf, relationBy, usedSlots, curveFields, relationFields}
 use Rattle.image.specs.Decode.{numberAt, plainPoint, plainCurve, plainRelation}
 use Rattle.image.proofs.Floats.{nan-fails, number-test, coordinate-rejects, radius-rejects, rho-rejects, measure-rejects}
 use Rattle.image.proofs.Tables.{both}

@@ -15,7 +15,8 @@ use Rattle.sketch.specs.Lists.{ite, every}
 use Rattle.sketch.specs.declared.CurveKind.the-variants.{Line, Arc, Circle, Bezier, Conic}
 use Rattle.sketch.specs.declared.Relation.the-variants.{Coincident, PointOnCurve, Collinear, Equal, Length, Distance, Midpoint, ArcLength, ArcSweep}
 use Rattle.sketch.specs.Valid.{okCurve, okRelation, okNumber, okRadius, okRho, okMeasure, inSlots, sortOf}
-use Rattle.image.specs.Records.{floatAt, slotsOf, idsAt, usedSlots, curveFields, curveForm, kindOf, noSlots, curveOf, relationFields, relationForm, relationBy, relationOf}
+use Rattle.sketch.specs.Drawing.{noSlots}
+use Rattle.image.specs.Records.{floatAt, slotsOf, idsAt, usedSlots, curveFields, curveForm, kindOf, curveOf, relationFields, relationForm, relationBy, relationOf}
 use Rattle.image.specs.Contracts.{goodCurve, goodAs, goodRelation, rowSort}
 use Rattle.image.proofs.Floats.{Rejects, nan-fails}
 

@@ -162,7 +162,7 @@ module _ (s : List ℕ) (d : Drawing) (w : Stored d)
         le-leb 5 size (omega arith),
         fields .version-is,
         le-leb headerSize size (omega arith),
-        fields .told-is,
+        fields .length-field-is,
         eq-eqb (size - 4 + 4) size (omega arith),
         fields .points-are,
         fields .curves-are,
@@ -181,10 +181,10 @@ parse-encode d w = rw (image-fault (encode d) d w refl, drawing-again (encode d)
 
 -- ---- back
 
-pub verdict-accepted : (n : ℕ) (d₀ d : Drawing) → resultOf n d₀ ≡ accepted d → (n ≡ 0) × (d₀ ≡ d)
+pub result-accepted : (n : ℕ) (d₀ d : Drawing) → resultOf n d₀ ≡ accepted d → (n ≡ 0) × (d₀ ≡ d)
 unfolding resultOf
-verdict-accepted zero d₀ d e = (refl, cc)
-verdict-accepted (suc n) d₀ d e = let z : _≡_ {A = ℕ} 0 1 = cc in absurd (omega arith)
+result-accepted zero d₀ d e = (refl, cc)
+result-accepted (suc n) d₀ d e = let z : _≡_ {A = ℕ} 0 1 = cc in absurd (omega arith)
 
 -- an image without a fault, as facts
 pub record Sound (s : List ℕ) : Type 0 where
@@ -254,7 +254,7 @@ size-back s w =
 -- an accepted image, written again, is the same bytes
 pub encode-parse : (s : List ℕ) (d : Drawing) → Bytes s → parse s ≡ accepted d → encode d ≡ s
 encode-parse s d b e =
-    let v = verdict-accepted (imageFault s) (drawingOf s) d e in
+    let v = result-accepted (imageFault s) (drawingOf s) d e in
     rw (← v .1) (encode-back s b (image-kept s (v .0)))
 
 every-first : (f g : List ℕ → Bool) (l : List (List ℕ)) → every (λ r. f r && g r) l ≡ true → every f l ≡ true
@@ -266,7 +266,7 @@ every-first f g (r ∷ l) h =
 -- what an accepted image gives passes the test
 pub valid : (s : List ℕ) (d : Drawing) → Bytes s → parse s ≡ accepted d → faultOf limits d ≡ 0
 valid s d b e =
-    let v = verdict-accepted (imageFault s) (drawingOf s) d e in
+    let v = result-accepted (imageFault s) (drawingOf s) d e in
     let w = image-kept s (v .0) in
     let a = records-agree s (every-first pointForm (λ r. okPoint (pointOf r)) (pointRows s) (w .points-pass)) (every-first curveForm (λ r. okCurve (curveOf r)) (curveRows s) (w .curves-pass))
     (every-first relationForm (λ r. okRelation (relationOf r)) (relationRows s) (w .relations-pass)) b (w .head) in

@@ -153,7 +153,7 @@ module _ {A : Type 0} (of : List ℕ → A) (form plain : List ℕ → Bool) (id
         let k = both (plain r) _ h in
         rw (kept r (k .0), named r, table-whole (id (of r)) rest rows (k .1))
 
--- ---- loops that make values of the rows of a table: `seen` tells the values in the slots
+-- ---- loops that make values of the rows of a table: `seen` gives the values in the slots
 
 module _ {A S : Type 0} (of : List ℕ → A) (seen : List S → List A) (value : S → A)
     (snoc : (l : List S) (x : S) → seen (l ++ (x ∷ [])) ≡ seen l ++ (value x ∷ [])) where

@@ -1,4 +1,4 @@
--- Walks over an image's records: what each keeps, and what each way out tells.
+-- Walks over an image's records: what each keeps, and what each way out answers.
 use mathlib.Core.Path.{_≡_, refl, sym, ap, _∙_}
 use mathlib.Core.Bool.{Bool, true, false, _&&_, and-true}
 use mathlib.Core.List.{List, [], _∷_, map}
@@ -8,7 +8,7 @@ use lib.ListN.{length, take, getD, set}
 use lib.Seq.{take-all}
 use lib.Dec.{ltb}
 use Rattle.sketch.specs.Valid.{tableFault, listFault}
-use Rattle.sketch.proofs.Walks.{Walk, walk-start, walk-four, walk-five, walk-on, walk-end, verdict, placed, table-verdict, list-verdict, Column, column-start, column-on}
+use Rattle.sketch.proofs.Walks.{Walk, walk-start, walk-four, walk-five, walk-on, walk-end, walkFault, placed, table-result, list-result, Column, column-start, column-on}
 use Rattle.image.specs.Image.{rowId}
 use Rattle.image.specs.Contracts.{RowsTested, SortsFilled, rowSort}
 
@@ -32,10 +32,10 @@ module _ (good sound : List ℕ → Bool) (next : ℕ) where
   rows-start rows ids = record { walk = walk-start good fits rowId rows (length rows) (omega arith); column = column-start rowId rows ids }
 
   module _ {rows : List (List ℕ)} {before ids : List ℕ} {last i : ℕ} (w : RowsWalk rows before ids last i) where
-    tell : (r : ℕ) → r ≡ verdict good fits rowId 0 (take (length rows) rows) → (r ≡ 0 → length rows ≤ i) → RowsTested good sound next rows before ids r
+    tell : (r : ℕ) → r ≡ walkFault good fits rowId 0 (take (length rows) rows) → (r ≡ 0 → length rows ≤ i) → RowsTested good sound next rows before ids r
     tell r e h =
         record {
-          number = e ∙ ap (verdict good fits rowId 0) (whole rows) ∙ table-verdict rowId good sound next 0 rows;
+          number = e ∙ ap (walkFault good fits rowId 0) (whole rows) ∙ table-result rowId good sound next 0 rows;
           long = w .column .long;
           column = λ z. let q : length rows ≡ i = omega (arith, h z, w .walk .within) in ap (λ (n : ℕ). take n ids) q ∙ w .column .filled ∙ ap (λ (n : ℕ). map rowId (take n rows)) (sym q) ∙ ap (map rowId) (whole rows);
         }
@@ -90,8 +90,8 @@ module _ (good sound : List ℕ → Bool) where
   list-start rows = record { walk = walk-start good (λ last r. sound r) (λ r. 0) rows (length rows) (omega arith) }
 
   module _ {rows : List (List ℕ)} {i : ℕ} (w : ListWalk rows i) where
-    say : (r : ℕ) → r ≡ verdict good (λ last r. sound r) (λ r. 0) 0 (take (length rows) rows) → r ≡ listFault good sound rows
-    say r e = e ∙ ap (verdict good (λ last r. sound r) (λ r. 0) 0) (whole rows) ∙ list-verdict (λ (r : List ℕ). r) good sound rows ∙ ap (listFault good sound) (same rows)
+    say : (r : ℕ) → r ≡ walkFault good (λ last r. sound r) (λ r. 0) 0 (take (length rows) rows) → r ≡ listFault good sound rows
+    say r e = e ∙ ap (walkFault good (λ last r. sound r) (λ r. 0) 0) (whole rows) ∙ list-result (λ (r : List ℕ). r) good sound rows ∙ ap (listFault good sound) (same rows)
       where
         same : (l : List (List ℕ)) → map (λ r. r) l ≡ l
         same [] = refl

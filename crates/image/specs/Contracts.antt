@@ -1,4 +1,4 @@
--- What the walks over an image's records answer: the first broken rule, and the columns that they fill where none is.
+-- The contracts of private functions, which nothing outside needs: the walks over an image's records answer the first broken rule, and fill columns where none is.
 use Prim.Native.Nat.{ℕ, _/_, _%_}
 use mathlib.Core.Path.{_≡_}
 use mathlib.Core.Bool.{Bool, true, not, _&&_, _||_}
@@ -9,17 +9,18 @@ use Rattle.big_endian.specs.Fields.{field}
 use Rattle.sketch.specs.Lists.{ite, every}
 use Rattle.sketch.specs.Lookup.{among, sortAmong}
 use Rattle.sketch.specs.Valid.{okPoint, okCurve, okRelation, okNumber, inSlots, isLineSort, soundCurve, soundRelation, hasPoint, sortIn, sortOf, tableFault, listFault}
-use Rattle.image.specs.Records.{curveFlagsAt, degreeAt, curveNumberAt, floatAt, slotsOf, noSlots, kindOf, pointForm, pointOf, curveFields, curveForm, curveOf, relationForm, relationOf}
+use Rattle.sketch.specs.Drawing.{noSlots}
+use Rattle.image.specs.Records.{curveFlagsAt, degreeAt, curveNumberAt, floatAt, slotsOf, kindOf, pointForm, pointOf, curveFields, curveForm, curveOf, relationForm, relationOf}
 use Rattle.image.specs.Image.{rowId, curveRows, relationRows, drawingOf}
 
--- records that spell something whose values are in range
+-- records that encode something whose values are in range
 abbrev pub goodPoint : List ℕ → Bool
 goodPoint r = pointForm r && okPoint (pointOf r)
 
 abbrev pub goodCurve : List ℕ → Bool
 goodCurve r = curveForm r && okCurve (curveOf r)
 
--- the same of a curve whose kind's byte is k
+-- a record that encodes a curve of the kind k whose values are in range
 abbrev pub goodAs : ℕ → List ℕ → Bool
 goodAs k r =
     let kind = kindOf k (field r degreeAt 1) (slotsOf r) (floatAt r curveNumberAt) in

@@ -31,5 +31,5 @@ outcome r = resultOf (r .refusal) (view (r .sketch))
 
 -- the answer is what the bytes are read as, and the sketch in it passes the test, refused or not
 pub record ReadAnswer (s : List ℕ) (r : ImageRead) : Type 0 where
-  pub told : outcome r ≡ parse s
+  pub result-is : outcome r ≡ parse s
   pub sound : sketchFault (r .sketch) ≡ 0

@@ -78,7 +78,7 @@ curveRows s = rowsAt curveSize (curveCount s) s (curvesFrom (pointCount s))
 abbrev pub relationRows : List ℕ → List (List ℕ)
 relationRows s = rowsAt relationSize (relationCount s) s (relationsFrom (pointCount s) (curveCount s))
 
--- what the bytes spell
+-- the drawing that the bytes encode
 abbrev pub drawingOf : List ℕ → Drawing
 drawingOf s =
     record {
@@ -91,7 +91,7 @@ drawingOf s =
 abbrev pub rowId : List ℕ → ℕ
 rowId r = field r 0 idSize
 
--- the records in order: of each first that it spells something and its values, then its id and its references
+-- the records in order: of each first its form and its values, then its id and its references
 abbrev pub recordsFault : List ℕ → ℕ
 recordsFault s =
     let d = drawingOf s in

@@ -44,15 +44,19 @@ messageSize = yAt + 8
 abbrev pub messageLength : ℕ
 messageLength = messageSize - 4
 
+-- trim, split and extend have the numbers 1 to 3
+abbrev pub isOperation : ℕ → Bool
+isOperation n = leb 1 n && leb n 3
+
 -- too short for a version, the version, the rest of the length, then an edit number from 1 and a known operation
 unfoldable pub messageFault : List ℕ → ℕ
 messageFault s =
     guardNumber (leb 5 (length s)) 1
     (guardNumber (eqb (field s 4 1) version) 2
     (guardNumber (eqb (length s) messageSize && eqb (field s 0 4) messageLength) 1
-    (guardNumber (leb 1 (field s editNumberAt editNumberSize) && leb 1 (field s operationAt 1) && leb (field s operationAt 1) 3) 6 0)))
+    (guardNumber (leb 1 (field s editNumberAt editNumberSize) && isOperation (field s operationAt 1)) 6 0)))
 
--- the operation by its byte
+-- the operation by its number
 unfoldable pub operationOf : ℕ → Operation
 operationOf b = ite (eqb b 1) Trim (ite (eqb b 2) Split Extend)
 
@@ -61,7 +65,7 @@ operationByte Trim = 1
 operationByte Split = 2
 operationByte Extend = 3
 
--- the pick stays bits: a NaN's are carried on
+-- the pick (01's term for the point that a person touches) stays bits, a NaN's too
 abbrev pub messageOf : List ℕ → Message
 messageOf s = record { number = field s editNumberAt editNumberSize; operation = operationOf (field s operationAt 1); curve = field s curveAt idSize; x = field s xAt 8; y = field s yAt 8 }
 

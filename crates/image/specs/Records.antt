@@ -1,4 +1,4 @@
--- The records of an image: what the bytes of each spell, and which bytes spell nothing.
+-- The records of an image: what the bytes of each encode, and which bytes encode nothing.
 use Prim.Native.Nat.{ℕ, zero, suc, _+_, _*_, _/_, _%_}
 use mathlib.Core.Bool.{Bool, true, false, not, _&&_, _||_}
 use mathlib.Core.List.{List, [], _∷_}
@@ -13,12 +13,13 @@ use Rattle.sketch.specs.declared.CurveKind.{CurveKind}
 use Rattle.sketch.specs.declared.CurveKind.the-variants.{Line, Arc, Circle, Bezier, Conic}
 use Rattle.sketch.specs.declared.Relation.{Relation}
 use Rattle.sketch.specs.declared.Relation.the-variants.{Coincident, PointOnCurve, Collinear, Equal, Length, Distance, Midpoint, ArcLength, ArcSweep}
+use Rattle.sketch.specs.Drawing.{noSlots}
 
 -- how many bytes an id has
 abbrev pub idSize : ℕ
 idSize = 4
 
--- the number that eight bytes spell as binary64
+-- the number that eight bytes encode as binary64
 abbrev pub floatAt : List ℕ → ℕ → Float
 floatAt r at = ofBits binary64 (field r at 8)
 
@@ -92,9 +93,6 @@ kindOf kind degree s v =
     (ite (eqb kind 3) (Circle (getD s 0 0) v)
     (ite (eqb kind 4) (Bezier degree)
     (Conic (getD s 0 0) (getD s 1 0) (getD s 2 0) v))))
-
-abbrev pub noSlots : List ℕ
-noSlots = 0 ∷ 0 ∷ 0 ∷ 0 ∷ 0 ∷ 0 ∷ 0 ∷ 0 ∷ []
 
 -- flags: bit 0 construction, bit 1 centerline, bit 2 infinite; only a Bézier curve keeps the slots beside its kind
 abbrev pub curveOf : List ℕ → Curve

@@ -5,7 +5,7 @@ use mathlib.Core.List.{List, [], _∷_}
 use lib.ListN.{length}
 use lib.Dec.{T}
 use lib.Ieee.{Float, fits, binary64}
-use Rattle.sketch.specs.Drawing.{Drawing}
+use Rattle.sketch.specs.Drawing.{Drawing, noSlots}
 use Rattle.sketch.specs.Valid.{inSlots}
 use Rattle.sketch.specs.declared.Point.{Point}
 use Rattle.sketch.specs.declared.Curve.{Curve}
@@ -14,7 +14,7 @@ use Rattle.sketch.specs.declared.CurveKind.the-variants.{Line, Arc, Circle, Bez
 use Rattle.sketch.specs.declared.Relation.{Relation}
 use Rattle.sketch.specs.declared.Relation.the-variants.{Coincident, PointOnCurve, Collinear, Equal, Length, Distance, Midpoint, ArcLength, ArcSweep}
 use Rattle.image.specs.declared.Message.{Message}
-use Rattle.image.specs.Records.{idSize, noSlots}
+use Rattle.image.specs.Records.{idSize}
 use Rattle.image.specs.Message.{editNumberSize}
 
 abbrev pub Each : {A : Type 0} → (A → Type 0) → List A → Type 0

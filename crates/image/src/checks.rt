@@ -1,4 +1,4 @@
-// The tests of one record by its bytes: what it spells and its values, and its references among given ids. No value is
+// The tests of one record by its bytes: its form and its values, and its references among given ids. No value is
 // made for them.
 use crate::layout::CURVE_FLAGS_AT;
 use crate::layout::CURVE_KIND_AT;

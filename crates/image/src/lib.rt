@@ -41,7 +41,7 @@ pub enum Operation {
     Extend,
 }
 
-// One edit. The pick's coordinates are patterns of bits: a NaN's are carried on, so that they can be refused later.
+// One edit. The pick's coordinates are patterns of bits: a NaN's are kept, so that they can be refused later.
 pub struct Message {
     pub number: EditNumber,
     pub operation: Operation,

@@ -1,4 +1,4 @@
-// The reader of images: the test of the bytes, then the tables that good bytes spell.
+// The reader of images: the test of the bytes, then the tables that good bytes encode.
 use crate::ImageRead;
 use crate::faults::image_fault;
 use crate::layout::CURVE_COUNT_AT;
@@ -119,7 +119,7 @@ fn relations_at(s: &[u8], from: usize, n: usize) -> [RelationSlot; 256]
     slots
 }
 
-// The sketch that a good image spells.
+// The sketch that a good image encodes.
 fn decode_sketch(s: &[u8]) -> Sketch
     requires { ⌜ imageFault (now s) ≡ 0 ⌝ }
     ensures { λ r. ⌜ (view r ≡ drawingOf (now (s .entry))) × (sketchFault r ≡ 0) ⌝ }

@@ -1,4 +1,4 @@
-// One record of an image: which value its bytes spell.
+// One record of an image: the value that its bytes encode.
 use crate::layout::CURVE_FLAGS_AT;
 use crate::layout::CURVE_KIND_AT;
 use crate::layout::CURVE_NUMBER_AT;
@@ -29,7 +29,8 @@ ghost use mathlib.Core.Path.{_≡_};
 ghost use mathlib.Core.Bool.{true};
 ghost use lib.Dec.{eqb};
 ghost use Rattle.sketch.specs.Lists.{ite};
-ghost use Rattle.image.specs.Records.{slotsOf, kindOf, noSlots, relationBy, pointOf, curveOf, relationOf};
+ghost use Rattle.sketch.specs.Drawing.{noSlots};
+ghost use Rattle.image.specs.Records.{slotsOf, kindOf, relationBy, pointOf, curveOf, relationOf};
 ghost use Rattle.image.specs.Decode.{plainPoint, plainCurve, plainRelation};
 
 pub(crate) fn point_at(r: &[u8]) -> Point

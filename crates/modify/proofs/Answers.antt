@@ -28,11 +28,12 @@ use Rattle.edit_plan.specs.Outcome.{refused, accepted, guard}
 use Rattle.edit_plan.specs.Tables.{okPosition}
 use Rattle.edit_plan.specs.Suited.{Suited, outcomeOf, targetOf, PlanApplied}
 use Rattle.edit_plan.proofs.Tables.{look-some}
+use Rattle.edit_plan.specs.Changes.{isCircle}
 use Rattle.modify.specs.declared.PlanResult.{PlanResult}
 use Rattle.modify.specs.declared.PlanResult.the-variants.{Refused, Accepted}
 use Rattle.modify.specs.declared.Target.{Target}
 use Rattle.modify.specs.Planning.{guardPlan, cutsOf, paramOfPick, trimPlan, splitFull, atEnd, splitPlan}
-use Rattle.modify.specs.Edits.{isCircle, isFullArc, noFreeform, trimCurve, splitCurve, planOnCurve, planOnFound, applyPlanned, editOf, editSketch, EditAnswer}
+use Rattle.modify.specs.Edits.{isFullArc, noFreeform, trimCurve, splitCurve, planOnCurve, planOnFound, applyPlanned, editOf, editSketch, EditAnswer}
 use Rattle.modify.specs.Contracts.{CurveIndex, TargetFound, TargetTested, isExtend, isSplit}
 use Rattle.modify.proofs.Suits.{trim-chosen, split-chosen}
 use Rattle.modify.proofs.Planned.{edit-valid}
@@ -40,27 +41,27 @@ use Rattle.modify.proofs.Planned.{edit-valid}
 -- ---- the tests that all edits begin with
 
 module _ (s : Sketch) (id : ℕ) (p : Vec2) where
-  pub turned-fault : {n : ℕ} → n ≡ sketchFault s → (n ≡ 0 → ⊥) → (op : Operation) → editSketch op s id p ≡ refused n
+  pub refused-fault : {n : ℕ} → n ≡ sketchFault s → (n ≡ 0 → ⊥) → (op : Operation) → editSketch op s id p ≡ refused n
   unfolding guard
-  turned-fault {n} e h op = rw (← e, ne-eqb n 0 h)
+  refused-fault {n} e h op = rw (← e, ne-eqb n 0 h)
 
   module _ (v : sketchFault s ≡ 0) where
-    turned-pick : okPosition p ≡ false → (op : Operation) → editSketch op s id p ≡ refused 9
+    refused-pick : okPosition p ≡ false → (op : Operation) → editSketch op s id p ≡ refused 9
     unfolding guard guardPlan applyPlanned
-    turned-pick h op = rw (v, h)
+    refused-pick h op = rw (v, h)
 
-    turned-curve : okPosition p ≡ true → curveIn (view s .curves) id ≡ none → (op : Operation) → editSketch op s id p ≡ refused 8
+    refused-curve : okPosition p ≡ true → curveIn (view s .curves) id ≡ none → (op : Operation) → editSketch op s id p ≡ refused 8
     unfolding guard guardPlan applyPlanned planOnFound
-    turned-curve h e op = rw (v, h, e)
+    refused-curve h e op = rw (v, h, e)
 
   pub test-pick : {n k : ℕ} → n ≡ sketchFault s → n ≡ 0 → okPosition p ≡ false → TargetTested s id p (record { refusal = 9; place = k })
-  test-pick e z h = record { passed = λ q. absurd (omega arith); turned = λ q op. turned-pick (sym e ∙ z) h op }
+  test-pick e z h = record { passed = λ q. absurd (omega arith); when-refused = λ q op. refused-pick (sym e ∙ z) h op }
 
   pub test-curve : {n k : ℕ} → n ≡ sketchFault s → n ≡ 0 → okPosition p ≡ true → CurveIndex (s .curves) (s .ncurves) id k → s .ncurves ≤ k → TargetTested s id p (record { refusal = 8; place = k })
-  test-curve e z h w l = record { passed = λ q. absurd (omega arith); turned = λ q op. turned-curve (sym e ∙ z) h (w .nowhere l) op }
+  test-curve e z h w l = record { passed = λ q. absurd (omega arith); when-refused = λ q op. refused-curve (sym e ∙ z) h (w .nowhere l) op }
 
   pub test-passed : {n k : ℕ} → n ≡ sketchFault s → n ≡ 0 → okPosition p ≡ true → CurveIndex (s .curves) (s .ncurves) id k → k < s .ncurves → TargetTested s id p (record { refusal = 0; place = k })
-  test-passed e z h w l = record { passed = λ q. record { valid = sym e ∙ z; picked = h; place = l; found = w .here l }; turned = λ q. absurd (q refl) }
+  test-passed e z h w l = record { passed = λ q. record { valid = sym e ∙ z; picked = h; place = l; found = w .here l }; when-refused = λ q. absurd (q refl) }
 
 -- ---- refusals
 
@@ -141,9 +142,9 @@ module _ (splits : Bool) (s : Sketch) (k : ℕ) (p : Vec2) (v : sketchFault s �
   unfolding guard guardPlan planOnFound
   sketch-is = rw (v, q, found)
 
-  pub edit-turned : {r : Edited} {n : ℕ} {o : PlanResult} → o ≡ planOnCurve it (view s) p c → o ≡ Refused n → r .sketch ≡ s → r .refusal ≡ n → EditAnswer it s (c .id) p r
+  pub edit-refused : {r : Edited} {n : ℕ} {o : PlanResult} → o ≡ planOnCurve it (view s) p c → o ≡ Refused n → r .sketch ≡ s → r .refusal ≡ n → EditAnswer it s (c .id) p r
   unfolding applyPlanned
-  edit-turned {r} {n} {o} e f g h =
+  edit-refused {r} {n} {o} e f g h =
       let u : planOnCurve it (view s) p c ≡ Refused n = sym e ∙ f in
       answered-refused it s (c .id) p (λ z. absurd (not-extend splits z)) g h (curve-number (view s) p c splits n u) (sketch-is ∙ ap (applyPlanned allMet limits (view s) (c .id)) u)
 

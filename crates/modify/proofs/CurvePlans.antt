@@ -22,10 +22,11 @@ use Rattle.cuts.specs.Bracket.{bracket}
 use Rattle.edit_plan.specs.declared.Plan.{Plan}
 use Rattle.edit_plan.specs.declared.Plan.the-variants as P
 use Rattle.edit_plan.specs.Tables.{others}
+use Rattle.edit_plan.specs.Changes.{isCircle}
 use Rattle.modify.specs.declared.PlanResult.{PlanResult}
 use Rattle.modify.specs.declared.PlanResult.the-variants.{Refused, Accepted}
 use Rattle.modify.specs.Planning.{guardPlan, cuttersOf, paramOfPick, trimPlan, splitFull, atEnd, splitPlan}
-use Rattle.modify.specs.Edits.{isCircle, isFullArc, noFreeform, trimCurve, splitCurve, planOnCurve}
+use Rattle.modify.specs.Edits.{isFullArc, noFreeform, trimCurve, splitCurve, planOnCurve}
 use Rattle.modify.proofs.Suits.{circle-full}
 
 module _ (d : Drawing) (p : Vec2) (c : Curve) where

@@ -181,7 +181,7 @@ module _ {ps : List Point} {cs : List Curve} {id i : ℕ} {list : List Cutter} {
           seen = still;
         }
 
-    pub gather-other : (c .id ≡ id → ⊥) → count < length list → Gathering ps cs id (i + 1) (set list count (record { id = c .id; endless = c .infinite; shape = sh })) (count + 1) freeform
+    pub gather-other : (c .id ≡ id → ⊥) → count < length list → Gathering ps cs id (i + 1) (set list count (record { id = c .id; infinite = c .infinite; shape = sh })) (count + 1) freeform
     unfolding cutterOf
     gather-other q l =
         let z : count + 1 ≡ suc count = omega arith in
@@ -189,17 +189,17 @@ module _ {ps : List Point} {cs : List Curve} {id i : ℕ} {list : List Cutter} {
           few = omega (arith, w .few);
           front =
               rw z (take-suc-set list count _ l)
-              ∙ ap (λ t. t ++ (record { id = c .id; endless = c .infinite; shape = sh } ∷ [])) (w .front)
+              ∙ ap (λ t. t ++ (record { id = c .id; infinite = c .infinite; shape = sh } ∷ [])) (w .front)
               ∙ sym (split ∙ ap (λ b. cuttersOf ps (others id (take i cs)) ++ cuttersOf ps (ite (not b) (c ∷ []) [])) (ne-eqb id (c .id) (λ u. q (sym u))) ∙ ap (λ o. cuttersOf ps (others id (take i cs)) ++ (cutterOf c o ++ [])) (sym e));
           seen = still;
         }
 
--- what a curve's shape was told to be
-pub told-none : {r : Outline} {x : Option Shape} → r ≡ Freeform → shapeOfOutline r ≡ x → none ≡ x
-told-none e h = sym (ap shapeOfOutline e) ∙ h
+-- the shape that a curve was found to have
+pub answered-none : {r : Outline} {x : Option Shape} → r ≡ Freeform → shapeOfOutline r ≡ x → none ≡ x
+answered-none e h = sym (ap shapeOfOutline e) ∙ h
 
-pub told-some : {r : Outline} {x : Option Shape} {sh : Shape} → r ≡ Outlined sh → shapeOfOutline r ≡ x → some sh ≡ x
-told-some e h = sym (ap shapeOfOutline e) ∙ h
+pub answered-some : {r : Outline} {x : Option Shape} {sh : Shape} → r ≡ Outlined sh → shapeOfOutline r ≡ x → some sh ≡ x
+answered-some e h = sym (ap shapeOfOutline e) ∙ h
 
 module _ {d : Drawing} {ids : List ℕ} {xs ys : List Float} {cs : List Curve} {n : ℕ} (o : ColumnsOf d ids xs ys cs n) {id i : ℕ} {list : List Cutter} {count : ℕ} {freeform : Bool} where
   pub gather-end : Gathering (d .points) cs id i list count freeform → i ≤ n → n ≤ i → CuttersAre d id (record { list = list; count = count; freeform = freeform })

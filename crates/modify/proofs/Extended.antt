@@ -51,11 +51,11 @@ pub record Extended (d d′ : Drawing) (r : Removed) : Type 0 where
   pub relations : d′ .relations ≡ d .relations ++ (held ∷ [])
   pub curves : d′ .curves ≡ d .curves
   pub next : d′ .next ≡ d .next
-  pub told : r ≡ nothing
+  pub report-is : r ≡ nothing
 
 -- ---- what is chosen
 
--- a move of the end at that side
+-- a move of that end
 record Goes (atB : Bool) (plan : Plan) : Type 0 where
   pub place : Vec2
   pub pin : Pin
@@ -67,10 +67,10 @@ module _ (d : Drawing) (p : Vec2) (c : Curve) (plan : Plan) where
   move-goes atB (stopped n) h = let z : _≡_ {A = ℕ} 0 1 = cc in absurd (omega arith)
   move-goes atB (finished none) h = let z : _≡_ {A = ℕ} 0 1 = cc in absurd (omega arith)
   move-goes atB (finished (some b)) h =
-      let w : Pin = pinTo (d .points) (b .place) (b .by) (endsAt (curveIn (d .curves) (b .by))) in
-      let u = unless-chosen (not (b .tied)) 17 (Accepted (P.Move atB (b .place) w)) plan h in
-      let q : P.Move atB (b .place) w ≡ plan = cc in
-      record { place = b .place; pin = w; is = sym q }
+      let w : Pin = pinTo (d .points) (b .at) (b .by) (endsAt (curveIn (d .curves) (b .by))) in
+      let u = unless-chosen (not (b .tied)) 17 (Accepted (P.Move atB (b .at) w)) plan h in
+      let q : P.Move atB (b .at) w ≡ plan = cc in
+      record { place = b .at; pin = w; is = sym q }
 
   -- nothing else uses that end
   end-goes : (s : Support) (end : ℕ) → extendEnd d (c .id) p s end ≡ Accepted plan → (among end (uses (others (c .id) (d .curves))) ≡ false) × Goes (s .atB) plan
@@ -136,7 +136,7 @@ module _ (met : Drawing → Bool) (m : Limits) (d′ : Drawing) (r : Removed) wh
           relations = ap (λ (x : Drawing). x .relations) (u .0);
           curves = ap (λ (x : Drawing). x .curves) (u .0);
           next = ap (λ (x : Drawing). x .next) (u .0);
-          told = u .1;
+          report-is = u .1;
         }
 
     pinned : (w : Pin) → PinHolds d t w → (pin m (movePoint end v d) end w then (λ y u. checkMet met y)) ≡ accepted d′ r → Extended d d′ r
@@ -158,9 +158,9 @@ module _ (met : Drawing → Bool) (m : Limits) (d′ : Drawing) (r : Removed) wh
 -- ---- the edit
 
 module _ (m : Limits) (d : Drawing) (p : Vec2) (d′ : Drawing) (r : Removed) where
-  carried-out : (c : Curve) (plan : Plan) → extendCurve d p c (c .kind) ≡ Accepted plan → applyPlanTo allMet m d c plan ≡ accepted d′ r → Extended d d′ r
+  move-applied : (c : Curve) (plan : Plan) → extendCurve d p c (c .kind) ≡ Accepted plan → applyPlanTo allMet m d c plan ≡ accepted d′ r → Extended d d′ r
   unfolding applyPlanTo moveEnd endsOf
-  carried-out c plan h q =
+  move-applied c plan h q =
       let l = line-goes d p c plan (c .kind) h in
       let g = l .goes in
       let w = extend-chosen d c p plan h .1 in
@@ -175,7 +175,7 @@ module _ (m : Limits) (d : Drawing) (p : Vec2) (d′ : Drawing) (r : Removed) wh
     where
       found : (o : Option Curve) (plan : Plan) → planOnFound Extend d p o ≡ Accepted plan → applyPlanAt allMet m d plan o ≡ accepted d′ r → Extended d d′ r
       found none plan h q = let z : _≡_ {A = ℕ} 0 1 = cc in absurd (omega arith)
-      found (some c) plan h q = carried-out c plan h q
+      found (some c) plan h q = move-applied c plan h q
 
       go : (x : PlanResult) → planEdit Extend d t p ≡ x → applyPlanned allMet m d t x ≡ accepted d′ r → Extended d d′ r
       go (Refused n) e q = let z : _≡_ {A = ℕ} 0 1 = cc in absurd (omega arith)

@@ -75,25 +75,25 @@ not-all d k h = not-every (met (d .points) (d .curves)) (d .relations) k h
 
 module _ {s : Sketch} {e : Edited} where
   pub settled-out : (e .refusal ≡ 0 → ⊥) → e .sketch ≡ s → MetChecked s e e
-  settled-out h f = record { turned = λ q. (refl, f); met = λ q. absurd (h q); unmet = λ q. absurd (h q) }
+  settled-out h f = record { when-refused = λ q. (refl, f); met = λ q. absurd (h q); unmet = λ q. absurd (h q) }
 
   module _ (z : e .refusal ≡ 0) where
     pub settled-unmet : {r : Edited} {k : ℕ} → unmetAt (view (e .sketch)) k ≡ true → r .sketch ≡ s → r .refusal ≡ 19 → r .place ≡ k → MetChecked s e r
     settled-unmet {r} {k} u f g p =
         record {
-          turned = λ y. absurd (y z);
+          when-refused = λ y. absurd (y z);
           met = λ y a. never (sym (not-all (view (e .sketch)) k u) ∙ a);
           unmet = λ y a. record { number = g; sketch = f; place = ap (unmetAt (view (e .sketch))) p ∙ u };
         }
 
     pub settled-met : allMet (view (e .sketch)) ≡ true → MetChecked s e e
-    settled-met u = record { turned = λ y. absurd (y z); met = λ y a. refl; unmet = λ y a. never (sym a ∙ u) }
+    settled-met u = record { when-refused = λ y. absurd (y z); met = λ y a. refl; unmet = λ y a. never (sym a ∙ u) }
 
 -- ---- a move is refused by 24 or 22; else it alters no curve, and no point but the one
 
 abbrev Kept : Drawing → Outcome Drawing Removed → Type 0
 Kept dr (refused n) = n ≡ 13 → ⊥
-Kept dr (accepted d′ told) = (d′ .points ≡ dr .points) × (d′ .curves ≡ dr .curves)
+Kept dr (accepted d′ removed) = (d′ .points ≡ dr .points) × (d′ .curves ≡ dr .curves)
 
 move-keeps : (b : Bool) (dr : Drawing) (i : ℕ) (pn : Pin) → Kept dr (guard b 24 (pin limits dr i pn then (λ d′ u. accepted d′ nothing)))
 unfolding guard pin
@@ -119,15 +119,15 @@ pub begun-at : (s : Sketch) (k : ℕ) (p : Vec2) → sketchFault s ≡ 0 → Siz
 begun-at s k p v z w h q g = record { valid = v; picked = q; place = h; found = target-found s k z w h g }
 
 module _ (s : Sketch) (t : ℕ) (p : Vec2) where
-  turned-by : {r : Edited} (n : ℕ) → r .sketch ≡ s → r .refusal ≡ n → F.Told n → editSketch Extend s t p ≡ refused n
-      → ((d′ : Drawing) (told : Removed) → n ≡ 19 → editUntested Extend limits (view s) t p ≡ accepted d′ told → ⊥) → EditAnswer Extend s t p r
-  turned-by {r} n e f h o u =
+  refused-by : {r : Edited} (n : ℕ) → r .sketch ≡ s → r .refusal ≡ n → F.Told n → editSketch Extend s t p ≡ refused n
+      → ((d′ : Drawing) (removed : Removed) → n ≡ 19 → editUntested Extend limits (view s) t p ≡ accepted d′ removed → ⊥) → EditAnswer Extend s t p r
+  refused-by {r} n e f h o u =
       record {
         outcome = ap (λ m. ite (eqb m 0) (accepted (view (r .sketch)) (r .removed)) (refused m)) f ∙ ap (λ b. ite b (accepted (view (r .sketch)) (r .removed)) (refused n)) (ne-eqb n 0 (h .some-number)) ∙ sym o;
         kept = λ z. e;
         valid = λ z. absurd (h .some-number (sym f ∙ z));
         unmet-before = λ z q. absurd (h .not-13 (sym f ∙ q));
-        unmet-after = λ z q d′ told a. absurd (u d′ told (sym f ∙ q) a);
+        unmet-after = λ z q d′ removed a. absurd (u d′ removed (sym f ∙ q) a);
       }
 
   module _ {x : Target} (w : TargetFound s t p x) where
@@ -147,13 +147,13 @@ module _ (s : Sketch) (t : ℕ) (p : Vec2) where
 
     -- ---- a relation is not met
 
-    pub kind-turned : {r : Edited} → OneOf others-than-line (tagOf K.the-type (c .kind)) → r .sketch ≡ s → r .refusal ≡ 10 → EditAnswer Extend s t p r
+    pub kind-refused : {r : Edited} → OneOf others-than-line (tagOf K.the-type (c .kind)) → r .sketch ≡ s → r .refusal ≡ 10 → EditAnswer Extend s t p r
     unfolding applyPlanned
-    kind-turned h e f = answered-refused Extend s t p (λ z. omega arith) e f (λ z. omega arith) (sketch-is ∙ ap (applyPlanned allMet limits d t) (sym (not-line d p c (c .kind) h)))
+    kind-refused h e f = answered-refused Extend s t p (λ z. omega arith) e f (λ z. omega arith) (sketch-is ∙ ap (applyPlanned allMet limits d t) (sym (not-line d p c (c .kind) h)))
 
-    pub unmet-turned : {r : Edited} {k : ℕ} → isLine (c .kind) ≡ true → unmetAt d k ≡ true → r .sketch ≡ s → r .refusal ≡ 13 → r .place ≡ k → EditAnswer Extend s t p r
+    pub unmet-refused : {r : Edited} {k : ℕ} → isLine (c .kind) ≡ true → unmetAt d k ≡ true → r .sketch ≡ s → r .refusal ≡ 13 → r .place ≡ k → EditAnswer Extend s t p r
     unfolding applyPlanned
-    unmet-turned {r} {k} q h e f g =
+    unmet-refused {r} {k} q h e f g =
         let o : editSketch Extend s t p ≡ refused 13 = sketch-is ∙ ap (applyPlanned allMet limits d t) (sym (unmet-line d p c (c .kind) q (not-all d k h))) in
         record {
           outcome = ap (λ m. ite (eqb m 0) (accepted (view (r .sketch)) (r .removed)) (refused m)) f ∙ sym o;
@@ -166,12 +166,12 @@ module _ (s : Sketch) (t : ℕ) (p : Vec2) where
     -- ---- all relations are met
 
     module _ (m : allMet d ≡ true) (y : EndPlan) (o : planOf y ≡ extendCurve d p c (c .kind)) where
-      pub choice-turned : {r : Edited} {n : ℕ} → y ≡ N.Refused n → r .sketch ≡ s → r .refusal ≡ n → EditAnswer Extend s t p r
+      pub plan-refused : {r : Edited} {n : ℕ} → y ≡ N.Refused n → r .sketch ≡ s → r .refusal ≡ n → EditAnswer Extend s t p r
       unfolding applyPlanned
-      choice-turned {r} {n} q e f =
+      plan-refused {r} {n} q e f =
           let u : extendCurve d p c (c .kind) ≡ Refused n = sym o ∙ ap planOf q in
-          turned-by n e f (extend-number d p c (c .kind) n m u) (sketch-is ∙ ap (applyPlanned allMet limits d t) u)
-          (λ d′ told z a. let b : refused n ≡ accepted d′ told = sym (untested-is ∙ ap (applyPlanned (λ x. true) limits d t) u) ∙ a in let y : _≡_ {A = ℕ} 0 1 = cc in omega arith)
+          refused-by n e f (extend-number d p c (c .kind) n m u) (sketch-is ∙ ap (applyPlanned allMet limits d t) u)
+          (λ d′ removed z a. let b : refused n ≡ accepted d′ removed = sym (untested-is ∙ ap (applyPlanned (λ x. true) limits d t) u) ∙ a in let y : _≡_ {A = ℕ} 0 1 = cc in omega arith)
 
       module _ {atB : Bool} {k : ℕ} {v : Vec2} {q : Pin} (g : y ≡ N.Move atB k v q) (h : EndInTable s (x .place) y) where
         stands : EndInTable s (x .place) (N.Move atB k v q)
@@ -187,9 +187,9 @@ module _ (s : Sketch) (t : ℕ) (p : Vec2) where
 
         module _ {e : Edited} (a : MovedTo d (getD (s .points) k noPoint .id) v q e) where
           abbrev judged : (Drawing → Bool) → Outcome Drawing Removed
-          judged f = outcomeOf e then (λ d′ told. guard (f d′) 19 (accepted d′ told))
+          judged f = outcomeOf e then (λ d′ removed. guard (f d′) 19 (accepted d′ removed))
 
-          settled-last : (f : Drawing → Bool) (b : Bool) (z : Outcome Drawing (Unit {0})) → guard b 24 (z then (λ d′ u. checkMet f d′)) ≡ (guard b 24 (z then (λ d′ u. accepted d′ nothing)) then (λ d′ told. guard (f d′) 19 (accepted d′ told)))
+          settled-last : (f : Drawing → Bool) (b : Bool) (z : Outcome Drawing (Unit {0})) → guard b 24 (z then (λ d′ u. checkMet f d′)) ≡ (guard b 24 (z then (λ d′ u. accepted d′ nothing)) then (λ d′ removed. guard (f d′) 19 (accepted d′ removed)))
           unfolding guard checkMet
           settled-last f true (refused n) = refl
           settled-last f true (accepted d′ u) = refl
@@ -204,7 +204,7 @@ module _ (s : Sketch) (t : ℕ) (p : Vec2) where
               ∙ ap (moveEnd f limits d atB v q) (stands .1)
               ∙ ap (λ (j : ℕ). guard (okPosition v) 24 (pin limits (movePoint j v d) j q then (λ d′ u. checkMet f d′))) (sym (stands .3))
               ∙ settled-last f (okPosition v) (pin limits (movePoint i v d) i q)
-              ∙ ap (λ (z : Outcome Drawing Removed). z then (λ d′ told. guard (f d′) 19 (accepted d′ told))) (sym (a .outcome))
+              ∙ ap (λ (z : Outcome Drawing Removed). z then (λ d′ removed. guard (f d′) 19 (accepted d′ removed))) (sym (a .outcome))
 
           edit-is : editSketch Extend s t p ≡ judged allMet
           unfolding applyPlanned
@@ -227,7 +227,7 @@ module _ (s : Sketch) (t : ℕ) (p : Vec2) where
             out = ap (λ n. ite (eqb n 0) (accepted (view (e .sketch)) (e .removed)) (refused n)) z
 
             judged-is : (f : Drawing → Bool) → judged f ≡ guard (f (view (e .sketch))) 19 (accepted (view (e .sketch)) (e .removed))
-            judged-is f = ap (λ (x : Outcome Drawing Removed). x then (λ d′ told. guard (f d′) 19 (accepted d′ told))) out
+            judged-is f = ap (λ (x : Outcome Drawing Removed). x then (λ d′ removed. guard (f d′) 19 (accepted d′ removed))) out
 
             pub moved-valid : sketchFault (e .sketch) ≡ 0
             unfolding guard
@@ -236,9 +236,9 @@ module _ (s : Sketch) (t : ℕ) (p : Vec2) where
                 (plan-valid (λ d′. true) limits d (sketch-valid s (w .valid) .1) t (P.Move atB v q) (view (e .sketch)) (e .removed) (carries (λ d′. true) ∙ judged-is (λ d′. true)) pinned)
 
             -- the columns with that end moved are those of what was made
-            pub moved-shown : Sized s → length (s .points) ≡ 512 → {ids : List ℕ} {xs ys : List Float} {curves kinds firsts seconds : List ℕ} {numbers : List Float}
+            pub moved-view : Sized s → length (s .points) ≡ 512 → {ids : List ℕ} {xs ys : List Float} {curves kinds firsts seconds : List ℕ} {numbers : List Float}
                 → CurveColumnsOf d ids xs ys curves kinds firsts seconds numbers → CurveColumnsOf (view (e .sketch)) ids (set xs k (v .x)) (set ys k (v .y)) curves kinds firsts seconds numbers
-            moved-shown sized long {ids} {xs} {ys} {curves} {kinds} {firsts} {seconds} {numbers} w′ =
+            moved-view sized long {ids} {xs} {ys} {curves} {kinds} {firsts} {seconds} {numbers} w′ =
                 let u = subst (Kept (movePoint end v d)) out kept in
                 record {
                   points = subst (λ (l : List Point). PointColumns l ids (set xs k (v .x)) (set ys k (v .y))) (sym (u .0)) (columns-moved s k v sized (sketch-valid s (w .valid) .1) (stands .2) long (w′ .points));
@@ -248,14 +248,14 @@ module _ (s : Sketch) (t : ℕ) (p : Vec2) where
           -- ---- refused before it
 
           module _ (z : e .refusal ≡ 0 → ⊥) where
-            turned-out : outcomeOf e ≡ refused (e .refusal)
-            turned-out = ap (λ b. ite b (accepted (view (e .sketch)) (e .removed)) (refused (e .refusal))) (ne-eqb (e .refusal) 0 z)
+            refused-out : outcomeOf e ≡ refused (e .refusal)
+            refused-out = ap (λ b. ite b (accepted (view (e .sketch)) (e .removed)) (refused (e .refusal))) (ne-eqb (e .refusal) 0 z)
 
             judged-out : (f : Drawing → Bool) → judged f ≡ refused (e .refusal)
-            judged-out f = ap (λ (x : Outcome Drawing Removed). x then (λ d′ told. guard (f d′) 19 (accepted d′ told))) turned-out
+            judged-out f = ap (λ (x : Outcome Drawing Removed). x then (λ d′ removed. guard (f d′) 19 (accepted d′ removed))) refused-out
 
             not-13 : e .refusal ≡ 13 → ⊥
-            not-13 = subst (Kept (movePoint end v d)) turned-out kept
+            not-13 = subst (Kept (movePoint end v d)) refused-out kept
 
           pub move-answered : {r : Edited} → MetChecked s e r → EditAnswer Extend s t p r
           unfolding guard
@@ -280,17 +280,17 @@ module _ (s : Sketch) (t : ℕ) (p : Vec2) where
                     kept = λ y. i .sketch;
                     valid = λ y. absurd (omega arith);
                     unmet-before = λ y h. absurd (omega arith);
-                    unmet-after = λ y h d′ told u.
-                        let b : accepted (view (e .sketch)) (e .removed) ≡ accepted d′ told = sym (plain-is ∙ judged-is z (λ x. true)) ∙ u in
+                    unmet-after = λ y h d′ removed u.
+                        let b : accepted (view (e .sketch)) (e .removed) ≡ accepted d′ removed = sym (plain-is ∙ judged-is z (λ x. true)) ∙ u in
                         let h : view (e .sketch) ≡ d′ = cc in
                         ap (λ (x : Drawing). unmetAt x (r .place)) (sym h) ∙ i .place;
                   }
 
               moved-out : (e .refusal ≡ 0 → ⊥) → EditAnswer Extend s t p r
               moved-out z =
-                  let i = l .turned z in
-                  turned-by (e .refusal) (i .1) (i .0) (record { some-number = z; not-13 = not-13 z }) (edit-is ∙ judged-out z allMet)
-                  (λ d′ told y u. let b : refused (e .refusal) ≡ accepted d′ told = sym (plain-is ∙ judged-out z (λ x. true)) ∙ u in let h : _≡_ {A = ℕ} 0 1 = cc in omega arith)
+                  let i = l .when-refused z in
+                  refused-by (e .refusal) (i .1) (i .0) (record { some-number = z; not-13 = not-13 z }) (edit-is ∙ judged-out z allMet)
+                  (λ d′ removed y u. let b : refused (e .refusal) ≡ accepted d′ removed = sym (plain-is ∙ judged-out z (λ x. true)) ∙ u in let h : _≡_ {A = ℕ} 0 1 = cc in omega arith)
 
               at-zero : (b : Bool) → eqb (e .refusal) 0 ≡ b → EditAnswer Extend s t p r
               at-zero true j = moved-on (eqb-true (e .refusal) 0 j) (allMet (view (e .sketch))) refl

@@ -47,9 +47,9 @@ module _ (f : ℕ → Bool) where
   unfolding better
   better-by gap q by none p h = p
   better-by gap q by (some b) p h =
-      go (lt gap (b .gap ⊖ 1e-7)) (le (abs (gap ⊖ b .gap)) 1e-7 && (not (eqb (b .by) by) || lt 1e-7 (distance (b .place) q)))
+      go (lt gap (b .gap ⊖ 1e-7)) (le (abs (gap ⊖ b .gap)) 1e-7 && (not (eqb (b .by) by) || lt 1e-7 (distance (b .at) q)))
     where
-      go : (u v : Bool) → ByOne (cond u (some record { gap = gap; place = q; by = by; tied = false }) (cond v (some record { gap = b .gap; place = b .place; by = b .by; tied = true }) (some b)))
+      go : (u v : Bool) → ByOne (cond u (some record { gap = gap; at = q; by = by; tied = false }) (cond v (some record { gap = b .gap; at = b .at; by = b .by; tied = true }) (some b)))
       go true v = p
       go false true = h
       go false false = h
@@ -95,10 +95,10 @@ module _ (d : Drawing) (c : Curve) where
   move-held atB (stopped n) plan p h = let z : _≡_ {A = ℕ} 0 1 = cc in absurd (omega arith)
   move-held atB (finished none) plan p h = let z : _≡_ {A = ℕ} 0 1 = cc in absurd (omega arith)
   move-held atB (finished (some b)) plan p h =
-      let w : Pin = pinTo (d .points) (b .place) (b .by) (endsAt (curveIn (d .curves) (b .by))) in
-      let u = unless-chosen (not (b .tied)) 17 (Accepted (P.Move atB (b .place) w)) plan h in
-      let q : P.Move atB (b .place) w ≡ plan = cc in
-      record { at-end = atB; place = b .place; pin = w; is = sym q; held = pin-held d (c .id) (b .by) (b .place) p }
+      let w : Pin = pinTo (d .points) (b .at) (b .by) (endsAt (curveIn (d .curves) (b .by))) in
+      let u = unless-chosen (not (b .tied)) 17 (Accepted (P.Move atB (b .at) w)) plan h in
+      let q : P.Move atB (b .at) w ≡ plan = cc in
+      record { at-end = atB; place = b .at; pin = w; is = sym q; held = pin-held d (c .id) (b .by) (b .at) p }
 
   end-held : (p : Vec2) (s : Support) (end : ℕ) (plan : Plan) → extendEnd d (c .id) p s end ≡ Accepted plan → Moves d (c .id) plan
   unfolding extendEnd

@@ -45,7 +45,7 @@ pub record Tied (best r : Nearest) : Type 0 where
 
 module _ (gap : Float) (q : Vec2) (by : ℕ) (best : Nearest) where
   abbrev fresh : Option Best
-  fresh = some record { gap = gap; place = q; by = by; tied = false }
+  fresh = some record { gap = gap; at = q; by = by; tied = false }
 
   pub better-first : best .found ≡ false → fresh ≡ better gap q by (bestIn best)
   unfolding better

@@ -32,7 +32,7 @@ use Rattle.bernstein.specs.Roots.{rootsOf}
 use Rattle.bernstein.proofs.RefusedBy.{By20Or21, roots-refused}
 use Rattle.support.specs.Freeform.{Freeform, pointAt}
 use Rattle.support.specs.Hits as H
-use Rattle.support.specs.Hits.{shapeHits, resolved, resolvedAt, freeformBy, freeformAlong, near, polynomial}
+use Rattle.support.specs.Hits.{shapeHits, resolved, resolvedAt, freeformBy, freeformAlong, hasNearHit, polynomial}
 use Rattle.edit_plan.specs.Tables.{uses, others}
 use Rattle.modify.specs.declared.PlanResult.{PlanResult}
 use Rattle.modify.specs.declared.PlanResult.the-variants.{Refused, Accepted}
@@ -54,7 +54,7 @@ later-resolved : (line : Shape) (f : Freeform) (hits : List Vec2) (ts : List Flo
 unfolding resolved
 later-resolved line f hits [] b = tt
 later-resolved line f hits (t ∷ ts) b =
-    later-need (le (dist line (pointAt f t)) 1e-7) 16 b _ (omega arith) (later-resolved line f (cond (near (pointAt f t) hits) hits (hits ++ pointAt f t ∷ [])) ts b)
+    later-need (le (dist line (pointAt f t)) 1e-7) 16 b _ (omega arith) (later-resolved line f (cond (hasNearHit (pointAt f t) hits) hits (hits ++ pointAt f t ∷ [])) ts b)
 
 later-at : (line : Shape) (f : Freeform) (o : R.RootsResult) → By20Or21 o → Later (resolvedAt line f o)
 unfolding resolvedAt

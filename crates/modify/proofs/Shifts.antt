@@ -28,7 +28,7 @@ use Rattle.edit_plan.specs.declared.Pin.the-variants.{On, At}
 use Rattle.edit_plan.specs.declared.Edited.{Edited}
 use Rattle.edit_plan.specs.Outcome.{refused, accepted, _then_, guard}
 use Rattle.edit_plan.specs.Tables.{okPosition, withRelation, moved, movePoint}
-use Rattle.edit_plan.specs.Changes.{pinned}
+use Rattle.edit_plan.specs.Changes.{pinRelation}
 use Rattle.edit_plan.specs.Steps.{pin, nothing}
 use Rattle.edit_plan.specs.Suited.{outcomeOf}
 use Rattle.edit_plan.proofs.Loops.{map-append}
@@ -225,8 +225,8 @@ module _ (d : Drawing) (end : ℕ) (v : Vec2) (w : Pin) where
         }
 
 module _ (d : Drawing) (end : ℕ) (v : Vec2) (h : okPosition v ≡ true) where
-  pub moved-held : (w : Pin) {r : Edited} → itself w end ≡ false → AddedTo (movePoint end v d) (pinned w end) r → MovedTo d end v w r
-  unfolding itself pinned
+  pub moved-held : (w : Pin) {r : Edited} → itself w end ≡ false → AddedTo (movePoint end v d) (pinRelation w end) r → MovedTo d end v w r
+  unfolding itself pinRelation
   moved-held (On c) e a = moved-on d end v (On c) h refl a
   moved-held (At x) e a = moved-at d end v (At x) h refl (λ q. never (sym e ∙ eq-eqb x end q)) a
 

@@ -30,10 +30,11 @@ use Rattle.cuts.specs.Bracket.{insertCut, sortCuts, inOrder, lastOne, firstOne,
 use Rattle.edit_plan.specs.declared.Plan.{Plan}
 use Rattle.edit_plan.specs.declared.Plan.the-variants as P
 use Rattle.edit_plan.specs.Suited.{suits, suitsOpen, suitsClosed, Pinned, Suited}
+use Rattle.edit_plan.specs.Changes.{isCircle}
 use Rattle.modify.specs.declared.PlanResult.{PlanResult}
 use Rattle.modify.specs.declared.PlanResult.the-variants.{Refused, Accepted}
 use Rattle.modify.specs.Planning.{guardPlan, cutsOf, paramOfPick, pinnedPointOf, between, firstGoes, trimAt, trimPlan, splitFull, atEnd, splitPlan}
-use Rattle.modify.specs.Edits.{isCircle, isFullArc, noFreeform, trimCurve, splitCurve}
+use Rattle.modify.specs.Edits.{isFullArc, noFreeform, trimCurve, splitCurve}
 use Rattle.modify.proofs.Others.{By, isOther, last-every, kept-are, bracket-by-others, pin-held}
 
 -- what is chosen behind a test passed it

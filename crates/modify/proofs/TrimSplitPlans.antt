@@ -1,4 +1,4 @@
--- What the code that chooses tells, one law for each way out. Assumes nothing.
+-- What the code that plans answers, one law for each way out. Assumes nothing.
 use mathlib.Core.Path.{_≡_, refl, sym, ap, _∙_}
 use mathlib.Core.Bool.{Bool, true, false, not, _&&_, _||_, cond}
 use mathlib.Core.List.{List, [], _∷_}
@@ -41,12 +41,12 @@ use Rattle.edit_plan.specs.declared.PinnedPoint.{PinnedPoint}
 use Rattle.edit_plan.specs.declared.Plan.{Plan}
 use Rattle.edit_plan.specs.Tables.{others}
 use Rattle.edit_plan.specs.Steps.{endsOf, endsAt}
+use Rattle.edit_plan.specs.Changes.{isCircle}
 use Rattle.cuts.specs.declared.Cutter.{Cutter}
 use Rattle.cuts.specs.Cuts.{cutPoints}
 use Rattle.cuts.specs.Bracket.{bracket}
 use Rattle.sketch.specs.Drawing.{Drawing, curveIn}
 use lib.ListN.{take}
-use Rattle.modify.specs.Edits.{isCircle}
 use Rattle.modify.specs.Contracts.{ColumnsOf}
 
 -- ---- kinds

@@ -1,4 +1,4 @@
--- What the functions that nothing outside calls tell: curves by place, shapes and pins from columns of points, and the first tests of an edit.
+-- The contracts of private functions, which nothing outside needs: curves by place, shapes and pins from columns of points, and the first tests of an edit.
 use Prim.Native.Nat.{ℕ, _≤_, _<_}
 use mathlib.Core.Path.{_≡_}
 use mathlib.Core.Bool.{Bool, true, false, not}
@@ -91,7 +91,7 @@ TargetFoundAt s k p = TargetFound s (targetOf s k .id) p (record { refusal = 0; 
 
 pub record TargetTested (s : Sketch) (id : ℕ) (p : Vec2) (r : Target) : Type 0 where
   pub passed : r .refusal ≡ 0 → TargetFound s id p r
-  pub turned : (r .refusal ≡ 0 → ⊥) → (op : Operation) → editSketch op s id p ≡ refused (r .refusal)
+  pub when-refused : (r .refusal ≡ 0 → ⊥) → (op : Operation) → editSketch op s id p ≡ refused (r .refusal)
 
 -- ---- which operation it is
 

@@ -1,4 +1,4 @@
--- Trim, split and extend: who is turned away, in order, then what is chosen and applied. Definitions only.
+-- Trim, split and extend: refusals, in order, then the plan, and the plan applied. Definitions only.
 use Prim.Native.Nat.{ℕ}
 use mathlib.Core.Path.{_≡_}
 use mathlib.Core.Bool.{Bool, true, false, not, _&&_, _||_, cond}
@@ -26,19 +26,13 @@ use Rattle.edit_plan.specs.Outcome.{Outcome, refused, accepted, guard}
 use Rattle.edit_plan.specs.Tables.{okPosition}
 use Rattle.edit_plan.specs.ApplyPlan.{applyPlan}
 use Rattle.edit_plan.specs.Suited.{outcomeOf}
+use Rattle.edit_plan.specs.Changes.{isCircle}
 use Rattle.modify.specs.declared.PlanResult.{PlanResult}
 use Rattle.modify.specs.declared.PlanResult.the-variants.{Refused, Accepted}
 use Rattle.modify.specs.Planning.{guardPlan, trimPlan, splitPlan}
 use Rattle.modify.specs.Extend.{extendCurve}
 
--- ---- who is turned away
-
-unfoldable pub isCircle : CurveKind → Bool
-isCircle (Line a b) = false
-isCircle (Arc c a b) = false
-isCircle (Circle c r) = true
-isCircle (Bezier n) = false
-isCircle (Conic a p b rho) = false
+-- ---- refusals, in order
 
 -- an arc that goes all the way round
 unfoldable pub isFullArc : Curve → Shape → Bool
@@ -86,7 +80,7 @@ applyPlanned met m d t (Accepted plan) = applyPlan met m d t plan
 abbrev pub editOf : Operation → Limits → Drawing → ℕ → Vec2 → Outcome Drawing Removed
 editOf op m d t p = applyPlanned allMet m d t (planEdit op d t p)
 
--- the same without the test of relations at its end
+-- an edit without the test of relations at its end
 abbrev pub editUntested : Operation → Limits → Drawing → ℕ → Vec2 → Outcome Drawing Removed
 editUntested op m d t p = applyPlanned (λ d′. true) m d t (planEdit op d t p)
 
@@ -103,4 +97,4 @@ pub record EditAnswer (op : Operation) (s : Sketch) (t : ℕ) (p : Vec2) (r : Ed
   pub valid : r .refusal ≡ 0 → sketchFault (r .sketch) ≡ 0
   -- an extend's 13 comes with the place of a relation that is not met, and its 19 with that of one that would not be met
   pub unmet-before : op ≡ Extend → r .refusal ≡ 13 → unmetAt (view s) (r .place) ≡ true
-  pub unmet-after : op ≡ Extend → r .refusal ≡ 19 → (d′ : Drawing) (told : Removed) → editUntested op limits (view s) t p ≡ accepted d′ told → unmetAt d′ (r .place) ≡ true
+  pub unmet-after : op ≡ Extend → r .refusal ≡ 19 → (d′ : Drawing) (removed : Removed) → editUntested op limits (view s) t p ≡ accepted d′ removed → unmetAt d′ (r .place) ≡ true

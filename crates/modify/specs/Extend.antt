@@ -1,4 +1,4 @@
--- What an extend of a line chooses: the end that moves, the place where it meets another curve, and what holds it there. Definitions only.
+-- The plan of a line's extend: the end that moves, the point where it meets another curve, and its pin there. Definitions only.
 use Prim.Native.Nat.{ℕ}
 use mathlib.Core.Bool.{Bool, true, false, not, _&&_, _||_, cond}
 use mathlib.Core.List.{List, [], _∷_, map}
@@ -47,7 +47,7 @@ gapOf s q =
     let l = distance (s .a) (s .b) in
     cond (s .atB) ((t ⊖ 1f) ⊗ l) (neg t ⊗ l)
 
--- ---- what it meets
+-- ---- the hits of the line with other curves
 
 -- an infinite line reaches far beyond its points, from the place next to the pick
 unfoldable pub boundary : Bool → Shape → Vec2 → Shape
@@ -67,17 +67,17 @@ curveHits ps s near o (Conic a m b rho) budget = freeformHits (s .a) (s .b) (con
 -- a hit of the curve `by`, and whether another lies as near
 pub record Best : Type 0 where
   pub gap : Float
-  pub place : Vec2
+  pub at : Vec2
   pub by : ℕ
   pub tied : Bool
 
 -- nearer by more than 1e-7 is better; within 1e-7 of the best it ties with it, unless it is the same curve at the same place
 unfoldable pub better : Float → Vec2 → ℕ → Option Best → Option Best
-better gap q by none = some record { gap = gap; place = q; by = by; tied = false }
+better gap q by none = some record { gap = gap; at = q; by = by; tied = false }
 better gap q by (some b) =
-    cond (lt gap (b .gap ⊖ 1e-7)) (some record { gap = gap; place = q; by = by; tied = false })
-    (cond (le (abs (gap ⊖ b .gap)) 1e-7 && (not (eqb (b .by) by) || lt 1e-7 (distance (b .place) q)))
-    (some record { gap = b .gap; place = b .place; by = b .by; tied = true })
+    cond (lt gap (b .gap ⊖ 1e-7)) (some record { gap = gap; at = q; by = by; tied = false })
+    (cond (le (abs (gap ⊖ b .gap)) 1e-7 && (not (eqb (b .by) by) || lt 1e-7 (distance (b .at) q)))
+    (some record { gap = b .gap; at = b .at; by = b .by; tied = true })
     (some b))
 
 -- only what lies more than 1e-6 beyond the end counts
@@ -110,7 +110,7 @@ planMove d atB (stopped n) = Refused n
 planMove d atB (finished none) = Refused 18
 planMove d atB (finished (some b)) =
     guardPlan (not (b .tied)) 17
-    (Accepted (P.Move atB (b .place) (pinTo (d .points) (b .place) (b .by) (endsAt (curveIn (d .curves) (b .by))))))
+    (Accepted (P.Move atB (b .at) (pinTo (d .points) (b .at) (b .by) (endsAt (curveIn (d .curves) (b .by))))))
 
 unfoldable pub isFixed : List Point → ℕ → Bool
 isFixed [] i = false

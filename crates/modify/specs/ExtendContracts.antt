@@ -1,4 +1,4 @@
--- What the functions of an extend that nothing outside calls tell: the search from columns, the move, and its test.
+-- The contracts of an extend's private functions, which nothing outside needs: the search from columns, the move, and its test.
 use Prim.Native.Nat.{ℕ, _≤_, _<_}
 use mathlib.Core.Path.{_≡_}
 use mathlib.Core.Bool.{Bool, true, false}
@@ -71,7 +71,7 @@ Fits laterX laterY (H.Found n b) = (n ≤ length laterX) × (n ≤ length laterY
 Fits laterX laterY (H.Refused n b) = Unit {0}
 
 abbrev pub bestIn : Nearest → Option Best
-bestIn n = ite (n .found) (some record { gap = n .gap; place = n .at; by = n .by; tied = n .tied }) none
+bestIn n = ite (n .found) (some record { gap = n .gap; at = n .at; by = n .by; tied = n .tied }) none
 
 -- what is left of a search after one curve
 abbrev pub resumed : List Point → Support → Vec2 → List Curve → SearchStep → Search
@@ -105,7 +105,7 @@ abbrev pub PlansMove : List ℕ → List Float → List Float → List Curve →
 PlansMove ids xs ys cs n best atB k r =
     ((d : Drawing) → ColumnsOf d ids xs ys cs n → planOf r ≡ planMove d atB (finished (bestIn best))) × MovesAt atB k r
 
--- the point at the place that is told is the end that moves
+-- the point at the answered place is the end that moves
 abbrev pub EndsAt : Sketch → Bool → ℕ → EndPlan → Type 0
 EndsAt s atB end (N.Refused n) = Unit {0}
 EndsAt s atB end (N.Move atB′ k v w) = (atB′ ≡ atB) × (k < s .npoints) × (getD (s .points) k noPoint .id ≡ end)
@@ -159,6 +159,6 @@ pub record Undone (s : Sketch) (e r : Edited) : Type 0 where
 
 -- the sketch s, of which the edit made e
 pub record MetChecked (s : Sketch) (e r : Edited) : Type 0 where
-  pub turned : (e .refusal ≡ 0 → ⊥) → (r .refusal ≡ e .refusal) × (r .sketch ≡ s)
+  pub when-refused : (e .refusal ≡ 0 → ⊥) → (r .refusal ≡ e .refusal) × (r .sketch ≡ s)
   pub met : e .refusal ≡ 0 → allMet (view (e .sketch)) ≡ true → r ≡ e
   pub unmet : e .refusal ≡ 0 → allMet (view (e .sketch)) ≡ false → Undone s e r

@@ -1,4 +1,4 @@
--- What is chosen, by geometry alone: the places of a trim or a split, and what holds the new ends there. Definitions only.
+-- The plan of a trim or a split, by geometry alone: the points where a curve is cut, and the new ends' pins there. Definitions only.
 use Prim.Native.Nat.{ℕ}
 use mathlib.Core.Bool.{Bool, true, false, not, _&&_, _||_, cond}
 use mathlib.Core.List.{List, [], _∷_}
@@ -40,7 +40,7 @@ guardPlan false n c = Refused n
 -- a freeform curve doesn't
 unfoldable pub cutterOf : Curve → Option Shape → List Cutter
 cutterOf c none = []
-cutterOf c (some sh) = record { id = c .id; endless = c .infinite; shape = sh } ∷ []
+cutterOf c (some sh) = record { id = c .id; infinite = c .infinite; shape = sh } ∷ []
 
 abbrev pub cuttersOf : List Point → List Curve → List Cutter
 cuttersOf ps cs = concatMap (λ c. cutterOf c (shapeOf ps (c .kind))) cs
@@ -53,7 +53,7 @@ cutsOf d c sh = cutPoints sh (cuttersOf (d .points) (others c (d .curves)))
 unfoldable pub paramOfPick : Shape → Vec2 → Float
 paramOfPick sh p = param sh (project sh p)
 
--- ---- pin: what holds an end that comes to lie at q, where the curve `by` cuts
+-- ---- pin: the pin of an end that lies at q, where the curve `by` cuts
 
 unfoldable pub nearEnd : List Point → Vec2 → ℕ → Bool
 nearEnd ps q e = lt (distance (positionOf ps e) q) 1e-6
@@ -77,11 +77,11 @@ between tq [] = false
 between tq (k ∷ []) = false
 between tq (k ∷ j ∷ l) = lt (k .t) tq && lt tq (j .t)
 
--- of a full curve the piece between the two cuts goes, or the other; else the piece with as many cuts before it as lie before tq
+-- of a full curve the piece between the two cuts is removed, or the other; else the piece with as many cuts before it as lie before tq
 unfoldable pub firstGoes : Shape → Float → List Cut → Bool
 firstGoes sh tq cuts = cond (isFull sh) (between tq cuts) (eqb (length (keep (λ k. lt (k .t) tq) cuts)) 0)
 
--- nothing cuts it: all of it goes
+-- nothing cuts it: it is removed whole
 unfoldable pub trimAt : Drawing → Shape → Bool → List Cut → Plan
 trimAt d sh first [] = P.Whole
 trimAt d sh first (k ∷ []) = P.Cut (pinnedPointOf d sh k) first

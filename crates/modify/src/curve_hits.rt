@@ -6,7 +6,7 @@ use sketch::Curve;
 use sketch::CurveKind;
 use sketch::Id;
 use sketch_geometry::Outline;
-use sketch_geometry::point_at;
+use sketch_geometry::position_of;
 use sketch_geometry::shape_of;
 use support::Hits;
 use support::Piece;
@@ -51,7 +51,7 @@ fn controls<'a>(
         if n < i {
             return Controls { xs: px, ys: py };
         }
-        let p = point_at(slots[i], ids, near, xs, ys);
+        let p = position_of(slots[i], ids, near, xs, ys);
         px[i] = p.x;
         py[i] = p.y;
         i += 1;
@@ -87,9 +87,9 @@ pub(crate) fn curve_hits<'a, 'b>(
             hits(a, b, Piece::Bezier(n as usize + 1), px, py, hx, hy, budget)
         }
         CurveKind::Conic(i, j, k, rho) => {
-            let p = point_at(i, ids, near, xs, ys);
-            let m = point_at(j, ids, near, xs, ys);
-            let q = point_at(k, ids, near, xs, ys);
+            let p = position_of(i, ids, near, xs, ys);
+            let m = position_of(j, ids, near, xs, ys);
+            let q = position_of(k, ids, near, xs, ys);
             let px = [p.x, m.x, q.x, 0.0, 0.0, 0.0, 0.0, 0.0];
             let py = [p.y, m.y, q.y, 0.0, 0.0, 0.0, 0.0, 0.0];
             hits(

@@ -33,7 +33,7 @@ fn no_cutters() -> [Cutter; 128]
 {
     let blank = Cutter {
         id: 0,
-        endless: false,
+        infinite: false,
         shape: Shape::from_line(Vec2::ZERO, Vec2::ZERO),
     };
     [blank; 128]
@@ -67,7 +67,7 @@ pub(crate) fn collect_cutters<'a>(
             Outline::Analytic(sh) => if c.id != id {
                 list[count] = Cutter {
                     id: c.id,
-                    endless: c.infinite,
+                    infinite: c.infinite,
                     shape: sh,
                 };
                 count += 1;

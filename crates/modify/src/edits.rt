@@ -3,7 +3,7 @@ use crate::PlanResult;
 use crate::extending::extend_curve;
 use crate::find_target::find_target;
 use crate::moving::answer;
-use crate::planning::plan_edit;
+use crate::planning::plan_on_curve;
 use edit_plan::Edited;
 use edit_plan::apply_plan;
 use geom::Vec2;
@@ -60,7 +60,7 @@ pub fn edit(operation: Operation, sk: Sketch, curve: Id, at: Vec2) -> Edited
     if is_extend(operation) {
         return extend_curve(sk, place, at, &ids[..n], &near, &mut xs[..n], &mut ys[..n]);
     }
-    match plan_edit(
+    match plan_on_curve(
         sk,
         is_split(operation),
         place,

@@ -18,7 +18,7 @@ use sketch::Id;
 use sketch::Point;
 use sketch::Sketch;
 use sketch::place_near;
-use sketch_geometry::point_at;
+use sketch_geometry::position_of;
 ghost use mathlib.Core.Path.{_≡_};
 ghost use mathlib.Core.Bool.{true, cond};
 ghost use Prim.Native.Nat.{_≤_, _<_};
@@ -127,8 +127,8 @@ fn plan_extend<'a>(
     let CurveKind::Line(i, j) = kind else {
         return EndPlan::Refused(10);
     };
-    let a = point_at(i, ids, near, xs, ys);
-    let b = point_at(j, ids, near, xs, ys);
+    let a = position_of(i, ids, near, xs, ys);
+    let b = position_of(j, ids, near, xs, ys);
     let atb = at.dist(b) <= at.dist(a);
     let end = moving_end(atb, i, j);
     plan_end(

@@ -1,4 +1,4 @@
-// Trim, split and extend: the tests, the choice of a plan, and carrying it out.
+// Trim, split and extend: the tests, the plan, and applying it.
 mod curve_hits;
 mod cutter_list;
 mod edits;

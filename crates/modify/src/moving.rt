@@ -1,8 +1,8 @@
-// An end of a line moved to a place, and held there.
+// An end of a line is moved to a place and pinned there.
 use edit_plan::Edited;
 use edit_plan::Pin;
 use edit_plan::Removed;
-use edit_plan::pin_of;
+use edit_plan::pin_relation;
 use geom::Vec2;
 use sketch::Id;
 use sketch::Point;
@@ -18,7 +18,7 @@ ghost use Rattle.sketch.specs.Facts.{Sized, Valid};
 ghost use Rattle.edit_plan.specs.Steps.{nothing};
 ghost use Rattle.modify.specs.ExtendContracts.{itself, MovedTo};
 
-// An answer of an edit after which no curve is gone.
+// An answer of an edit that removes no curve.
 pub(crate) fn answer(sketch: Sketch, refusal: u8, place: usize) -> Edited
     ensures { λ r. ⌜ (r .sketch ≡ sketch) × (r .refusal ≡ refusal) × (r .place ≡ place) × (r .removed ≡ nothing) ⌝ }
 {
@@ -69,7 +69,7 @@ pub(crate) fn move_end(sk: Sketch, k: usize, v: Vec2, pin: Pin) -> Edited
         return answer(sk, 22, 0);
     }
     t.relations[n] = RelationSlot {
-        relation: pin_of(pin, p.id),
+        relation: pin_relation(pin, p.id),
     };
     t.nrelations = n + 1;
     answer(t, 0, 0)

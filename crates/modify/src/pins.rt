@@ -1,4 +1,4 @@
-// What holds a new end to the curve that cut there.
+// The pin of a new end: to the curve that cut there, or to the end of it that lies there.
 use crate::cutter_list::curve_place;
 use edit_plan::Pin;
 use float::bounds::BELOW_1E_6;
@@ -6,7 +6,7 @@ use geom::Vec2;
 use sketch::Curve;
 use sketch::CurveKind;
 use sketch::Id;
-use sketch_geometry::point_at;
+use sketch_geometry::position_of;
 ghost use mathlib.Core.Option.{some};
 ghost use Prim.Native.Nat.{_≤_};
 ghost use Rattle.modify.specs.Contracts.{PinTo, PinAt};
@@ -24,10 +24,10 @@ fn pin_to<'a>(
 ) -> Pin
     ensures { λ r. ⌜ PinTo (now (ids .entry)) (now (xs .entry)) (now (ys .entry)) by (some (from, to)) q r ⌝ }
 {
-    if point_at(from, ids, near, xs, ys).dist2(q) < BELOW_1E_6 {
+    if position_of(from, ids, near, xs, ys).dist2(q) < BELOW_1E_6 {
         return Pin::At(from);
     }
-    if point_at(to, ids, near, xs, ys).dist2(q) < BELOW_1E_6 {
+    if position_of(to, ids, near, xs, ys).dist2(q) < BELOW_1E_6 {
         return Pin::At(to);
     }
     Pin::On(by)

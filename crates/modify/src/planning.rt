@@ -28,8 +28,9 @@ ghost use Rattle.sketch_geometry.specs.Columns.{PointColumns};
 ghost use Rattle.cuts.specs.Cuts.{cutPoints};
 ghost use Rattle.cuts.specs.Bracket.{bracket};
 ghost use Rattle.edit_plan.specs.Suited.{targetOf};
+ghost use Rattle.edit_plan.specs.Changes.{isCircle};
 ghost use Rattle.modify.specs.Planning.{paramOfPick, firstGoes, splitFull, atEnd};
-ghost use Rattle.modify.specs.Edits.{isCircle, planOnCurve};
+ghost use Rattle.modify.specs.Edits.{planOnCurve};
 ghost use Rattle.modify.specs.Contracts.{PinnedPointOf, TrimPlan, Trims, Splits, PlansOnCurve};
 
 fn is_circle(kind: CurveKind) -> bool
@@ -41,7 +42,7 @@ fn is_circle(kind: CurveKind) -> bool
     }
 }
 
-// Where a cut lies, and what holds the new end there.
+// The point of a cut, and the new end's pin.
 fn pinned_point_of<'a>(
     sh: Shape,
     k: Cut,
@@ -62,7 +63,7 @@ fn pinned_point_of<'a>(
     }
 }
 
-// Whether the first piece goes where there is one cut.
+// Whether the first piece is removed where there is one cut.
 fn first_of_one(sh: Shape, tq: f64, k: Cut) -> bool
     ensures { λ r. ⌜ r ≡ firstGoes sh tq (k ∷ []) ⌝ }
 {
@@ -72,7 +73,7 @@ fn first_of_one(sh: Shape, tq: f64, k: Cut) -> bool
     !(k.t < tq)
 }
 
-// Whether the first piece goes where there are two.
+// Whether the first piece is removed where there are two cuts.
 fn first_of_two(sh: Shape, tq: f64, k: Cut, j: Cut) -> bool
     ensures { λ r. ⌜ r ≡ firstGoes sh tq (k ∷ j ∷ []) ⌝ }
 {
@@ -112,7 +113,7 @@ fn trim_plan<'a>(
     }
 }
 
-fn trim_from<'a>(
+fn trim_curve<'a>(
     c: Curve,
     curves: [Curve; 128],
     n: usize,
@@ -162,7 +163,7 @@ fn split_open(sh: Shape, at: Vec2) -> PlanResult
 }
 
 // Only a circle's cuts depend on the other curves, and only they are gathered for.
-fn split_from<'a>(
+fn split_curve<'a>(
     c: Curve,
     curves: [Curve; 128],
     n: usize,
@@ -208,13 +209,13 @@ fn plan_from<'a>(
     ensures { λ r. ⌜ PlansOnCurve (now (ids .entry)) (now (xs .entry)) (now (ys .entry)) curves n (cond splits Operation.Split Operation.Trim) at c r ⌝ }
 {
     if splits {
-        return split_from(c, curves, n, at, ids, near, xs, ys);
+        return split_curve(c, curves, n, at, ids, near, xs, ys);
     }
-    trim_from(c, curves, n, at, ids, near, xs, ys)
+    trim_curve(c, curves, n, at, ids, near, xs, ys)
 }
 
 // What is chosen for the curve at a place, from columns of the points: of a split or (false) of a trim.
-pub(crate) fn plan_edit<'a>(
+pub(crate) fn plan_on_curve<'a>(
     sk: Sketch,
     splits: bool,
     place: usize,

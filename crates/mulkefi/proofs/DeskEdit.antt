@@ -1,4 +1,4 @@
--- The desk on a screen: one law for each way out.
+-- An edit of a replica: one law for each way out.
 use mathlib.Core.Path.{_≡_, refl, sym, ap, _∙_, subst}
 use mathlib.Core.Bool.{Bool, true, false, not, _&&_}
 use mathlib.Core.List.{List}
@@ -38,11 +38,11 @@ use Rattle.mulkefi.specs.Outcomes.{CallOutcome, refused, updated, ifImag
 use Rattle.mulkefi.specs.Calls.{numberOf, bufferAfter, messageAfter, answerAfter, ResultWritten, deskEditOutcome, DeskEditWritten}
 use Rattle.mulkefi.proofs.Places.{unmet-whole, unmet-none}
 
--- ---- what the machine's call came to, from what was told of it
+-- ---- the outcome of the machine's call, from its reply
 
-declined-is : (e : Edit) (k : ℕ) (o : O.Outcome (State Drawing) Removed) → M.deskRefused k ≡ M.replyTo protocol e o → o ≡ O.refused k
-declined-is e k (O.refused n) h = cc
-declined-is e k (O.accepted t r) h = let z : _≡_ {A = ℕ} 0 1 = cc in absurd (omega arith)
+refused-is : (e : Edit) (k : ℕ) (o : O.Outcome (State Drawing) Removed) → M.deskRefused k ≡ M.replyTo protocol e o → o ≡ O.refused k
+refused-is e k (O.refused n) h = cc
+refused-is e k (O.accepted t r) h = let z : _≡_ {A = ℕ} 0 1 = cc in absurd (omega arith)
 
 done-is : (e : Edit) (s t : State Drawing) (q : Removed) (l : List ℕ) (o : O.Outcome (State Drawing) Removed) → M.deskAccepted q l ≡ M.replyTo protocol e o → t ≡ stateAfter s o → o ≡ O.accepted t q
 done-is e s t q l (O.refused n) h g = let z : _≡_ {A = ℕ} 0 1 = cc in absurd (omega arith)
@@ -67,15 +67,15 @@ both-true true true e = (refl, refl)
 both-true true false e = let z : _≡_ {A = ℕ} 0 1 = cc in absurd (omega arith)
 both-true false b e = let z : _≡_ {A = ℕ} 0 1 = cc in absurd (omega arith)
 
--- ---- what a verdict leaves
+-- ---- what an outcome leaves
 
 module _ (s : Replica) (e : Edit) (b m a : List ℕ) where
   abbrev verdict : CallOutcome
   verdict = deskEditOutcome s e (length b) (length m)
 
   -- a refusal leaves all
-  turned : (k r : ℕ) → verdict ≡ refused k → r % 65536 ≡ k → NoPlace k (r / 65536) → UnmetPlace e (view (s .sketch)) k (r / 65536) → DeskEditWritten s e b b m m a a r
-  turned k r h n q u =
+  call-refused : (k r : ℕ) → verdict ≡ refused k → r % 65536 ≡ k → NoPlace k (r / 65536) → UnmetPlace e (view (s .sketch)) k (r / 65536) → DeskEditWritten s e b b m m a a r
+  call-refused k r h n q u =
       record {
         served = record {
           number = n ∙ sym (ap numberOf h);
@@ -88,9 +88,9 @@ module _ (s : Replica) (e : Edit) (b m a : List ℕ) where
       }
 
   -- too short for a message
-  pub draw-short : length m < messageSize → DeskEditWritten s e b b m m a a 25
+  pub desk-edit-short : length m < messageSize → DeskEditWritten s e b b m m a a 25
   unfolding guard
-  draw-short h = turned 25 25 (rw (lt-leb messageSize (length m) h)) refl (λ x y. refl) (unmet-none e (view (s .sketch)) 25 0 (λ z. omega arith) (λ z. omega arith))
+  desk-edit-short h = call-refused 25 25 (rw (lt-leb messageSize (length m) h)) refl (λ x y. refl) (unmet-none e (view (s .sketch)) 25 0 (λ z. omega arith) (λ z. omega arith))
 
   module _ (v : sketchFault (s .sketch) ≡ 0) (room : messageSize ≤ length m) (d d′ : List ℕ) (x : DeskTransition) (h : DeskEdits s (record { edit = e; before = d; after = d′; answer = x }))
       (long : length d ≡ messageSize) where
@@ -103,12 +103,12 @@ module _ (s : Replica) (e : Edit) (b m a : List ℕ) where
 
     -- ---- declined
 
-    pub draw-declined : (k place r : ℕ) → x .reply ≡ Desk.Refused k place → r % 65536 ≡ k → r / 65536 ≡ place % 65536 → DeskEditWritten s e b b m m a a r
-    draw-declined k place r t n p =
-        let o : came ≡ O.refused k = sym came-is ∙ declined-is e k _ (ap (λ (u : DeskReply). A.deskReply u (take messageSize d′)) (sym t) ∙ h .step v .reply) in
+    pub desk-edit-refused : (k place r : ℕ) → x .reply ≡ Desk.Refused k place → r % 65536 ≡ k → r / 65536 ≡ place % 65536 → DeskEditWritten s e b b m m a a r
+    desk-edit-refused k place r t n p =
+        let o : came ≡ O.refused k = sym came-is ∙ refused-is e k _ (ap (λ (u : DeskReply). A.deskReply u (take messageSize d′)) (sym t) ∙ h .step v .reply) in
         let q : NoPlace k place = subst DeskNoPlace t (h .no-place) in
         let u : UnmetPlace e (view (s .sketch)) k place = subst (λ (u : DeskReply). DeskPlace u e (view (s .sketch))) t (h .place v) in
-        turned k r (ap (deskOutcome (length b)) o) n (λ y z. let g = q y z in omega arith)
+        call-refused k r (ap (deskOutcome (length b)) o) n (λ y z. let g = q y z in omega arith)
         (subst (UnmetPlace e (view (s .sketch)) k) (sym p) (unmet-whole e (view (s .sketch)) k place (sketch-valid (s .sketch) v .1) u))
 
     -- ---- done
@@ -140,7 +140,7 @@ module _ (s : Replica) (e : Edit) (b m a : List ℕ) where
             go : (f : Bool) → verdict ≡ ite f (updated (stateOf (x .replica)) q) (refused 25) → ResultWritten (ite f (updated (stateOf (x .replica)) q) (refused 25)) b b′ a a′ n → DeskEditWritten s e b b′ m m a a′ 25
             go true g w = absurd (z (w .number))
             go false g w =
-                let all = turned 25 25 g refl (λ x y. refl) (unmet-none e (view (s .sketch)) 25 0 (λ z. omega arith) (λ z. omega arith)) in
+                let all = call-refused 25 25 g refl (λ x y. refl) (unmet-none e (view (s .sketch)) 25 0 (λ z. omega arith) (λ z. omega arith)) in
                 subst (λ (b″ : List ℕ). DeskEditWritten s e b b″ m m a a′ 25) (sym (w .image)) (subst (λ (a″ : List ℕ). DeskEditWritten s e b b m m a a″ 25) (sym (w .numbers)) all)
 
         pub draw-done : n ≡ 0 → (m′ : List ℕ) (k : ℕ) → MessageWritten (messageFor (x .replica .count) e) m m′ k → DeskEditWritten s e b b′ m m′ a a′ 0

@@ -1,4 +1,4 @@
--- What was read from the buffer's front: the ways out that desk and wall share, and what a call on the screen means for the whole.
+-- What was read from the buffer's front: the ways out that desk and wall share, and what a call on the replica means for the whole.
 use mathlib.Core.Path.{_≡_, refl, sym, ap, _∙_, subst}
 use mathlib.Core.Bool.{Bool, true, false}
 use mathlib.Core.List.{List}
@@ -15,35 +15,35 @@ use Rattle.image.specs.declared.ImageRead.{ImageRead}
 use Rattle.image.specs.declared.Operation.{Operation}
 use Rattle.image.specs.Image as I
 use Rattle.image.specs.Decode.{outcome, ReadAnswer}
-use Rattle.image.specs.Message.{operationOf}
+use Rattle.image.specs.Message.{operationOf, isOperation}
 use Rattle.replication.specs.declared.Replica.{Replica}
 use Rattle.replication.specs.Protocol.{Edit}
 use Rattle.replication.specs.Transitions.{stateOf, UnmetPlace}
-use Rattle.mulkefi.specs.Outcomes.{CallOutcome, refused, onImage, isOperation, deskOn, wallOn}
+use Rattle.mulkefi.specs.Outcomes.{CallOutcome, refused, onImage, deskOn, wallOn}
 use Rattle.mulkefi.specs.Calls.{numberOf, bufferAfter, messageAfter, answerAfter, CallWritten, mkEdit, mkEditByNumber, deskCallOutcome, deskEditOutcome, DeskEditWritten, DeskCallWritten, wallCallOutcome, WallDeliveryWritten, WallCallWritten}
 use Rattle.mulkefi.proofs.Places.{unmet-none}
 
 -- ---- the reader's answer
 
-verdict-number : (m n : ℕ) (d e : Drawing) → I.resultOf m d ≡ I.resultOf n e → m ≡ n
+result-number : (m n : ℕ) (d e : Drawing) → I.resultOf m d ≡ I.resultOf n e → m ≡ n
 unfolding I.resultOf
-verdict-number zero zero d e h = refl
-verdict-number zero (suc n) d e h = let z : _≡_ {A = ℕ} 0 1 = cc in absurd (omega arith)
-verdict-number (suc m) zero d e h = let z : _≡_ {A = ℕ} 0 1 = cc in absurd (omega arith)
-verdict-number (suc m) (suc n) d e h = cc
+result-number zero zero d e h = refl
+result-number zero (suc n) d e h = let z : _≡_ {A = ℕ} 0 1 = cc in absurd (omega arith)
+result-number (suc m) zero d e h = let z : _≡_ {A = ℕ} 0 1 = cc in absurd (omega arith)
+result-number (suc m) (suc n) d e h = cc
 
 pub read-number : (r : ImageRead) (s : List ℕ) → outcome r ≡ I.parse s → r .refusal ≡ I.imageFault s
-read-number r s e = verdict-number (r .refusal) (I.imageFault s) (view (r .sketch)) (I.drawingOf s) e
+read-number r s e = result-number (r .refusal) (I.imageFault s) (view (r .sketch)) (I.drawingOf s) e
 
-verdict-refused : (n : ℕ) (d : Drawing) → (n ≡ 0 → ⊥) → I.resultOf n d ≡ I.refused n
+result-refused : (n : ℕ) (d : Drawing) → (n ≡ 0 → ⊥) → I.resultOf n d ≡ I.refused n
 unfolding I.resultOf
-verdict-refused zero d h = absurd (h refl)
-verdict-refused (suc n) d h = refl
+result-refused zero d h = absurd (h refl)
+result-refused (suc n) d h = refl
 
-verdict-accepted : (n : ℕ) (d : Drawing) → n ≡ 0 → I.resultOf n d ≡ I.accepted d
+result-accepted : (n : ℕ) (d : Drawing) → n ≡ 0 → I.resultOf n d ≡ I.accepted d
 unfolding I.resultOf
-verdict-accepted zero d h = refl
-verdict-accepted (suc n) d h = absurd (omega arith)
+result-accepted zero d h = refl
+result-accepted (suc n) d h = absurd (omega arith)
 
 -- ---- the operation's number
 
@@ -67,11 +67,11 @@ take-least n l = go (leb n (length l)) refl
 
 module _ (b : List ℕ) (len size : ℕ) (f : size ≡ ite (leb len (length b)) len (length b)) (i : ImageRead) (h : ReadAnswer (take size b) i) where
   parsed : I.parse (take len b) ≡ outcome i
-  parsed = ap I.parse (sym (ap (λ (n : ℕ). take n b) f ∙ take-least len b)) ∙ sym (h .told)
+  parsed = ap I.parse (sym (ap (λ (n : ℕ). take n b) f ∙ take-least len b)) ∙ sym (h .result-is)
 
   module _ (z : i .refusal ≡ 0 → ⊥) (r : ℕ) (n : r % 65536 ≡ i .refusal) (p : r / 65536 ≡ 0) where
     unread : I.parse (take len b) ≡ I.refused (i .refusal)
-    unread = parsed ∙ verdict-refused (i .refusal) (view (i .sketch)) z
+    unread = parsed ∙ result-refused (i .refusal) (view (i .sketch)) z
 
     not-read : (d : Drawing) → I.parse (take len b) ≡ I.accepted d → ⊥
     not-read d e =
@@ -108,7 +108,7 @@ module _ (b : List ℕ) (len size : ℕ) (f : size ≡ ite (leb len (length b)) 
     replica = record { sketch = i .sketch; count = count }
 
     read : I.parse (take len b) ≡ I.accepted (view (i .sketch))
-    read = parsed ∙ verdict-accepted (i .refusal) (view (i .sketch)) z
+    read = parsed ∙ result-accepted (i .refusal) (view (i .sketch)) z
 
     same : (d : Drawing) → I.parse (take len b) ≡ I.accepted d → view (i .sketch) ≡ d
     same d e = let w : _≡_ {A = I.ParseResult} (I.accepted (view (i .sketch))) (I.accepted d) = sym read ∙ e in cc

@@ -62,9 +62,9 @@ pub unmet-whole : (e : Edit) (d : Drawing) (k place : ℕ) → Valid limits d �
 unmet-whole e d k place v u =
     record {
       before = λ o z. let h = u .before o z in subst (λ (n : ℕ). unmetAt d n ≡ true) (whole d place v h) h;
-      after = λ o z d′ reply q.
-          let h = u .after o z d′ reply q in
-          let valid = untested-valid d (e .curve) (e .at) d′ reply v (subst (λ (op : _). editUntested op limits d (e .curve) (e .at) ≡ accepted d′ reply) o q) in
+      after = λ o z d′ removed q.
+          let h = u .after o z d′ removed q in
+          let valid = untested-valid d (e .curve) (e .at) d′ removed v (subst (λ (op : _). editUntested op limits d (e .curve) (e .at) ≡ accepted d′ removed) o q) in
           subst (λ (n : ℕ). unmetAt d′ n ≡ true) (whole d′ place valid h) h;
     }
 

@@ -5,23 +5,23 @@ use mathlib.Core.List.{List}
 use native.Mathlib.Omega.{arith}
 use lib.ListN.{set}
 use lib.Ieee.{Float}
-use Rattle.bernstein.specs.Roots.{RootsResult, found, refused, answerOf, Searched}
+use Rattle.bernstein.specs.Roots.{RootsResult, found, refused, answerOf, Searched, numberOf}
 use Rattle.bernstein.specs.declared.Roots.{Roots}
 use Rattle.bernstein.specs.declared.Roots.the-variants.{Found, Refused}
-use Rattle.mulkefi.specs.Polynomials.{numberOf, answerAfter, RootsWritten}
+use Rattle.mulkefi.specs.Polynomials.{answerAfter, RootsWritten}
 
 module _ (o : RootsResult) (lent later : List Float) (before : List ℕ) (r : Roots) (s : Searched o lent later r) where
-  pub told-found : (n b : ℕ) → r ≡ Found n b → RootsWritten o lent later before (set (set before 0 n) 1 b) 0
+  pub answered-found : (n b : ℕ) → r ≡ Found n b → RootsWritten o lent later before (set (set before 0 n) 1 b) 0
   unfolding answerOf
-  told-found n b e = let k = go o (sym e ∙ s .answer) in record { number = sym (k .0); buffer = s .buffer; numbers = sym (k .1) }
+  answered-found n b e = let k = go o (sym e ∙ s .answer) in record { number = sym (k .0); buffer = s .buffer; numbers = sym (k .1) }
     where
       go : (o : RootsResult) → Found n b ≡ answerOf o → (numberOf o ≡ 0) × (answerAfter o before ≡ set (set before 0 n) 1 b)
       go (found l b') a = (refl, cc)
       go (refused w b') a = let z : _≡_ {A = ℕ} 0 1 = cc in absurd (omega arith)
 
-  pub told-refused : (w b : ℕ) → r ≡ Refused w b → RootsWritten o lent later before before w
+  pub answered-refused : (w b : ℕ) → r ≡ Refused w b → RootsWritten o lent later before before w
   unfolding answerOf
-  told-refused w b e = let k = go o (sym e ∙ s .answer) in record { number = sym (k .0); buffer = s .buffer; numbers = sym (k .1) }
+  answered-refused w b e = let k = go o (sym e ∙ s .answer) in record { number = sym (k .0); buffer = s .buffer; numbers = sym (k .1) }
     where
       go : (o : RootsResult) → Refused w b ≡ answerOf o → (numberOf o ≡ w) × (answerAfter o before ≡ before)
       go (found l b') a = let z : _≡_ {A = ℕ} 0 1 = cc in absurd (omega arith)

@@ -1,4 +1,4 @@
--- The wall on a screen: one law for each way out.
+-- A delivery to a replica: one law for each way out.
 use mathlib.Core.Path.{_≡_, refl, sym, ap, _∙_, subst}
 use mathlib.Core.Bool.{Bool, true, false}
 use mathlib.Core.List.{List}
@@ -29,10 +29,10 @@ module _ (s : Replica) (bytes b a : List ℕ) (v : sketchFault (s .sketch) ≡ 0
   abbrev verdict : CallOutcome
   verdict = wallOn (length b) bytes (stateOf s)
 
-  verdict-is : (t : M.WallReply Removed) → wallReply (x .reply) ≡ t → verdict ≡ wallOutcome (length b) (stateOf (x .replica)) t
-  verdict-is t e = let p = sym (h .step v .state) in let q = sym (h .step v .reply) ∙ e in λ i. wallOutcome (length b) (p i) (q i)
+  result-is : (t : M.WallReply Removed) → wallReply (x .reply) ≡ t → verdict ≡ wallOutcome (length b) (stateOf (x .replica)) t
+  result-is t e = let p = sym (h .step v .state) in let q = sym (h .step v .reply) ∙ e in λ i. wallOutcome (length b) (p i) (q i)
 
-  -- what a verdict leaves
+  -- what an outcome leaves
   leaves :
       (w : CallOutcome) → verdict ≡ w → (r : ℕ) → r % 65536 ≡ numberOf w → NoPlace (numberOf w) (r / 65536) → (b′ a′ : List ℕ) → b′ ≡ bufferAfter w b → a′ ≡ answerAfter w a
       → CallWritten verdict b b′ a a′ r
@@ -44,28 +44,28 @@ module _ (s : Replica) (bytes b a : List ℕ) (v : sketchFault (s .sketch) ≡ 0
         numbers = j ∙ sym (ap (λ (v : CallOutcome). answerAfter v a) g);
       }
 
-  pub follow-rejected : (k place r : ℕ) → x .reply ≡ Wall.Refused k place → r % 65536 ≡ k → r / 65536 ≡ place % 65536 → WallDeliveryWritten s bytes b b a a r
-  follow-rejected k place r t n p =
+  pub delivery-refused : (k place r : ℕ) → x .reply ≡ Wall.Refused k place → r % 65536 ≡ k → r / 65536 ≡ place % 65536 → WallDeliveryWritten s bytes b b a a r
+  delivery-refused k place r t n p =
       let q : NoPlace k place = subst WallNoPlace t (h .no-place) in
       let u : (n : ℕ) (e : Edit) → protocol .decode bytes ≡ message n e → UnmetPlace e (view (s .sketch)) k place = subst (λ (u : WallReply). WallPlace u bytes (view (s .sketch))) t (h .place v) in
       record {
-        served = leaves (refused k) (verdict-is (M.wallRefused k) (ap wallReply t)) r n (λ y z. let g = q y z in omega arith) b a refl refl;
+        served = leaves (refused k) (result-is (M.wallRefused k) (ap wallReply t)) r n (λ y z. let g = q y z in omega arith) b a refl refl;
         place = λ i e o.
             subst (λ (k : ℕ). UnmetPlace e (view (s .sketch)) k (r / 65536)) (sym n)
             (subst (UnmetPlace e (view (s .sketch)) k) (sym p) (unmet-whole e (view (s .sketch)) k place (sketch-valid (s .sketch) v .1) (u i e o)));
       }
 
-  pub follow-old : x .reply ≡ Wall.Old → (a′ : List ℕ) → a′ ≡ answerFor a (stateOf s) nothing → WallDeliveryWritten s bytes b b a a′ 0
-  follow-old t a′ j =
+  pub delivery-old : x .reply ≡ Wall.Old → (a′ : List ℕ) → a′ ≡ answerFor a (stateOf s) nothing → WallDeliveryWritten s bytes b b a a′ 0
+  delivery-old t a′ j =
       let kept : x .replica ≡ s = subst (λ (u : WallReply). WallKept u s (x .replica)) t (h .kept) in
-      let g : verdict ≡ old (stateOf s) = verdict-is M.wallOld (ap wallReply t) ∙ ap (λ (u : Replica). old (stateOf u)) kept in
+      let g : verdict ≡ old (stateOf s) = result-is M.wallOld (ap wallReply t) ∙ ap (λ (u : Replica). old (stateOf u)) kept in
       record {
         served = leaves (old (stateOf s)) g 0 refl (λ y z. refl) b a′ refl j;
         place = λ i e o. unmet-none e (view (s .sketch)) 0 0 (λ z. omega arith) (λ z. omega arith);
       }
 
-  pub follow-shown : (q : Removed) → x .reply ≡ Wall.Applied q → (b′ a′ : List ℕ) (n : ℕ) → ResultWritten (ifImageFits (length b) (stateOf (x .replica)) q) b b′ a a′ n → WallDeliveryWritten s bytes b b′ a a′ n
-  follow-shown q t b′ a′ n w = go (leb (drawingSize (view (x .replica .sketch))) (length b)) (verdict-is (M.wallApplied q) (ap wallReply t)) w
+  pub delivery-updated : (q : Removed) → x .reply ≡ Wall.Applied q → (b′ a′ : List ℕ) (n : ℕ) → ResultWritten (ifImageFits (length b) (stateOf (x .replica)) q) b b′ a a′ n → WallDeliveryWritten s bytes b b′ a a′ n
+  delivery-updated q t b′ a′ n w = go (leb (drawingSize (view (x .replica .sketch))) (length b)) (result-is (M.wallApplied q) (ap wallReply t)) w
     where
       go : (f : Bool) → verdict ≡ ite f (updated (stateOf (x .replica)) q) (refused 25) → ResultWritten (ite f (updated (stateOf (x .replica)) q) (refused 25)) b b′ a a′ n → WallDeliveryWritten s bytes b b′ a a′ n
       go true g w =

@@ -1,4 +1,4 @@
--- A screen shown: its image's size, and the two ways out of showing it.
+-- A replica written: its image's size, and the two ways out of writing it.
 use mathlib.Core.Path.{_≡_, refl, _∙_}
 use mathlib.Core.Bool.{Bool, true, false}
 use mathlib.Core.List.{List}
@@ -52,17 +52,17 @@ module _ (s : Replica) (removed : Removed) (v : sketchFault (s .sketch) ≡ 0) (
       go true = refl
       go false = refl
 
-  pub not-shown : (n ≡ 0 → ⊥) → ResultWritten (ifImageFits (length b) (stateOf s) removed) b now a a n
+  pub not-written : (n ≡ 0 → ⊥) → ResultWritten (ifImageFits (length b) (stateOf s) removed) b now a a n
   unfolding guardNumber
-  not-shown z = go fits number-is buffer-is
+  not-written z = go fits number-is buffer-is
     where
       go : (t : Bool) → n ≡ guardNumber t 25 0 → now ≡ ite t image b → ResultWritten (ite t (updated (stateOf s) removed) (refused 25)) b now a a n
       go true e f = absurd (z e)
       go false e f = record { number = e; image = f; numbers = refl }
 
-  pub is-shown : n ≡ 0 → (a′ : List ℕ) → a′ ≡ answerFor a (stateOf s) removed → ResultWritten (ifImageFits (length b) (stateOf s) removed) b now a a′ 0
+  pub is-written : n ≡ 0 → (a′ : List ℕ) → a′ ≡ answerFor a (stateOf s) removed → ResultWritten (ifImageFits (length b) (stateOf s) removed) b now a a′ 0
   unfolding guardNumber
-  is-shown z a′ h = go fits number-is buffer-is
+  is-written z a′ h = go fits number-is buffer-is
     where
       go : (t : Bool) → n ≡ guardNumber t 25 0 → now ≡ ite t image b → ResultWritten (ite t (updated (stateOf s) removed) (refused 25)) b now a a′ 0
       go true e f = record { number = refl; image = f; numbers = h }

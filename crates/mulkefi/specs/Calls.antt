@@ -37,17 +37,17 @@ messageAfter (refused k) e m = m
 messageAfter (old s) e m = m
 messageAfter (updated s r) e m = over m 0 (M.encode (messageFor (s .count) e))
 
--- a side's count, its image's size, and a report of a curve and its ends
+-- a state's count, its image's size, and a report of a curve and its ends
 abbrev pub answerFor : List ℕ → State Drawing → Removed → List ℕ
 answerFor a s r = set (set (set (set (set a 0 (s .count)) 1 (E.drawingSize (s .drawing))) 2 (r .curve)) 3 (r .from)) 4 (r .to)
 
--- an old message changes nothing: the answer tells what stands
+-- an old message changes nothing: the answer has the count and the size that were found
 abbrev pub answerAfter : CallOutcome → List ℕ → List ℕ
 answerAfter (refused k) a = a
 answerAfter (old s) a = answerFor a s nothing
 answerAfter (updated s r) a = answerFor a s r
 
--- a side shown: the number, what is left in the buffer, the answer
+-- an outcome written: the number, the buffer afterwards, the answer
 pub record ResultWritten (v : CallOutcome) (buffer buffer′ answer answer′ : List ℕ) (r : ℕ) : Type 0 where
   pub number : r ≡ numberOf v
   pub image : buffer′ ≡ bufferAfter v buffer
@@ -66,7 +66,7 @@ pub record CallWritten (v : CallOutcome) (buffer buffer′ answer answer′ : Li
 abbrev pub mkEdit : Operation → ℕ → Float → Float → Edit
 mkEdit operation curve x y = record { operation = operation; curve = curve; at = record { x = x; y = y } }
 
--- the same, the operation by its number
+-- an edit by its operation's number
 abbrev pub mkEditByNumber : ℕ → ℕ → Float → Float → Edit
 mkEditByNumber operation curve x y = mkEdit (operationOf operation) curve x y
 
@@ -75,13 +75,13 @@ abbrev pub deskCallOutcome : List ℕ → ℕ → ℕ → ℕ → Edit → ℕ �
 deskCallOutcome buffer len count operation e room =
     onImage (I.parse (take len buffer)) count (deskOn (length buffer) operation (record { edit = e; room = room }))
 
--- the verdict's answer; the message; and the place that comes with 13 or 19
+-- the outcome's answer; the message; and the place that comes with 13 or 19
 pub record DeskCallWritten (len count operation : ℕ) (e : Edit) (buffer buffer′ message message′ answer answer′ : List ℕ) (r : ℕ) : Type 0 where
   pub served : CallWritten (deskCallOutcome buffer len count operation e (length message)) buffer buffer′ answer answer′ r
   pub written : message′ ≡ messageAfter (deskCallOutcome buffer len count operation e (length message)) e message
   pub place : (d : Drawing) → I.parse (take len buffer) ≡ I.accepted d → UnmetPlace e d (r % 65536) (r / 65536)
 
--- the same on a screen
+-- the outcome of an edit of a replica, and what is written for it
 abbrev pub deskEditOutcome : Replica → Edit → ℕ → ℕ → CallOutcome
 deskEditOutcome s e buffer room = deskOutcome buffer (callOutcome protocol (stateOf s) (record { edit = e; room = room }))
 
@@ -96,12 +96,12 @@ pub record DeskEditWritten (s : Replica) (e : Edit) (buffer buffer′ message me
 abbrev pub wallCallOutcome : List ℕ → ℕ → ℕ → List ℕ → CallOutcome
 wallCallOutcome buffer len count bytes = onImage (I.parse (take len buffer)) count (wallOn (length buffer) bytes)
 
--- the verdict's answer, and the place that comes with 13 or 19
+-- the outcome's answer, and the place that comes with 13 or 19
 pub record WallCallWritten (len count : ℕ) (bytes buffer buffer′ answer answer′ : List ℕ) (r : ℕ) : Type 0 where
   pub served : CallWritten (wallCallOutcome buffer len count bytes) buffer buffer′ answer answer′ r
   pub place : (d : Drawing) → I.parse (take len buffer) ≡ I.accepted d → (n : ℕ) (e : Edit) → protocol .decode bytes ≡ message n e → UnmetPlace e d (r % 65536) (r / 65536)
 
--- the same on a screen
+-- what is written for a delivery to a replica
 pub record WallDeliveryWritten (s : Replica) (bytes buffer buffer′ answer answer′ : List ℕ) (r : ℕ) : Type 0 where
   pub served : CallWritten (wallOn (length buffer) bytes (stateOf s)) buffer buffer′ answer answer′ r
   pub place : (n : ℕ) (e : Edit) → protocol .decode bytes ≡ message n e → UnmetPlace e (view (s .sketch)) (r % 65536) (r / 65536)

@@ -1,4 +1,4 @@
--- What a call on lent memory comes to: the image's refusal, then the desk's or the wall's own, then the room for the new image. Definitions only.
+-- The outcome of a call on lent memory: the image's refusal, then the desk's or the wall's own, then the room for the new image. Definitions only.
 use Prim.Native.Nat.{ℕ}
 use mathlib.Core.Bool.{Bool, _&&_}
 use mathlib.Core.List.{List}
@@ -7,6 +7,7 @@ use Rattle.sketch.specs.Lists.{ite}
 use Rattle.sketch.specs.Drawing.{Drawing}
 use Rattle.image.specs.Image as I
 use Rattle.image.specs.Encode.{drawingSize}
+use Rattle.image.specs.Message.{isOperation}
 use Rattle.edit_plan.specs.declared.Removed.{Removed}
 use Rattle.edit_plan.specs.Outcome as O
 use Rattle.agreement.specs.Machines as M
@@ -30,11 +31,7 @@ onImage (I.accepted d) count f = f (record { drawing = d; count = count })
 
 -- ---- the desk
 
--- trim, split and extend have the numbers 1 to 3
-abbrev pub isOperation : ℕ → Bool
-isOperation operation = leb 1 operation && leb operation 3
-
--- what the desk's call came to, and then the room
+-- the outcome of the desk's call, and then the room
 abbrev pub deskOutcome : ℕ → O.Outcome (State Drawing) Removed → CallOutcome
 deskOutcome room (O.refused k) = refused k
 deskOutcome room (O.accepted s r) = ifImageFits room s r
@@ -45,7 +42,7 @@ deskOn room operation call s = ite (isOperation operation) (deskOutcome room (ca
 
 -- ---- the wall
 
--- what the wall told, and then the room
+-- the wall's reply, and then the room
 abbrev pub wallOutcome : ℕ → State Drawing → WallReply Removed → CallOutcome
 wallOutcome room s (M.wallRefused k) = refused k
 wallOutcome room s M.wallOld = old s

@@ -4,12 +4,7 @@ use mathlib.Core.Path.{_≡_}
 use mathlib.Core.List.{List}
 use lib.ListN.{length, set}
 use lib.Ieee.{Float}
-use Rattle.bernstein.specs.Roots.{RootsResult, found, refused, leftIn}
-
--- the refusal's number, or 0
-abbrev pub numberOf : RootsResult → ℕ
-numberOf (found l b) = 0
-numberOf (refused k b) = k
+use Rattle.bernstein.specs.Roots.{RootsResult, found, refused, leftIn, numberOf}
 
 -- how many roots, and the budget that is left; a refusal leaves the answer as it was
 abbrev pub answerAfter : RootsResult → List ℕ → List ℕ

@@ -1,4 +1,4 @@
-// What desk and wall do alike with the memory that a host lends.
+// Writes to the memory that a host lends, for desk and wall alike.
 use crate::AnswerField;
 use edit_plan::Removed;
 use image::CURVE_SIZE;
@@ -50,7 +50,7 @@ pub(crate) fn write_answer(replica: Replica, removed: Removed, answer: &mut [Ans
     answer[4] = removed.to;
 }
 
-// The image goes to the buffer's front, and what is told of it to the answer; or both are left, and the buffer is too short (25).
+// The image goes to the buffer's front, and count, size and report to the answer; or both are left, and the buffer is too short (25).
 pub(crate) fn write_result(
     replica: Replica,
     removed: Removed,

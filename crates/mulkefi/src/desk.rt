@@ -25,7 +25,7 @@ fn operation_of(operation: u32) -> Operation
     }
 }
 
-// The edit of a screen. The message is drafted first, so that none of the host's memory is written before the last refusal.
+// Edits a replica. The message is written to a draft first, so that none of the host's memory is written before the last refusal.
 fn edit_replica(
     replica: Replica,
     operation: Operation,

@@ -12,7 +12,7 @@ ghost use mathlib.Core.Path.{_≡_};
 ghost use Rattle.sketch.specs.Valid.{sketchFault};
 ghost use Rattle.mulkefi.specs.Calls.{WallDeliveryWritten, WallCallWritten};
 
-// The delivery to a screen.
+// Delivers a message to a replica.
 fn deliver_to_replica(
     replica: Replica,
     message: &[u8],

@@ -22,29 +22,29 @@ use Rattle.image.specs.declared.MessageRead.the-variants.{Accepted, Refused}
 use Rattle.image.specs.Message as M
 use Rattle.image.specs.Message.{messageFault, messageOf}
 use Rattle.image.proofs.MessageRoundTrips as T
-use Rattle.image.proofs.MessageRoundTrips.{verdict-accepted, message-kept}
+use Rattle.image.proofs.MessageRoundTrips.{result-accepted, message-kept}
 use Rattle.probe.specs.Probe.{Copied}
 
--- an answer's number is the verdict's
-verdict-number : (m n : ℕ) (d e : Drawing) → resultOf m d ≡ resultOf n e → m ≡ n
+-- an answer's number is the parse result's
+result-number : (m n : ℕ) (d e : Drawing) → resultOf m d ≡ resultOf n e → m ≡ n
 unfolding resultOf
-verdict-number zero zero d e h = refl
-verdict-number zero (suc n) d e h = let z : _≡_ {A = ℕ} 0 1 = cc in absurd (omega arith)
-verdict-number (suc m) zero d e h = let z : _≡_ {A = ℕ} 0 1 = cc in absurd (omega arith)
-verdict-number (suc m) (suc n) d e h = cc
+result-number zero zero d e h = refl
+result-number zero (suc n) d e h = let z : _≡_ {A = ℕ} 0 1 = cc in absurd (omega arith)
+result-number (suc m) zero d e h = let z : _≡_ {A = ℕ} 0 1 = cc in absurd (omega arith)
+result-number (suc m) (suc n) d e h = cc
 
 -- and so is its drawing, where it is accepted
-verdict-drawing : (m n : ℕ) (d e : Drawing) → resultOf m d ≡ resultOf n e → m ≡ 0 → d ≡ e
+result-drawing : (m n : ℕ) (d e : Drawing) → resultOf m d ≡ resultOf n e → m ≡ 0 → d ≡ e
 unfolding resultOf
-verdict-drawing zero zero d e h z = cc
-verdict-drawing zero (suc n) d e h z = let y : _≡_ {A = ℕ} 0 1 = cc in absurd (omega arith)
-verdict-drawing (suc m) n d e h z = absurd (omega arith)
+result-drawing zero zero d e h z = cc
+result-drawing zero (suc n) d e h z = let y : _≡_ {A = ℕ} 0 1 = cc in absurd (omega arith)
+result-drawing (suc m) n d e h z = absurd (omega arith)
 
 pub read-number : (r : ImageRead) (s : List ℕ) → outcome r ≡ parse s → r .refusal ≡ imageFault s
-read-number r s e = verdict-number (r .refusal) (imageFault s) (view (r .sketch)) (drawingOf s) e
+read-number r s e = result-number (r .refusal) (imageFault s) (view (r .sketch)) (drawingOf s) e
 
 pub read-drawing : (r : ImageRead) (s : List ℕ) → outcome r ≡ parse s → r .refusal ≡ 0 → view (r .sketch) ≡ drawingOf s
-read-drawing r s e z = verdict-drawing (r .refusal) (imageFault s) (view (r .sketch)) (drawingOf s) e z
+read-drawing r s e z = result-drawing (r .refusal) (imageFault s) (view (r .sketch)) (drawingOf s) e z
 
 -- bytes that are refused are not copied
 pub not-copied : (fault : ℕ) (bytes before : List ℕ) (r : ℕ) → r ≡ fault → (r ≡ 0 → ⊥) → Copied fault bytes before before r
@@ -58,8 +58,8 @@ pub image-copied : (s before later : List ℕ) (sk : Sketch) (r : ImageRead) (n 
     → Copied (imageFault s) s before later n
 unfolding guardNumber
 image-copied s before later sk r n b a z e w =
-    let i : imageFault s ≡ 0 = sym (read-number r s (a .told)) ∙ z in
-    let v : view sk ≡ drawingOf s = ap view e ∙ read-drawing r s (a .told) z in
+    let i : imageFault s ≡ 0 = sym (read-number r s (a .result-is)) ∙ z in
+    let v : view sk ≡ drawingOf s = ap view e ∙ read-drawing r s (a .result-is) z in
     let f : sketchFault sk ≡ 0 = ap sketchFault e ∙ a .sound in
     let k = image-kept s i in
     let l : drawingSize (view sk) ≡ length s = ap drawingSize v ∙ size-back s k in
@@ -69,7 +69,7 @@ image-copied s before later sk r n b a z e w =
 pub message-copied : (s before later : List ℕ) (m : Message) (n : ℕ) → Bytes s → M.parse s ≡ Accepted m → M.MessageWritten m before later n → Copied (messageFault s) s before later n
 unfolding guardNumber
 message-copied s before later m n b e w =
-    let v = verdict-accepted (messageFault s) (messageOf s) m e in
+    let v = result-accepted (messageFault s) (messageOf s) m e in
     let k = message-kept s (v .0) in
     let g : 1 ≤ m .number = rw (← v .1) (k .numbered) in
     let c : M.encode m ≡ s = rw (← v .1) (T.encode-back s b k) in

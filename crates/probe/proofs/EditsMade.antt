@@ -15,7 +15,7 @@ use Rattle.sketch.specs.Valid.{sketchFault}
 use Rattle.sketch.proofs.Sketches.{sketch-valid}
 use Rattle.image.specs.Image.{imageFault, drawingOf}
 use Rattle.image.specs.Encode.{drawingSize}
-use Rattle.image.specs.Message.{operationOf}
+use Rattle.image.specs.Message.{operationOf, isOperation}
 use Rattle.image.specs.declared.Operation.{Operation}
 use Rattle.image.specs.declared.Operation.the-variants.{Extend}
 use Rattle.relations.specs.Met.{unmetAt}
@@ -24,7 +24,7 @@ use Rattle.edit_plan.specs.Outcome.{refused, accepted, guard}
 use Rattle.edit_plan.specs.Suited.{outcomeOf}
 use Rattle.modify.specs.Edits.{editOf, editUntested, EditAnswer}
 use Rattle.replication.specs.Transitions.{reportedPlace}
-use Rattle.probe.specs.Edits.{isOperation, editImage, numberOf, leftIn, Wrote, EditMade, editAdds, repeated}
+use Rattle.probe.specs.Edits.{editImage, numberOf, leftIn, Wrote, EditMade, editAdds, repeated}
 use Rattle.probe.proofs.Places.{place-low, untested-valid}
 
 -- ---- the place above the number
@@ -53,7 +53,7 @@ module _ (op : ℕ) (s : List ℕ) (t : ℕ) (p : Vec2) (before : List ℕ) wher
       record {
         number = rw f (m ∙ e);
         buffer = rw f;
-        quiet = λ x y. omega arith;
+        no-place = λ x y. omega arith;
         unmet-before = λ i o k. absurd (n (e ∙ i));
         unmet-after = λ i o k d′ told q. absurd (n (e ∙ i));
       }
@@ -66,7 +66,7 @@ module _ (op : ℕ) (s : List ℕ) (t : ℕ) (p : Vec2) (before : List ℕ) wher
         record {
           number = rw (f, o);
           buffer = rw (f, o);
-          quiet = λ x y. refl;
+          no-place = λ x y. refl;
           unmet-before = λ j o k. absurd (omega arith);
           unmet-after = λ j o k d′ told q. absurd (omega arith);
         }
@@ -91,24 +91,24 @@ module _ (op : ℕ) (s : List ℕ) (t : ℕ) (p : Vec2) (before : List ℕ) wher
           let k = r .refusal in
           let w = reportedPlace k (r .place) % 65536 in
           let number-is : n % 65536 ≡ k = omega arith in
-          let place-told : n / 65536 ≡ w = omega arith in
+          let place-is : n / 65536 ≡ w = omega arith in
           let q : editImage op s t p ≡ refused k = outcome-is ∙ rw (ne-eqb k 0 z) in
           let u = sketch-valid sk f .1 in
           record {
             number = rw q number-is;
             buffer = rw q;
-            quiet = λ x y. place-told ∙ sym (nothing (λ h. x (number-is ∙ h)) (λ h. y (number-is ∙ h)));
+            no-place = λ x y. place-is ∙ sym (nothing (λ h. x (number-is ∙ h)) (λ h. y (number-is ∙ h)));
             unmet-before = λ j e h.
                 let m = a .unmet-before (extends e) (sym number-is ∙ h) in
                 let l = place-low (view sk) (r .place) u m in
-                subst (λ d. unmetAt d (n / 65536) ≡ true) v (subst (λ (j : ℕ). unmetAt (view sk) j ≡ true) (sym (place-told ∙ place-is k (r .place) (inl (sym number-is ∙ h)) (omega arith))) m);
+                subst (λ d. unmetAt d (n / 65536) ≡ true) v (subst (λ (j : ℕ). unmetAt (view sk) j ≡ true) (sym (place-is ∙ place-is k (r .place) (inl (sym number-is ∙ h)) (omega arith))) m);
             unmet-after = λ j e h d′ told g.
-                let g1 : editUntested Extend limits (view sk) t p ≡ accepted d′ told = ap (λ d. editUntested Extend limits d t p) v ∙ g in
-                let g2 : editUntested (operationOf op) limits (view sk) t p ≡ accepted d′ told = ap (λ o. editUntested o limits (view sk) t p) (extends e) ∙ g1 in
+                let g1 : editUntested Extend limits (view sk) t p ≡ accepted d′ result-is = ap (λ d. editUntested Extend limits d t p) v ∙ g in
+                let g2 : editUntested (operationOf op) limits (view sk) t p ≡ accepted d′ result-is = ap (λ o. editUntested o limits (view sk) t p) (extends e) ∙ g1 in
                 let m = a .unmet-after (extends e) (sym number-is ∙ h) d′ told g2 in
                 let u2 = untested-valid (view sk) t p d′ told u g1 in
                 let l = place-low d′ (r .place) u2 m in
-                subst (λ (j : ℕ). unmetAt d′ j ≡ true) (sym (place-told ∙ place-is k (r .place) (inr (sym number-is ∙ h)) (omega arith))) m;
+                subst (λ (j : ℕ). unmetAt d′ j ≡ true) (sym (place-is ∙ place-is k (r .place) (inr (sym number-is ∙ h)) (omega arith))) m;
           }
         where
           nothing : (r .refusal ≡ 13 → ⊥) → (r .refusal ≡ 19 → ⊥) → 0 ≡ reportedPlace (r .refusal) (r .place) % 65536
@@ -122,7 +122,7 @@ module _ (op : ℕ) (s : List ℕ) (t : ℕ) (p : Vec2) (before : List ℕ) wher
           record {
             number = rw q (low c ∙ w .number);
             buffer = rw q (w .buffer);
-            quiet = λ x y. above c;
+            no-place = λ x y. above c;
             unmet-before = λ j e h. absurd (not-13 c h);
             unmet-after = λ j e h d′ told g. absurd (not-19 c h);
           }

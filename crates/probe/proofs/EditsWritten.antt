@@ -43,7 +43,7 @@ module _ (sk : Sketch) (gone : Removed) (xs : List ℕ) where
     back : take 12 xs ++ (ys ++ drop (length xs - 12) rest) ≡ take 12 xs ++ ys
     back = let h : length rest ≤ length xs - 12 = omega (arith, long) in rw (drop-of-length-le rest h, append-nil)
 
-    -- what the write tells, by whether the image fits behind the report
+    -- what the write answers, by whether the image fits behind the report
     fits : (b : Bool) → leb size (length rest) ≡ b → leb (12 + size) (length xs) ≡ b
     fits true e = le-leb (12 + size) (length xs) (omega (arith, leb-true size (length rest) e, long))
     fits false e = lt-leb (12 + size) (length xs) (omega (arith, leb-false size (length rest) e, long))
@@ -67,9 +67,9 @@ module _ (sk : Sketch) (gone : Removed) (xs : List ℕ) where
 
     -- the three numbers of the report, one after the other
     module _ (z : n ≡ 0) (l m k : List ℕ) (a : l ≡ overIfFits (take 12 xs ++ (ys ++ drop (length xs - 12) rest)) 0 (bytes 4 (gone .curve))) (b : m ≡ overIfFits l 4 (bytes 4 (gone .from))) (c : k ≡ overIfFits m 8 (bytes 4 (gone .to))) where
-      pub edit-told : Wrote (accepted (view sk) gone) xs k 0
+      pub edit-written : Wrote (accepted (view sk) gone) xs k 0
       unfolding guardNumber guard numberOf leftIn over
-      edit-told = go (leb size (length rest)) refl number-is part-is
+      edit-written = go (leb size (length rest)) refl number-is part-is
         where
           front : List ℕ
           front = take 12 xs ++ (ys ++ drop (length xs - 12) rest)
@@ -80,8 +80,8 @@ module _ (sk : Sketch) (gone : Removed) (xs : List ℕ) where
           enough : 12 ≤ length front
           enough = omega (arith, length-append (take 12 xs) (ys ++ drop (length xs - 12) rest), twelve)
 
-          told : Run front 0 12 ((bytes 4 (gone .curve) ++ bytes 4 (gone .from)) ++ bytes 4 (gone .to)) k
-          told =
+          report-written : Run front 0 12 ((bytes 4 (gone .curve) ++ bytes 4 (gone .from)) ++ bytes 4 (gone .to)) k
+          result-is =
               run-puts front 0 8 4 (gone .to) (bytes 4 (gone .curve) ++ bytes 4 (gone .from)) m k (omega (arith, enough))
               (run-puts front 0 4 4 (gone .from) (bytes 4 (gone .curve)) l m (omega (arith, enough)) (run-starts front 0 4 (gone .curve) (omega (arith, enough)) a) b) c
 
@@ -89,7 +89,7 @@ module _ (sk : Sketch) (gone : Removed) (xs : List ℕ) where
           joined = append-assoc (bytes 4 (gone .curve)) (bytes 4 (gone .from)) (bytes 4 (gone .to))
 
           ends : length (report gone) ≡ 12
-          ends = rw (← joined) (told .long)
+          ends = rw (← joined) (report-written .long)
 
           go : (b : Bool) → leb size (length rest) ≡ b → n ≡ guardNumber b 25 0 → ys ≡ ite (eqb (guardNumber b 25 0) 0) (over rest 0 (encode (view sk))) rest → Wrote (accepted (view sk) gone) xs k 0
           go false e q r = absurd (omega arith)
@@ -101,5 +101,5 @@ module _ (sk : Sketch) (gone : Removed) (xs : List ℕ) where
               let sizes : 0 + length (report gone ++ d) ≡ 12 + length d = omega (arith, length-append (report gone) d, ends) in
               record {
                 number = rw (fits true e);
-                buffer = rw (fits true e) (told .is ∙ rw (joined, ends, behind, rests, sizes) (sym (append-assoc (report gone) d (drop (12 + length d) xs))));
+                buffer = rw (fits true e) (report-written .is ∙ rw (joined, ends, behind, rests, sizes) (sym (append-assoc (report gone) d (drop (12 + length d) xs))));
               }

@@ -1,4 +1,4 @@
--- What a desk's edit and a delivery add to a sum: one law for each thing told.
+-- What a desk's edit and a delivery add to a sum: one law for each reply.
 use mathlib.Core.Path.{_≡_, refl, sym, ap, _∙_, subst}
 use mathlib.Core.List.{List}
 use Prim.Native.Nat.{ℕ, _+_, _%_, _^_, _≤_}
@@ -25,12 +25,12 @@ use Rattle.probe.specs.Edits.{repeated}
 use Rattle.probe.specs.Replicas.{imageState, deskTally, deskAdds, wallTally, wallAdds}
 
 module _ (e : Edit) (m : List ℕ) (reply : DeskReply) where
-  pub desk-declined : (o : Outcome (State Drawing) Removed) (n place : ℕ) → reply ≡ Desk.Refused n place → deskReply reply m ≡ M.replyTo protocol e o → n ≡ deskTally o
+  pub desk-refused : (o : Outcome (State Drawing) Removed) (n place : ℕ) → reply ≡ Desk.Refused n place → deskReply reply m ≡ M.replyTo protocol e o → n ≡ deskTally o
   unfolding deskTally
-  desk-declined (refused k) n place q h =
+  desk-refused (refused k) n place q h =
       let w : _≡_ {A = M.DeskReply Removed} (M.deskRefused n) (M.deskRefused k) = ap (λ x. deskReply x m) (sym q) ∙ h in
       cc
-  desk-declined (accepted t r) n place q h =
+  desk-refused (accepted t r) n place q h =
       let w : _≡_ {A = M.DeskReply Removed} (M.deskRefused n) (M.replyTo protocol e (accepted t r)) = ap (λ x. deskReply x m) (sym q) ∙ h in
       let z : _≡_ {A = ℕ} 0 1 = cc in
       absurd (omega arith)
@@ -46,16 +46,16 @@ module _ (e : Edit) (m : List ℕ) (reply : DeskReply) where
   desk-done (accepted t r) was now gone q h g f = f ∙ ap (λ (x : State Drawing). (x .count + 256) % 2 ^ 32) g
 
 module _ (reply : WallReply) where
-  pub wall-rejected : (o : State Drawing × M.WallReply Removed) (n place : ℕ) → reply ≡ Wall.Refused n place → wallReply reply ≡ o .1 → n ≡ wallTally o
+  pub wall-refused : (o : State Drawing × M.WallReply Removed) (n place : ℕ) → reply ≡ Wall.Refused n place → wallReply reply ≡ o .1 → n ≡ wallTally o
   unfolding wallTally
-  wall-rejected (s, M.wallRefused k) n place q h =
+  wall-refused (s, M.wallRefused k) n place q h =
       let w : _≡_ {A = M.WallReply Removed} (M.wallRefused n) (M.wallRefused k) = ap wallReply (sym q) ∙ h in
       cc
-  wall-rejected (s, M.wallOld) n place q h =
+  wall-refused (s, M.wallOld) n place q h =
       let w : _≡_ {A = M.WallReply Removed} (M.wallRefused n) M.wallOld = ap wallReply (sym q) ∙ h in
       let z : _≡_ {A = ℕ} 0 1 = cc in
       absurd (omega arith)
-  wall-rejected (s, M.wallApplied r) n place q h =
+  wall-refused (s, M.wallApplied r) n place q h =
       let w : _≡_ {A = M.WallReply Removed} (M.wallRefused n) (M.wallApplied r) = ap wallReply (sym q) ∙ h in
       let z : _≡_ {A = ℕ} 0 1 = cc in
       absurd (omega arith)
@@ -84,7 +84,7 @@ module _ (reply : WallReply) where
       absurd (omega arith)
   wall-applied (s, M.wallApplied r) now gone q h g f = f ∙ ap (λ (x : State Drawing). (x .count + 256) % 2 ^ 32) g
 
--- ---- so many of one side, with what an image gives
+-- ---- so many on one replica, with what an image gives
 
 pub desk-read :
     (s : List ℕ) (count op t : ℕ) (x y : Float) (times : ℕ) {d : Drawing} {op′ : Operation} {n : ℕ} → d ≡ drawingOf s → op′ ≡ operationOf op

@@ -8,7 +8,8 @@ use native.Mathlib.Omega.{arith}
 use borrow.Author.Tests.{eq-eqb, ne-eqb}
 use Rattle.sketch.specs.Lists.{guardNumber}
 use Rattle.image.specs.Image.{imageFault}
-use Rattle.probe.specs.Edits.{isOperation, ofImage, repeated}
+use Rattle.image.specs.Message.{isOperation}
+use Rattle.probe.specs.Edits.{ofImage, repeated}
 
 pub none-yet : (k : ℕ) → 0 ≡ repeated 0 k
 none-yet k = rw (zero-mul k)
@@ -28,17 +29,17 @@ all-done i times k h g e = let q : i ≡ times = omega arith in e ∙ ap (λ (n 
 -- ---- the image's refusal, the operation's, the sum
 
 module _ (s : List ℕ) where
-  pub image-turned : (k : ℕ) {r : ℕ} → r ≡ imageFault s → (r ≡ 0 → ⊥) → r ≡ ofImage s k
+  pub image-refused : (k : ℕ) {r : ℕ} → r ≡ imageFault s → (r ≡ 0 → ⊥) → r ≡ ofImage s k
   unfolding guardNumber
-  image-turned k e n = e ∙ rw (ne-eqb (imageFault s) 0 (λ z. n (e ∙ z)))
+  image-refused k e n = e ∙ rw (ne-eqb (imageFault s) 0 (λ z. n (e ∙ z)))
 
   pub image-passed : (k : ℕ) {r : ℕ} → imageFault s ≡ 0 → r ≡ k → r ≡ ofImage s k
   unfolding guardNumber
   image-passed k i e = e ∙ rw (eq-eqb (imageFault s) 0 i)
 
-  pub operation-turned : (op k : ℕ) → imageFault s ≡ 0 → isOperation op ≡ false → 6 ≡ ofImage s (guardNumber (isOperation op) 6 k)
+  pub operation-refused : (op k : ℕ) → imageFault s ≡ 0 → isOperation op ≡ false → 6 ≡ ofImage s (guardNumber (isOperation op) 6 k)
   unfolding guardNumber
-  operation-turned op k i o = image-passed (guardNumber (isOperation op) 6 k) i (rw o)
+  operation-refused op k i o = image-passed (guardNumber (isOperation op) 6 k) i (rw o)
 
   pub operation-passed : (op k : ℕ) {r : ℕ} → imageFault s ≡ 0 → isOperation op ≡ true → r ≡ k → r ≡ ofImage s (guardNumber (isOperation op) 6 k)
   unfolding guardNumber

@@ -11,7 +11,7 @@ use Rattle.sketch.specs.Lists.{guardNumber}
 use Rattle.sketch.specs.Drawing.{Drawing, limits}
 use Rattle.image.specs.Image.{imageFault, drawingOf}
 use Rattle.image.specs.Encode.{encode, drawingSize}
-use Rattle.image.specs.Message.{operationOf}
+use Rattle.image.specs.Message.{operationOf, isOperation}
 use Rattle.image.specs.declared.Operation.the-variants.{Extend}
 use Rattle.relations.specs.Met.{unmetAt}
 use Rattle.edit_plan.specs.declared.Removed.{Removed}
@@ -19,9 +19,6 @@ use Rattle.edit_plan.specs.Outcome.{Outcome, refused, accepted, _then_, guard}
 use Rattle.modify.specs.Edits.{editOf, editUntested}
 
 -- ---- one edit
-
-abbrev pub isOperation : ℕ → Bool
-isOperation n = leb 1 n && leb n 3
 
 -- by its operation's number; 6 where none has it
 abbrev pub editBy : ℕ → Drawing → ℕ → Vec2 → Outcome Drawing Removed
@@ -35,7 +32,7 @@ editImage op s t p = guard (eqb (imageFault s) 0) (imageFault s) (editBy op (dra
 abbrev pub fitting : ℕ → Outcome Drawing Removed → Outcome Drawing Removed
 fitting room o = o then (λ d r. guard (leb (12 + drawingSize d) room) 25 (accepted d r))
 
--- the report: the curve that went and its ends
+-- the report: the removed curve and its ends
 abbrev pub report : Removed → List ℕ
 report r = bytes 4 (r .curve) ++ (bytes 4 (r .from) ++ bytes 4 (r .to))
 
@@ -58,9 +55,9 @@ pub record Wrote (o : Outcome Drawing Removed) (before later : List ℕ) (r : �
 pub record EditMade (op : ℕ) (s : List ℕ) (t : ℕ) (p : Vec2) (before later : List ℕ) (r : ℕ) : Type 0 where
   pub number : r % 65536 ≡ numberOf (fitting (length before) (editImage op s t p))
   pub buffer : later ≡ leftIn (fitting (length before) (editImage op s t p)) before
-  pub quiet : (r % 65536 ≡ 13 → ⊥) → (r % 65536 ≡ 19 → ⊥) → r / 65536 ≡ 0
+  pub no-place : (r % 65536 ≡ 13 → ⊥) → (r % 65536 ≡ 19 → ⊥) → r / 65536 ≡ 0
   pub unmet-before : imageFault s ≡ 0 → op ≡ 3 → r % 65536 ≡ 13 → unmetAt (drawingOf s) (r / 65536) ≡ true
-  pub unmet-after : imageFault s ≡ 0 → op ≡ 3 → r % 65536 ≡ 19 → (d′ : Drawing) (told : Removed) → editUntested Extend limits (drawingOf s) t p ≡ accepted d′ told → unmetAt d′ (r / 65536) ≡ true
+  pub unmet-after : imageFault s ≡ 0 → op ≡ 3 → r % 65536 ≡ 19 → (d′ : Drawing) (removed : Removed) → editUntested Extend limits (drawingOf s) t p ≡ accepted d′ removed → unmetAt d′ (r / 65536) ≡ true
 
 -- ---- many times over
 
@@ -72,7 +69,7 @@ ofImage s k = guardNumber (eqb (imageFault s) 0) (imageFault s) k
 abbrev pub repeated : ℕ → ℕ → ℕ
 repeated times k = times * k % 2 ^ 32
 
--- what one edit adds: a refusal's number, or the next id and the id of the curve that went
+-- what one edit adds: a refusal's number, or the next id and the id of the removed curve
 unfoldable pub editAdds : Outcome Drawing Removed → ℕ
 editAdds (refused n) = n
 editAdds (accepted d r) = (d .next + r .curve) % 2 ^ 32

@@ -4,12 +4,7 @@ use mathlib.Core.List.{List}
 use mathlib.Core.Path.{_≡_}
 use lib.ListN.{length, set}
 use lib.Ieee.{Float}
-use Rattle.bernstein.specs.Roots.{RootsResult, found, refused, leftIn}
-
--- the refusal's number, or 0
-abbrev pub numberOf : RootsResult → ℕ
-numberOf (found l b) = 0
-numberOf (refused w b) = w
+use Rattle.bernstein.specs.Roots.{RootsResult, found, refused, leftIn, numberOf}
 
 abbrev pub countOf : RootsResult → ℕ
 countOf (found l b) = length l

@@ -5,13 +5,13 @@ use lib.Ieee.{Float}
 use Rattle.sketch.specs.Lists.{guardNumber}
 use Rattle.sketch.specs.Drawing.{Drawing}
 use Rattle.image.specs.Image.{drawingOf}
-use Rattle.image.specs.Message.{operationOf, messageSize}
+use Rattle.image.specs.Message.{operationOf, messageSize, isOperation}
 use Rattle.image.specs.declared.Operation.{Operation}
 use Rattle.edit_plan.specs.declared.Removed.{Removed}
 use Rattle.edit_plan.specs.Outcome.{Outcome, refused, accepted}
 use Rattle.agreement.specs.Machines.{State, WallReply, wallRefused, wallOld, wallApplied, callOutcome, wallTransition}
 use Rattle.replication.specs.Protocol.{protocol}
-use Rattle.probe.specs.Edits.{isOperation, ofImage, repeated}
+use Rattle.probe.specs.Edits.{ofImage, repeated}
 
 -- an image's drawing after so many edits
 abbrev pub imageState : List ℕ → ℕ → State Drawing

@@ -10,11 +10,11 @@ ghost use Prim.Native.Nat.{_+_, _*_, _%_};
 ghost use Rattle.geom.specs.Plane.{vec};
 ghost use Rattle.sketch.specs.Drawing.{view, limits};
 ghost use Rattle.sketch.specs.Valid.{sketchFault};
-ghost use Rattle.image.specs.Message.{operationOf};
+ghost use Rattle.image.specs.Message.{operationOf, isOperation};
 ghost use Rattle.edit_plan.specs.Outcome.{accepted};
 ghost use Rattle.modify.specs.Edits.{editOf};
 ghost use Rattle.replication.specs.Transitions.{reportedPlace};
-ghost use Rattle.probe.specs.Edits.{isOperation, Wrote, EditMade, editAdds, repeated, editsSum};
+ghost use Rattle.probe.specs.Edits.{Wrote, EditMade, editAdds, repeated, editsSum};
 
 // A report's size in bytes.
 const REPORT: usize = 12;
@@ -94,7 +94,7 @@ pub extern "C" fn mulkefi_edit(
     write_edited(after, removed, out)
 }
 
-// What one edit adds to a sum: a refusal's number, or the next id and the id of the curve that went.
+// What one edit adds to a sum: a refusal's number, or the next id and the id of the removed curve.
 fn edit_adds(operation: Operation, sk: Sketch, curve: Id, at: Vec2) -> u32
     requires { ⌜ sketchFault sk ≡ 0 ⌝ }
     ensures { λ r. ⌜ r ≡ editAdds (editOf operation limits (view sk) curve at) ⌝ }

@@ -31,7 +31,7 @@ use Rattle.sketch.proofs.Walks.{column-on}
 use Rattle.sketch_geometry.specs.Columns.{PointColumns}
 use Rattle.relations.specs.declared.CurveRow.{CurveRow}
 use Rattle.relations.specs.Columns.{CurveColumns, IdAt, RowOf}
-use Rattle.relations.specs.Filled.{partsOf, partsAt, Each, CurvesFilled}
+use Rattle.relations.specs.Filled.{partsOf, partsAt, EachOfFirst, CurvesFilled}
 
 -- ---- a kind's parts
 
@@ -49,7 +49,7 @@ freeform-parts (Conic a p b rho) h = refl
 -- ---- a turn
 
 -- one entry more
-each-on : {A : Type 0} (P : ℕ → A → Type 0) (d : A) (column : List A) (i : ℕ) (v : A) → i < length column → P i v → Each i d column P → Each (i + 1) d (set column i v) P
+each-on : {A : Type 0} (P : ℕ → A → Type 0) (d : A) (column : List A) (i : ℕ) (v : A) → i < length column → P i v → EachOfFirst i d column P → EachOfFirst (i + 1) d (set column i v) P
 each-on P d column i v h e w k q = go (eqb k i) refl
   where
     go : (b : Bool) → eqb k i ≡ b → P k (getD (set column i v) k d)
@@ -113,7 +113,7 @@ stands {id} {ids} {k} a e f =
     (λ q. never (sym (f .nowhere a (omega (arith, f .within))) ∙ e))
     (λ q. (q, f .here q))
 
--- what is laid of a sound curve tells it
+-- the row of a sound curve determines it
 module _ {ids : List ℕ} (h : Ascends ids) {kind i j : ℕ} {number : Float} where
   tells : (k : CurveKind) (slots : List ℕ) → every (λ p. among p ids) (usesOf k slots) ≡ true → kind ≡ partsOf k .kind → Found (partsOf k .first) ids i
       → Found (partsOf k .second) ids j → number ≡ partsOf k .number → RowOf ids k kind i j number

@@ -30,23 +30,23 @@ use Rattle.relations.proofs.CurveMeasures.{whole-line, whole-arc, whole
 -- ---- a curve by its place
 
 module _ {ps : List Point} {points : List ℕ} {xs ys : List Float} (p : PointColumns ps points xs ys) (s : CurveData) where
-  -- what is told of a curve is its shape, as far as it is measured
-  told-whole : (k : CurveKind) (kind i j : ℕ) (number : Float) → RowOf points k kind i j number → s .kind ≡ kind → s .a ≡ position xs ys i → s .b ≡ position xs ys j → s .number ≡ number
+  -- a curve's row gives its shape, as far as it is measured
+  answered-whole : (k : CurveKind) (kind i j : ℕ) (number : Float) → RowOf points k kind i j number → s .kind ≡ kind → s .a ≡ position xs ys i → s .b ≡ position xs ys j → s .number ≡ number
       → wholeOf s ≡ whole (shapeOf ps k)
   unfolding whole shapeOf
-  told-whole (Line a b) kind i j number t e f g h =
+  answered-whole (Line a b) kind i j number t e f g h =
       let u : s .a ≡ positionOf ps a = f ∙ spot-stands p a i (t .1 .0) (t .1 .1) in
       let v : s .b ≡ positionOf ps b = g ∙ spot-stands p b j (t .2 .0) (t .2 .1) in
       whole-line s (e ∙ t .0) ∙ rw (u, v)
-  told-whole (Arc c a b) kind i j number t e f g h =
+  answered-whole (Arc c a b) kind i j number t e f g h =
       let u : s .a ≡ positionOf ps c = f ∙ spot-stands p c i (t .1 .0) (t .1 .1) in
       let v : s .b ≡ positionOf ps a = g ∙ spot-stands p a j (t .2 .0) (t .2 .1) in
       whole-arc s (e ∙ t .0) ∙ rw (u, v)
-  told-whole (Circle c r) kind i j number t e f g h =
+  answered-whole (Circle c r) kind i j number t e f g h =
       let u : s .a ≡ positionOf ps c = f ∙ spot-stands p c i (t .1 .0) (t .1 .1) in
       whole-circle s (e ∙ t .0) ∙ rw (u, h ∙ t .2)
-  told-whole (Bezier n) kind i j number t e f g h = whole-none s (λ z. omega arith) (λ z. omega arith) (λ z. omega arith)
-  told-whole (Conic a m b rho) kind i j number t e f g h = whole-none s (λ z. omega arith) (λ z. omega arith) (λ z. omega arith)
+  answered-whole (Bezier n) kind i j number t e f g h = whole-none s (λ z. omega arith) (λ z. omega arith) (λ z. omega arith)
+  answered-whole (Conic a m b rho) kind i j number t e f g h = whole-none s (λ z. omega arith) (λ z. omega arith) (λ z. omega arith)
 
 module _ {ps : List Point} {cs : List Curve} {points ids kinds firsts seconds : List ℕ} {xs ys numbers : List Float}
     (p : PointColumns ps points xs ys) (w : CurveColumns points cs ids kinds firsts seconds numbers) (s : CurveData) (id k : ℕ) (f : Found id ids k) where
@@ -61,7 +61,7 @@ module _ {ps : List Point} {cs : List Curve} {points ids kinds firsts seconds : 
       let r : Ascends (curveIds cs) = rw (← w .ids-are) (w .rise) in
       let i : getD cs k noCurve .id ≡ id = sym (getD-mapped (λ (x : Curve). x .id) 0 noCurve cs k q) ∙ ap (λ u. getD u k 0) (sym (w .ids-are)) ∙ f .here l in
       let n : curveIn cs id ≡ some (getD cs k noCurve) = ap (curveIn cs) (sym i) ∙ curve-at noCurve cs k r q in
-      rw n (told-whole p s (getD cs k noCurve .kind) _ _ _ _ (w .each k q) d e g h)
+      rw n (answered-whole p s (getD cs k noCurve .kind) _ _ _ _ (w .each k q) d e g h)
 
   missing : length ids ≤ k → s .kind ≡ 0 → wholeOf s ≡ whole (shapeIn ps cs id)
   unfolding shapeFrom whole

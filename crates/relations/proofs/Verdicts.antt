@@ -19,11 +19,11 @@ module _ (s : Sketch) (h : sketchFault s ≡ 0) (e : length (s .relations) ≡ 2
       let z = sketch-valid s h .0 .relations in
       length-map (take (s .nrelations) (s .relations)) (λ (r : RelationSlot). r .relation) ∙ rw length-take (omega arith)
 
-  pub told-met : s .nrelations ≤ k → UnmetAnswer s Met
-  told-met q = (h, none-fails (met (view s .points) (view s .curves)) (view s .relations) (omega (arith, as-many)))
+  pub answered-met : s .nrelations ≤ k → UnmetAnswer s Met
+  answered-met q = (h, none-fails (met (view s .points) (view s .curves)) (view s .relations) (omega (arith, as-many)))
 
-  pub told-unmet : k < s .nrelations → UnmetAnswer s (Unmet k)
-  told-unmet q = (h, rw f (fails-there (met (view s .points) (view s .curves)) (view s .relations) (omega (arith, as-many))))
+  pub answered-unmet : k < s .nrelations → UnmetAnswer s (Unmet k)
+  answered-unmet q = (h, rw f (fails-there (met (view s .points) (view s .curves)) (view s .relations) (omega (arith, as-many))))
 
 -- a place that is answered is a relation's
 pub place-below : (s : Sketch) (k : ℕ) → UnmetAnswer s (Unmet k) → k < 256

@@ -39,7 +39,7 @@ RowOf ids (Circle c r) kind i j number = (kind ≡ 3) × IdAt ids c i × (number
 RowOf ids (Bezier n) kind i j number = 3 < kind
 RowOf ids (Conic a p b rho) kind i j number = 3 < kind
 
--- the curves' ids, which rise, and what is told of each
+-- the curves' ids, which rise, and the row of each
 pub record CurveColumns (points : List ℕ) (cs : List Curve) (ids kinds firsts seconds : List ℕ) (numbers : List Float) : Type 0 where
   pub ids-are : ids ≡ curveIds cs
   pub rise : Ascends ids
@@ -49,7 +49,7 @@ pub record CurveColumns (points : List ℕ) (cs : List Curve) (ids kinds firsts 
   pub numbers-long : length numbers ≡ length ids
   pub each : (k : ℕ) → k < length cs → RowOf points (getD cs k noCurve .kind) (getD kinds k 0) (getD firsts k 0) (getD seconds k 0) (getD numbers k nan)
 
--- the shape of what is told of a curve, an arc as its whole circle
+-- the shape of a curve by its row, an arc as its whole circle
 unfoldable pub wholeOf : CurveData → Option Shape
 wholeOf s =
     ite (eqb (s .kind) 1) (some (S.Line (s .a) (s .b)))

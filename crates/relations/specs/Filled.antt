@@ -1,4 +1,4 @@
--- What the columns hold that a sketch's curves are laid out in. Definitions only.
+-- What columns hold that are filled with a sketch's curves. Definitions only.
 use Prim.Native.Nat.{ℕ, _≤_, _<_}
 use mathlib.Core.Path.{_≡_}
 use mathlib.Core.List.{List}
@@ -23,8 +23,8 @@ partsOf (Bezier n) = record { number = 0f; first = 0; second = 0; kind = 4 }
 partsOf (Conic a p b rho) = record { number = 0f; first = 0; second = 0; kind = 4 }
 
 -- what holds of each of the first n entries of a column
-abbrev pub Each : {A : Type 0} → ℕ → A → List A → (ℕ → A → Type 0) → Type 0
-Each n d column P = (k : ℕ) → k < n → P k (getD column k d)
+abbrev pub EachOfFirst : {A : Type 0} → ℕ → A → List A → (ℕ → A → Type 0) → Type 0
+EachOfFirst n d column P = (k : ℕ) → k < n → P k (getD column k d)
 
 abbrev pub partsAt : List Curve → ℕ → CurveRow
 partsAt curves k = partsOf (getD curves k noCurve .kind)
@@ -38,10 +38,10 @@ pub record CurvesFilled (curves : List Curve) (n : ℕ) (points : List ℕ) (ids
   pub seconds-long : length seconds ≡ length seconds₀
   pub numbers-long : length numbers ≡ length numbers₀
   pub ids-are : take n ids ≡ curveIds (take n curves)
-  pub each-kind : Each n 0 kinds (λ k kind. kind ≡ partsAt curves k .kind)
-  pub each-first : Each n 0 firsts (λ k i. Found (partsAt curves k .first) points i)
-  pub each-second : Each n 0 seconds (λ k i. Found (partsAt curves k .second) points i)
-  pub each-number : Each n nan numbers (λ k v. v ≡ partsAt curves k .number)
+  pub each-kind : EachOfFirst n 0 kinds (λ k kind. kind ≡ partsAt curves k .kind)
+  pub each-first : EachOfFirst n 0 firsts (λ k i. Found (partsAt curves k .first) points i)
+  pub each-second : EachOfFirst n 0 seconds (λ k i. Found (partsAt curves k .second) points i)
+  pub each-number : EachOfFirst n nan numbers (λ k v. v ≡ partsAt curves k .number)
 
 -- in columns that have the room
 abbrev pub FillsCurves : List Curve → ℕ → List ℕ → List ℕ → List ℕ → List ℕ → List ℕ → List Float → List ℕ → List ℕ → List ℕ → List ℕ → List Float → Type 0

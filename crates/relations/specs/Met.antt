@@ -1,4 +1,4 @@
--- Which relations of a drawing are met: those that hold within 1e-7. Each operation is rounded once, from left to right. Definitions only.
+-- Which relations of a drawing are met (01's term): those that hold within 1e-7. Each operation is rounded once, from left to right. Definitions only.
 use Prim.Native.Nat.{ℕ, zero, suc}
 use mathlib.Core.Bool.{Bool, true, false, not}
 use mathlib.Core.List.{List, [], _∷_}

@@ -1,4 +1,4 @@
-// A sketch's points and curves laid out as columns.
+// A sketch's curves as columns of numbers.
 use crate::CurveRow;
 use sketch::Curve;
 use sketch::CurveKind;
@@ -75,7 +75,7 @@ fn fill_columns<'a, 'b>(
     }
 }
 
-// The same where the columns have the room.
+// Fills the columns with the first n curves where they have the room, and leaves them otherwise.
 pub fn fill_curve_columns<'a, 'b>(
     curves: [Curve; 128],
     n: usize,

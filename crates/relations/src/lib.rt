@@ -35,7 +35,7 @@ struct CurveData {
     kind: u8,
 }
 
-// The same by the points' ids.
+// A curve's row with its points by id.
 struct CurveRow {
     number: f64,
     first: Id,
@@ -73,7 +73,7 @@ fn search_all(sk: Sketch) -> usize
     search_from(sk, &ids[..n], &near, &xs[..n], &ys[..n])
 }
 
-// The same from columns of the points.
+// The place of the first relation that is not met, from columns of the points.
 fn search_from<'a>(
     sk: Sketch,
     points: &'a [Id],

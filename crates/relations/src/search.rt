@@ -9,7 +9,7 @@ use crate::reading::piece_at;
 use sketch::Id;
 use sketch::Relation;
 use sketch::RelationSlot;
-use sketch_geometry::point_at;
+use sketch_geometry::position_of;
 ghost use Rattle.relations.specs.Columns.{MetAnswer, FirstUnmet};
 
 // Whether one relation is met.
@@ -30,12 +30,12 @@ fn is_met<'a>(
 {
     match relation {
         Relation::Coincident(p, q) => close(
-            point_at(p, points, near_points, xs, ys),
-            point_at(q, points, near_points, xs, ys),
+            position_of(p, points, near_points, xs, ys),
+            position_of(q, points, near_points, xs, ys),
         ),
         Relation::PointOnCurve(p, c) => on(
             piece_at(c, xs, ys, ids, near, kinds, firsts, seconds, numbers),
-            point_at(p, points, near_points, xs, ys),
+            position_of(p, points, near_points, xs, ys),
         ),
         Relation::Collinear(a, b) => is_collinear(
             piece_at(a, xs, ys, ids, near, kinds, firsts, seconds, numbers),
@@ -51,12 +51,12 @@ fn is_met<'a>(
             same(length_or_radius(s), v)
         }
         Relation::Distance(p, q, v) => {
-            let a = point_at(p, points, near_points, xs, ys);
-            let b = point_at(q, points, near_points, xs, ys);
+            let a = position_of(p, points, near_points, xs, ys);
+            let b = position_of(q, points, near_points, xs, ys);
             same(a.dist(b), v)
         }
         Relation::Midpoint(p, l) => is_midpoint(
-            point_at(p, points, near_points, xs, ys),
+            position_of(p, points, near_points, xs, ys),
             piece_at(l, xs, ys, ids, near, kinds, firsts, seconds, numbers),
         ),
         Relation::ArcLength(_, _) => true,

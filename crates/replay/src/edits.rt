@@ -18,7 +18,7 @@ ghost use lib.ListN.{length};
 
 const HEAD: usize = 38;
 
-// An accepted edit writes the curve that went with its two ends, and the image after them.
+// An accepted edit writes the removed curve with its two ends, and the image after them.
 const REPORT: usize = 12;
 
 // Room for the largest image, 21,135 bytes, and some more.

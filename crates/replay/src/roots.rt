@@ -16,7 +16,7 @@ const MOST_LENT: usize = 40;
 
 const MOST_COEFFICIENTS: usize = 20;
 
-// What the lent floats hold before the call, so that those it should leave alone can be told.
+// What the lent floats hold before the call, so that a change of those that it should leave is seen.
 const UNTOUCHED: f64 = 0.75;
 
 const UNTOUCHED_PATTERN: u64 = 0x3fe8_0000_0000_0000;

@@ -23,7 +23,7 @@ fn least(a: usize, b: usize) -> usize
     if a <= b { a } else { b }
 }
 
-// The outcome that so many bytes at the front of a buffer tell.
+// The outcome in so many bytes at the front of a buffer.
 fn outcome_told(buf: &[u8], written: usize) -> u8 {
     if written == REFUSED { get1(buf, 5) } else { 0 }
 }

@@ -1,4 +1,4 @@
-// Buffers that a writer was lent: filled with a pattern before, so that bytes it should leave alone can be told.
+// Buffers that a writer was lent: filled with a pattern before, so that a change of bytes that it should leave is seen.
 use sketch::Sketch;
 
 pub(crate) const PATTERN: u8 = 0xa5;

@@ -37,13 +37,13 @@ replication-correct start desk wall v dr wr dv =
     let g = planned-demand-3 target allMet limits protocol planned read start desk wall v dr wr dv in
     record {
       demand = g;
-      desk-drawn = λ before later q.
+      desk-drawing = λ before later q.
           let l = acceptedLog protocol (initial start) (calls before) in
           let ends : stateAt (initial start) l (length l) ≡ deskAfter (initial start) before = last-entry protocol (initial start) (calls before) ∙ sym (g .agreement .desk-state before later q) in
           let whole : take (length l) l ≡ l = take-all (length l) l (omega arith) in
           rw whole at (folded (initial start) l (length l) (linked protocol (initial start) (calls before)))
           ∙ ap (λ (t : State Drawing). accepted (t .drawing) (reports l)) ends;
-      wall-drawn = λ before later q.
+      wall-drawing = λ before later q.
           let l = acceptedLog protocol (initial start) (calls desk) in
           folded (initial start) l (wallAfter (initial start) before .count) (linked protocol (initial start) (calls desk))
           ∙ ap (λ (t : State Drawing). accepted (t .drawing) (reports (take (wallAfter (initial start) before .count) l))) (sym (g .agreement .always before later q .state));
@@ -68,7 +68,7 @@ wall-run s (c ∷ cs) v h = (h .0 .step v, wall-run (c .answer .replica) cs (h .
 
 pub started : (image : List ℕ) (r : Started) → Starts image r → (start : Drawing) → I.parse image ≡ I.accepted start → (stateOf (r .replica) ≡ initial start)
 started image r h start e =
-    let v = T.verdict-accepted (r .refusal) (view (r .replica .sketch)) start (h .reply ∙ e) .1 in
+    let v = T.result-accepted (r .refusal) (view (r .replica .sketch)) start (h .reply ∙ e) .1 in
     λ i. record { drawing = v i; count = h .zero-count i }
 
 pub calls-demand-3 :

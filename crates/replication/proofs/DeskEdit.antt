@@ -22,19 +22,19 @@ use Rattle.replication.specs.declared.Replica.{Replica}
 use Rattle.replication.specs.declared.DeskReply.the-variants as Desk
 use Rattle.replication.specs.Protocol.{Edit, isPick, messageFor, protocol}
 use Rattle.replication.specs.Transitions.{stateOf, firstFault, reportedPlace, DeskEdits}
-use Rattle.replication.proofs.Outcomes.{first-turned, first-sound, place-quiet, out-refused, out-accepted, refusal-fault, accepted-sound, edit-is, unmet}
+use Rattle.replication.proofs.Outcomes.{first-refused, first-sound, place-none, out-refused, out-accepted, refusal-fault, accepted-sound, edit-is, unmet}
 
 module _ (s : Replica) (e : Edit) (b : List ℕ) where
   abbrev call : Call Edit
   call = record { edit = e; room = length b }
 
   -- refused before the edit is looked at
-  desk-turned :
+  desk-refused :
       (k n : ℕ) → n ≡ firstFault (s .sketch) k → callOutcome protocol (stateOf s) call ≡ refused k → (k ≡ 13 → ⊥) → (k ≡ 19 → ⊥)
       → DeskEdits s (record { edit = e; before = b; after = b; answer = record { replica = s; reply = Desk.Refused n 0 } })
-  desk-turned k n f q t u =
+  desk-refused k n f q t u =
       record {
-        turned = λ h. ap M.deskRefused (first-turned (s .sketch) k f h);
+        when-refused = λ h. ap M.deskRefused (first-refused (s .sketch) k f h);
         step = λ h. record { state = sym (ap (stateAfter (stateOf s)) q); reply = ap M.deskRefused (first-sound (s .sketch) k f h) ∙ sym (ap (M.replyTo protocol e) q) };
         valid = λ h. h;
         place = λ h. record { before = λ x z. absurd (t (sym (first-sound (s .sketch) k f h) ∙ z)); after = λ x z d′ reply q. absurd (u (sym (first-sound (s .sketch) k f h) ∙ z)) };
@@ -45,12 +45,12 @@ module _ (s : Replica) (e : Edit) (b : List ℕ) where
 
   pub desk-short : length b < messageSize → (n : ℕ) → n ≡ firstFault (s .sketch) 25 → DeskEdits s (record { edit = e; before = b; after = b; answer = record { replica = s; reply = Desk.Refused n 0 } })
   unfolding guard
-  desk-short h n f = desk-turned 25 n f (rw (lt-leb messageSize (length b) h)) (λ z. omega arith) (λ z. omega arith)
+  desk-short h n f = desk-refused 25 n f (rw (lt-leb messageSize (length b) h)) (λ z. omega arith) (λ z. omega arith)
 
   module _ (room : messageSize ≤ length b) where
     pub desk-full : maxEditNumber ≤ s .count → (n : ℕ) → n ≡ firstFault (s .sketch) 23 → DeskEdits s (record { edit = e; before = b; after = b; answer = record { replica = s; reply = Desk.Refused n 0 } })
     unfolding guard
-    desk-full h n f = desk-turned 23 n f (rw (le-leb messageSize (length b) room, le-ltb (s .count) maxEditNumber h)) (λ z. omega arith) (λ z. omega arith)
+    desk-full h n f = desk-refused 23 n f (rw (le-leb messageSize (length b) room, le-ltb (s .count) maxEditNumber h)) (λ z. omega arith) (λ z. omega arith)
 
     module _ (low : s .count < maxEditNumber) (r : Edited) (a : EditAnswer (e .operation) (s .sketch) (e .curve) (e .at) r) (f : isPick (e .at) ≡ true) where
       came : sketchFault (s .sketch) ≡ 0 → callOutcome protocol (stateOf s) call ≡ withCount (s .count + 1) (outcomeOf r)
@@ -62,13 +62,13 @@ module _ (s : Replica) (e : Edit) (b : List ℕ) where
           → DeskEdits s (record { edit = e; before = b; after = b; answer = record { replica = s; reply = Desk.Refused (r .refusal) place } })
       desk-declined z place p =
           record {
-            turned = λ h. ap M.deskRefused (refusal-fault (s .sketch) e r a h z);
+            when-refused = λ h. ap M.deskRefused (refusal-fault (s .sketch) e r a h z);
             step = λ h.
                 let q = came h ∙ ap (withCount (s .count + 1)) (out-refused (s .sketch) e r a z) in
                 record { state = sym (ap (stateAfter (stateOf s)) q); reply = sym (ap (M.replyTo protocol e) q) };
             valid = λ h. h;
             place = λ h. unmet (s .sketch) e r a place p;
-            no-place = place-quiet (r .refusal) (r .place) p;
+            no-place = place-none (r .refusal) (r .place) p;
             kept = refl;
             buffer = refl;
           }
@@ -87,7 +87,7 @@ module _ (s : Replica) (e : Edit) (b : List ℕ) where
       desk-done z now w h =
           let is = buffer-is now w h in
           record {
-            turned = λ g. absurd (accepted-sound (s .sketch) e r a g z);
+            when-refused = λ g. absurd (accepted-sound (s .sketch) e r a g z);
             step = λ g.
                 let q = came g ∙ ap (withCount (s .count + 1)) (out-accepted (s .sketch) e r a z) in
                 record { state = sym (ap (stateAfter (stateOf s)) q); reply = ap (M.deskAccepted (r .removed)) (ap (take messageSize) is ∙ front) ∙ sym (ap (M.replyTo protocol e) q) };

@@ -28,9 +28,9 @@ use Rattle.replication.proofs.Decoding.{need-accepted}
 
 -- ---- the sketch's own number first
 
-pub first-turned : (s : Sketch) (k : ℕ) {n : ℕ} → n ≡ firstFault s k → (sketchFault s ≡ 0 → ⊥) → n ≡ sketchFault s
+pub first-refused : (s : Sketch) (k : ℕ) {n : ℕ} → n ≡ firstFault s k → (sketchFault s ≡ 0 → ⊥) → n ≡ sketchFault s
 unfolding guardNumber
-first-turned s k e h = e ∙ rw (ne-eqb (sketchFault s) 0 h)
+first-refused s k e h = e ∙ rw (ne-eqb (sketchFault s) 0 h)
 
 pub first-sound : (s : Sketch) (k : ℕ) {n : ℕ} → n ≡ firstFault s k → sketchFault s ≡ 0 → n ≡ k
 unfolding guardNumber
@@ -47,8 +47,8 @@ first-else s k {n} e h = sym (rw (eq-eqb (sketchFault s) 0 (sym e ∙ h)))
 
 -- ---- the place
 
-pub place-quiet : (k p : ℕ) {n : ℕ} → n ≡ reportedPlace k p → NoPlace k n
-place-quiet k p e a b = e ∙ rw (ne-eqb k 13 a, ne-eqb k 19 b)
+pub place-none : (k p : ℕ) {n : ℕ} → n ≡ reportedPlace k p → NoPlace k n
+place-none k p e a b = e ∙ rw (ne-eqb k 13 a, ne-eqb k 19 b)
 
 place-13 : (k p : ℕ) → k ≡ 13 → reportedPlace k p ≡ p
 place-13 k p h = rw (eq-eqb k 13 h)

@@ -89,10 +89,10 @@ pub record Follows (s₀ : Replica) (bytes : List ℕ) (s : Replica) (at : ℕ) 
   pub valid : sketchFault (s .sketch) ≡ 0
   pub on : wallAfterMessages (stateOf s) (chunks (drop at bytes)) ≡ wallAfterMessages (stateOf s₀) (chunks bytes)
 
-pub follows-more :
+pub delivers-more :
     (s₀ : Replica) (bytes : List ℕ) (s : Replica) (at r : ℕ) → Follows s₀ bytes s at → at < length bytes → r ≡ least messageSize (length bytes - at) → r ≤ length bytes - at
     → (a : WallTransition) → WallDelivers s (wallCall (take (at + r - at) (drop at bytes)) a) → Follows s₀ bytes (a .replica) (at + r)
-follows-more s₀ bytes s at r f h e le a w =
+delivers-more s₀ bytes s at r f h e le a w =
     let l = drop at bytes in
     let n : length l ≡ length bytes - at = length-drop at bytes in
     let q : at + r - at ≡ r = omega arith in
@@ -106,8 +106,8 @@ follows-more s₀ bytes s at r f h e le a w =
       on = ap (λ (m : List ℕ). wallAfterMessages (stateOf (a .replica)) (chunks m)) d ∙ more s l (omega arith) a (f .valid) w2 ∙ f .on;
     }
 
-pub follows-all : (s₀ : Replica) (bytes : List ℕ) (s : Replica) (at : ℕ) → Follows s₀ bytes s at → length bytes ≤ at → DeliversAll s₀ bytes s
-follows-all s₀ bytes s at f h =
+pub delivers-all : (s₀ : Replica) (bytes : List ℕ) (s : Replica) (at : ℕ) → Follows s₀ bytes s at → length bytes ≤ at → DeliversAll s₀ bytes s
+delivers-all s₀ bytes s at f h =
     record { is = ap (λ (l : List ℕ). wallAfterMessages (stateOf s) (chunks l)) (sym (drop-of-length-le bytes h)) ∙ f .on; valid = f .valid }
 
 -- ---- what is written
@@ -167,15 +167,15 @@ module _ (sk : Sketch) (v : sketchFault sk ≡ 0) (b now : List ℕ) (r : ℕ) (
 
 -- ---- the whole
 
-verdict-refused : (n : ℕ) (d : Drawing) → (n ≡ 0 → ⊥) → I.resultOf n d ≡ I.refused n
+result-refused : (n : ℕ) (d : Drawing) → (n ≡ 0 → ⊥) → I.resultOf n d ≡ I.refused n
 unfolding I.resultOf
-verdict-refused zero d h = absurd (h refl)
-verdict-refused (suc n) d h = refl
+result-refused zero d h = absurd (h refl)
+result-refused (suc n) d h = refl
 
-pub verdict-none : (n : ℕ) (d : Drawing) → n ≡ 0 → I.resultOf n d ≡ I.accepted d
+pub result-none : (n : ℕ) (d : Drawing) → n ≡ 0 → I.resultOf n d ≡ I.accepted d
 unfolding I.resultOf
-verdict-none zero d h = refl
-verdict-none (suc n) d h = absurd (omega arith)
+result-none zero d h = refl
+result-none (suc n) d h = absurd (omega arith)
 
 pub end-is : (n : ℕ) {f k r : ℕ} → k ≡ f → r ≡ least (4 + k) n → r ≡ least (4 + f) n
 end-is n p q = q ∙ ap (λ (k : ℕ). least (4 + k) n) p
@@ -194,19 +194,19 @@ module _ (s : List ℕ) (end : ℕ) (e : end ≡ least (imageEnd s) (length s)) 
 
   pub played-refused : (r .refusal ≡ 0 → ⊥) → (b now : List ℕ) (n : ℕ) → WritesOutcome (I.refused (r .refusal)) b now n → WritesOutcome (programOutcome s) b now n
   played-refused h b now n w =
-      let q : programOutcome s ≡ I.refused (r .refusal) = ap (λ (o : I.ParseResult). outcomeOn o (chunks (drop (imageEnd s) s))) (reply ∙ verdict-refused (r .refusal) _ h) in
+      let q : programOutcome s ≡ I.refused (r .refusal) = ap (λ (o : I.ParseResult). outcomeOn o (chunks (drop (imageEnd s) s))) (reply ∙ result-refused (r .refusal) _ h) in
       subst (λ (o : I.ParseResult). WritesOutcome o b now n) (sym q) w
 
-  pub played-shown :
+  pub program-outcome :
       r .refusal ≡ 0 → (last : Replica) → DeliversAll (r .replica) (take (length s - end) (drop end s)) last → (b now : List ℕ) (n : ℕ)
       → WritesOutcome (I.accepted (view (last .sketch))) b now n → WritesOutcome (programOutcome s) b now n
-  played-shown h last f b now n w =
+  program-outcome h last f b now n w =
       let d = view (r .replica .sketch) in
       let z : stateOf (r .replica) ≡ initial d = λ i. record { drawing = d; count = st .zero-count i } in
       let m : stateOf last ≡ wallAfterMessages (initial d) (chunks (drop (imageEnd s) s)) =
       f .is ∙ ap (λ (l : List ℕ). wallAfterMessages (stateOf (r .replica)) (chunks l)) rest-is ∙ ap (λ (t : State Drawing). wallAfterMessages t (chunks (drop (imageEnd s) s))) z
       in
       let q : programOutcome s ≡ I.accepted (view (last .sketch)) =
-      ap (λ (o : I.ParseResult). outcomeOn o (chunks (drop (imageEnd s) s))) (reply ∙ verdict-none (r .refusal) d h) ∙ ap (λ (t : State Drawing). I.accepted (t .drawing)) (sym m)
+      ap (λ (o : I.ParseResult). outcomeOn o (chunks (drop (imageEnd s) s))) (reply ∙ result-none (r .refusal) d h) ∙ ap (λ (t : State Drawing). I.accepted (t .drawing)) (sym m)
       in
       subst (λ (o : I.ParseResult). WritesOutcome o b now n) (sym q) w

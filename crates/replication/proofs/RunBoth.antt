@@ -12,7 +12,7 @@ use Rattle.sketch.specs.Lists.{guardNumber}
 use Rattle.sketch.specs.Drawing.{Drawing, view}
 use Rattle.sketch.proofs.Sketches.{sketch-valid}
 use Rattle.image.specs.Image as I
-use Rattle.image.proofs.RoundTrips.{verdict-accepted}
+use Rattle.image.proofs.RoundTrips.{result-accepted}
 use Rattle.image.specs.Message.{messageSize}
 use Rattle.agreement.specs.Machines.{State, initial, Call, calls, acceptedLog, messages, WallRun, wallAfter}
 use Rattle.agreement.proofs.Runs.{written, desk-messages}
@@ -22,7 +22,7 @@ use Rattle.replication.specs.Protocol.{Edit, protocol}
 use Rattle.replication.specs.Transitions.{stateOf, Starts}
 use Rattle.replication.specs.RunBoth.{firstNonzero, callsIn, hasRoom, allBelow, DeskRan, messagesInLog, WallRan, InLog, RunsBoth, callSize, maxRoom}
 use Rattle.replication.proofs.Demand3.{replication-correct}
-use Rattle.replication.proofs.Program.{verdict-none}
+use Rattle.replication.proofs.Program.{result-none}
 use Rattle.replication.proofs.Runs.{Below, deliver, log-holds}
 
 -- ---- whether all places are below a number
@@ -73,12 +73,12 @@ room-is size room e = go (leb maxRoom room) refl (leb (size / callSize) ((room -
 
 -- ---- the start
 
-verdict-number : (n m : ℕ) (d d′ : Drawing) → I.resultOf n d ≡ I.resultOf m d′ → n ≡ m
+result-number : (n m : ℕ) (d d′ : Drawing) → I.resultOf n d ≡ I.resultOf m d′ → n ≡ m
 unfolding I.resultOf
-verdict-number zero zero d d′ e = refl
-verdict-number zero (suc m) d d′ e = let z : _≡_ {A = ℕ} 0 1 = cc in absurd (omega arith)
-verdict-number (suc n) zero d d′ e = let z : _≡_ {A = ℕ} 0 1 = cc in absurd (omega arith)
-verdict-number (suc n) (suc m) d d′ e = cc
+result-number zero zero d d′ e = refl
+result-number zero (suc m) d d′ e = let z : _≡_ {A = ℕ} 0 1 = cc in absurd (omega arith)
+result-number (suc n) zero d d′ e = let z : _≡_ {A = ℕ} 0 1 = cc in absurd (omega arith)
+result-number (suc n) (suc m) d d′ e = cc
 
 or-first : (n m : ℕ) → (n ≡ 0 → ⊥) → firstNonzero n m ≡ n
 or-first zero m h = absurd (h refl)
@@ -93,7 +93,7 @@ module _ (image entries order : List ℕ) (room : ℕ) (s : Started) (st : Start
   start = view (s .replica .sketch)
 
   fault-is : s .refusal ≡ I.imageFault image
-  fault-is = verdict-number (s .refusal) (I.imageFault image) start (I.drawingOf image) (st .reply)
+  fault-is = result-number (s .refusal) (I.imageFault image) start (I.drawingOf image) (st .reply)
 
   pub not-started : (s .refusal ≡ 0 → ⊥) → RunsBoth image entries order room (record { desk = s .replica; wall = s .replica; refusal = s .refusal })
   not-started h =
@@ -107,13 +107,13 @@ module _ (image entries order : List ℕ) (room : ℕ) (s : Started) (st : Start
     fault-none = sym fault-is ∙ z
 
     image-is : I.parse image ≡ I.accepted start
-    image-is = sym (st .reply) ∙ verdict-none (s .refusal) start z
+    image-is = sym (st .reply) ∙ result-none (s .refusal) start z
 
     start-is : I.drawingOf image ≡ start
-    start-is = verdict-accepted (I.imageFault image) (I.drawingOf image) start image-is .1
+    start-is = result-accepted (I.imageFault image) (I.drawingOf image) start image-is .1
 
-    side-is : stateOf (s .replica) ≡ initial start
-    side-is i = record { drawing = start; count = st .zero-count i }
+    state-is : stateOf (s .replica) ≡ initial start
+    state-is i = record { drawing = start; count = st .zero-count i }
 
     pub no-room : hasRoom (length entries) room ≡ false → RunsBoth image entries order room (record { desk = s .replica; wall = s .replica; refusal = 25 })
     unfolding guardNumber
@@ -141,7 +141,7 @@ module _ (image entries order : List ℕ) (room : ℕ) (s : Started) (st : Start
       both-ran h t a =
           let b = below-of (w .count) order h in
           let fed = a .fed ∙ log-holds start (callsIn entries) log order w r b in
-          let run : WallRun protocol (initial start) (a .steps) = subst (λ (u : State Drawing). WallRun protocol u (a .steps)) side-is (a .run) in
+          let run : WallRun protocol (initial start) (a .steps) = subst (λ (u : State Drawing). WallRun protocol u (a .steps)) state-is (a .run) in
           record {
             number = sym (or-second (I.imageFault image) _ fault-none ∙ rw enough (ap (λ (n : ℕ). guardNumber (allBelow n order) 7 0) ledger-long ∙ rw h));
             held = λ z. record {
@@ -154,7 +154,7 @@ module _ (image entries order : List ℕ) (room : ℕ) (s : Started) (st : Start
               desk-fed = r .fed;
               wall-fed = fed;
               desk-ends = r .ends;
-              wall-ends = ap (λ (u : State Drawing). wallAfter u (a .steps)) (sym side-is) ∙ a .ends;
+              wall-ends = ap (λ (u : State Drawing). wallAfter u (a .steps)) (sym state-is) ∙ a .ends;
               correct =
                   replication-correct start (r .steps) (a .steps) (sketch-valid (s .replica .sketch) (st .valid) .1) (r .run) run
                   (deliver (messages (r .steps)) order (a .steps) (λ k h. omega (arith, b k h, r .many)) fed);

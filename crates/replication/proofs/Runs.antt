@@ -113,8 +113,8 @@ thirties-append : (xs ys : List (List ℕ)) → MessageSized xs → MessageSized
 thirties-append [] ys h k = k
 thirties-append (m ∷ xs) ys h k = (h .0, thirties-append xs ys (h .1) k)
 
-drew-none : (s : Replica) (log : List ℕ) → sketchFault (s .sketch) ≡ 0 → s .count ≡ 0 → DeskRan (view (s .sketch)) [] log s
-drew-none s log v z =
+desk-ran-none : (s : Replica) (log : List ℕ) → sketchFault (s .sketch) ≡ 0 → s .count ≡ 0 → DeskRan (view (s .sketch)) [] log s
+desk-ran-none s log v z =
     let n : messageSize * s .count ≡ 0 = omega arith in
     record {
       steps = [];
@@ -207,22 +207,22 @@ module _
           ll,
         )
 
-    drew-more :
+    desk-ran-more :
         (a : DeskTransition) (p : List ℕ) → DeskEdits w (record { edit = e; before = lent; after = p; answer = a })
         → DeskRan d (cs ++ (record { edit = e; room = room } ∷ [])) (putMid from room log p) (a .replica) × (length (putMid from room log p) ≡ length log)
-    drew-more a p step =
+    desk-ran-more a p step =
         let h = step .step (r .valid) in
         subst (λ (n : ℕ). DeskRan d (cs ++ (record { edit = e; room = n } ∷ [])) (putMid from room log p) (a .replica) × (length (putMid from room log p) ≡ length log)) lent-long
         (by-case (a .replica) (a .reply) p step (callOutcome protocol (stateOf w) (record { edit = e; room = length lent })) refl (h .state) (h .reply) (step .buffer))
 
 -- the next call of a list
-pub drew-next :
+pub desk-ran-next :
     (d : Drawing) (entries log : List ℕ) (i : ℕ) (w : Replica) → i < length entries / callSize → messageSize * (length entries / callSize) + maxRoom ≤ length log
     → DeskRan d (rows i (callAt entries)) log w → (from k : ℕ) → from ≡ messageSize * w .count → k ≡ field entries (i * callSize + roomAt) 1 → k < 256
     → (a : DeskTransition) (p : List ℕ) → DeskEdits w (record { edit = editAt entries (i * callSize); before = midOf from k log; after = p; answer = a })
     → DeskRan d (rows (suc i) (callAt entries)) (putMid from k log p) (a .replica) × (length (putMid from k log p) ≡ length log)
 unfolding rows
-drew-next d entries log i w h room r from k f g small a p =
+desk-ran-next d entries log i w h room r from k f g small a p =
     let few : w .count ≤ i = omega (arith, r .few, rows-length i (callAt entries)) in
     let fits : messageSize * w .count + field entries (i * callSize + roomAt) 1 ≤ length log = omega arith in
     subst
@@ -233,14 +233,14 @@ drew-next d entries log i w h room r from k f g small a p =
     (λ (m : ℕ). DeskEdits w (record { edit = editAt entries (i * callSize); before = midOf (messageSize * w .count) m log; after = p; answer = a })
     → DeskRan d (rows i (callAt entries) ++ (callAt entries i ∷ [])) (putMid (messageSize * w .count) m log p) (a .replica) × (length (putMid (messageSize * w .count) m log p) ≡ length log))
     (sym g)
-    (drew-more d (rows i (callAt entries)) log w r (editAt entries (i * callSize)) (field entries (i * callSize + roomAt) 1) fits a p))
+    (desk-ran-more d (rows i (callAt entries)) log w r (editAt entries (i * callSize)) (field entries (i * callSize + roomAt) 1) fits a p))
 
-pub drew-all : (d : Drawing) (entries log : List ℕ) (i : ℕ) (w : Replica) → i ≡ length entries / callSize → DeskRan d (rows i (callAt entries)) log w → DeskRan d (callsIn entries) log w
-drew-all d entries log i w h r = subst (λ (n : ℕ). DeskRan d (rows n (callAt entries)) log w) h r
+pub desk-ran-all : (d : Drawing) (entries log : List ℕ) (i : ℕ) (w : Replica) → i ≡ length entries / callSize → DeskRan d (rows i (callAt entries)) log w → DeskRan d (callsIn entries) log w
+desk-ran-all d entries log i w h r = subst (λ (n : ℕ). DeskRan d (rows n (callAt entries)) log w) h r
 
-pub drew-start : (s : Replica) (entries log : List ℕ) → sketchFault (s .sketch) ≡ 0 → s .count ≡ 0 → DeskRan (view (s .sketch)) (rows 0 (callAt entries)) log s
+pub desk-ran-start : (s : Replica) (entries log : List ℕ) → sketchFault (s .sketch) ≡ 0 → s .count ≡ 0 → DeskRan (view (s .sketch)) (rows 0 (callAt entries)) log s
 unfolding rows
-drew-start s entries log v z = drew-none s log v z
+desk-ran-start s entries log v z = desk-ran-none s log v z
 
 -- a call is by its parts
 pub same-edit :

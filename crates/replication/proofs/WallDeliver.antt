@@ -12,7 +12,7 @@ use Rattle.sketch.specs.Valid.{sketchFault}
 use Rattle.image.specs.declared.Message.{Message}
 use Rattle.image.specs.declared.MessageRead.the-variants.{Accepted, Refused}
 use Rattle.image.specs.Message.{messageFault, messageOf, parse}
-use Rattle.image.proofs.MessageRoundTrips.{verdict-refused}
+use Rattle.image.proofs.MessageRoundTrips.{result-refused}
 use Rattle.edit_plan.specs.declared.Edited.{Edited}
 use Rattle.edit_plan.specs.declared.Removed.{Removed}
 use Rattle.edit_plan.specs.Outcome.{Outcome, refused}
@@ -24,7 +24,7 @@ use Rattle.replication.specs.declared.Replica.{Replica}
 use Rattle.replication.specs.declared.WallReply.the-variants as Wall
 use Rattle.replication.specs.Protocol.{Edit, edit, editIn, decodedOf, protocol}
 use Rattle.replication.specs.Transitions.{stateOf, firstFault, reportedPlace, UnmetPlace, wallCall, WallDelivers}
-use Rattle.replication.proofs.Outcomes.{first-turned, first-sound, place-quiet, is-pick, nan-refused, out-refused, out-accepted, refusal-fault, accepted-sound, edit-is, unmet}
+use Rattle.replication.proofs.Outcomes.{first-refused, first-sound, place-none, is-pick, nan-refused, out-refused, out-accepted, refusal-fault, accepted-sound, edit-is, unmet}
 
 -- a message is refused by 1, 2 or 6
 small : (b : Bool) (n rest : ℕ) → n ≤ 6 → rest ≤ 6 → guardNumber b n rest ≤ 6
@@ -41,12 +41,12 @@ module _ (s : Replica) (bytes : List ℕ) where
   heard = wallTransition protocol (stateOf s) (protocol .decode bytes)
 
   -- refused before the edit is looked at, or by a number that comes with no place
-  wall-turned :
+  wall-refused :
       (k n : ℕ) → n ≡ firstFault (s .sketch) k → heard ≡ (stateOf s, wallRefused k) → (k ≡ 13 → ⊥) → (k ≡ 19 → ⊥)
       → WallDelivers s (wallCall bytes (record { replica = s; reply = Wall.Refused n 0 }))
-  wall-turned k n f q t u =
+  wall-refused k n f q t u =
       record {
-        turned = λ h. ap wallRefused (first-turned (s .sketch) k f h);
+        when-refused = λ h. ap wallRefused (first-refused (s .sketch) k f h);
         step = λ h. record { state = sym (ap (λ (w : State Drawing × M.WallReply Removed). w .0) q); reply = ap wallRefused (first-sound (s .sketch) k f h) ∙ sym (ap (λ (w : State Drawing × M.WallReply Removed). w .1) q) };
         valid = λ h. h;
         place = λ h n e o. record { before = λ x z. absurd (t (sym (first-sound (s .sketch) k f h) ∙ z)); after = λ x z d′ reply q. absurd (u (sym (first-sound (s .sketch) k f h) ∙ z)) };
@@ -57,8 +57,8 @@ module _ (s : Replica) (bytes : List ℕ) where
   pub wall-unread : (k : ℕ) → parse bytes ≡ Refused k → (n : ℕ) → n ≡ firstFault (s .sketch) k → WallDelivers s (wallCall bytes (record { replica = s; reply = Wall.Refused n 0 }))
   unfolding decodedOf
   wall-unread k e n f =
-      let low : k ≤ 6 = omega (arith, verdict-refused (messageFault bytes) (messageOf bytes) k e .0, fault-small bytes) in
-      wall-turned k n f (ap (wallTransition protocol (stateOf s)) (ap decodedOf e)) (λ z. omega arith) (λ z. omega arith)
+      let low : k ≤ 6 = omega (arith, result-refused (messageFault bytes) (messageOf bytes) k e .0, fault-small bytes) in
+      wall-refused k n f (ap (wallTransition protocol (stateOf s)) (ap decodedOf e)) (λ z. omega arith) (λ z. omega arith)
 
   module _ (m : Message) (is : parse bytes ≡ Accepted m) where
     reading : protocol .decode bytes ≡ message (m .number) (editIn m)
@@ -68,7 +68,7 @@ module _ (s : Replica) (bytes : List ℕ) where
     pub wall-fault : (n : ℕ) → n ≡ sketchFault (s .sketch) → (n ≡ 0 → ⊥) → WallDelivers s (wallCall bytes (record { replica = s; reply = Wall.Refused n 0 }))
     wall-fault n f z =
         record {
-          turned = λ h. ap wallRefused f;
+          when-refused = λ h. ap wallRefused f;
           step = λ h. absurd (z (f ∙ h));
           valid = λ h. h;
           place = λ h. absurd (z (f ∙ h));
@@ -80,7 +80,7 @@ module _ (s : Replica) (bytes : List ℕ) where
     wall-old b n f z =
         let q : heard ≡ (stateOf s, wallOld) = ap (wallTransition protocol (stateOf s)) reading ∙ rw (le-leb (m .number) (s .count) b) in
         record {
-          turned = λ h. absurd (h (sym f ∙ z));
+          when-refused = λ h. absurd (h (sym f ∙ z));
           step = λ h. record { state = sym (ap (λ (w : State Drawing × M.WallReply Removed). w .0) q); reply = sym (ap (λ (w : State Drawing × M.WallReply Removed). w .1) q) };
           valid = λ h. h;
           place = λ h. tt;
@@ -92,7 +92,7 @@ module _ (s : Replica) (bytes : List ℕ) where
       pub wall-ahead :
           (m .number ≡ s .count + 1 → ⊥) → (n : ℕ) → n ≡ firstFault (s .sketch) 7 → WallDelivers s (wallCall bytes (record { replica = s; reply = Wall.Refused n 0 }))
       wall-ahead h n f =
-          wall-turned 7 n f (ap (wallTransition protocol (stateOf s)) reading ∙ rw (lt-leb (m .number) (s .count) new, ne-eqb (m .number) (s .count + 1) h)) (λ z. omega arith) (λ z. omega arith)
+          wall-refused 7 n f (ap (wallTransition protocol (stateOf s)) reading ∙ rw (lt-leb (m .number) (s .count) new, ne-eqb (m .number) (s .count + 1) h)) (λ z. omega arith) (λ z. omega arith)
 
       module _ (next : m .number ≡ s .count + 1) where
         came : heard ≡ wallApply protocol (stateOf s) (m .number) (edit (view (s .sketch)) (editIn m))
@@ -102,7 +102,7 @@ module _ (s : Replica) (bytes : List ℕ) where
             (not (nanBits binary64 (m .x)) && not (nanBits binary64 (m .y))) ≡ false → (n : ℕ) → n ≡ firstFault (s .sketch) 9
             → WallDelivers s (wallCall bytes (record { replica = s; reply = Wall.Refused n 0 }))
         wall-nan h n f =
-            wall-turned 9 n f (came ∙ ap (wallApply protocol (stateOf s) (m .number)) (nan-refused (view (s .sketch)) (editIn m) (m .x) (m .y) refl h)) (λ z. omega arith) (λ z. omega arith)
+            wall-refused 9 n f (came ∙ ap (wallApply protocol (stateOf s) (m .number)) (nan-refused (view (s .sketch)) (editIn m) (m .x) (m .y) refl h)) (λ z. omega arith) (λ z. omega arith)
 
         module _ (r : Edited) (a : EditAnswer (m .operation) (s .sketch) (m .curve) (editIn m .at) r) where
           made : sketchFault (s .sketch) ≡ 0 → (o : Outcome Drawing Removed) → outcomeOf r ≡ o → heard ≡ wallApply protocol (stateOf s) (m .number) o
@@ -113,7 +113,7 @@ module _ (s : Replica) (bytes : List ℕ) where
               → WallDelivers s (wallCall bytes (record { replica = s; reply = Wall.Refused (r .refusal) place }))
           wall-declined z place p =
               record {
-                turned = λ h. ap wallRefused (refusal-fault (s .sketch) (editIn m) r a h z);
+                when-refused = λ h. ap wallRefused (refusal-fault (s .sketch) (editIn m) r a h z);
                 step = λ h.
                     let q = made h _ (out-refused (s .sketch) (editIn m) r a z) in
                     record { state = sym (ap (λ (w : State Drawing × M.WallReply Removed). w .0) q); reply = sym (ap (λ (w : State Drawing × M.WallReply Removed). w .1) q) };
@@ -122,7 +122,7 @@ module _ (s : Replica) (bytes : List ℕ) where
                     let same : message n e ≡ message (m .number) (editIn m) = sym o ∙ reading in
                     let w : editIn m ≡ e = cc in
                     subst (λ (e : Edit). UnmetPlace e (view (s .sketch)) (r .refusal) place) w (unmet (s .sketch) (editIn m) r a place p);
-                no-place = place-quiet (r .refusal) (r .place) p;
+                no-place = place-none (r .refusal) (r .place) p;
                 kept = refl;
               }
 
@@ -130,7 +130,7 @@ module _ (s : Replica) (bytes : List ℕ) where
               r .refusal ≡ 0 → WallDelivers s (wallCall bytes (record { replica = record { sketch = r .sketch; count = m .number }; reply = Wall.Applied (r .removed) }))
           wall-applied z =
               record {
-                turned = λ h. absurd (accepted-sound (s .sketch) (editIn m) r a h z);
+                when-refused = λ h. absurd (accepted-sound (s .sketch) (editIn m) r a h z);
                 step = λ h.
                     let q = made h _ (out-accepted (s .sketch) (editIn m) r a z) in
                     record { state = sym (ap (λ (w : State Drawing × M.WallReply Removed). w .0) q); reply = sym (ap (λ (w : State Drawing × M.WallReply Removed). w .1) q) };

@@ -1,4 +1,4 @@
--- Desk, wall and book on real drawings, and the claim over both whole lists.
+-- Desk, wall and reference machine on real drawings, and the claim over both whole lists.
 pub mod Protocol
 pub mod Transitions
 pub mod Replication

@@ -1,4 +1,4 @@
--- What the wall's program writes for what it reads: an image, then messages of 30 bytes, a shorter rest as it is. Definitions only.
+-- What the wall's program writes for what it reads: an image, then messages, a shorter rest as it is. Definitions only.
 use Prim.Native.Nat.{ℕ, zero, suc, _+_, _≤_}
 use mathlib.Core.Path.{_≡_}
 use mathlib.Core.List.{List, [], _∷_}
@@ -16,7 +16,7 @@ use Rattle.replication.specs.declared.Replica.{Replica}
 use Rattle.replication.specs.Protocol.{protocol}
 use Rattle.replication.specs.Transitions.{stateOf}
 
--- how far the image goes: four bytes, and as many as they tell
+-- where the image ends: four bytes, and as many as their value
 abbrev pub imageEnd : List ℕ → ℕ
 imageEnd s = 4 + field s 0 4
 
@@ -29,7 +29,7 @@ chunksUpTo (suc n) (b ∷ s) = take messageSize (b ∷ s) ∷ chunksUpTo n (drop
 abbrev pub chunks : List ℕ → List (List ℕ)
 chunks s = chunksUpTo (length s) s
 
--- the wall after some messages, whatever they tell
+-- the wall's state after some messages, refused ones too
 abbrev pub wallAfterMessages : State Drawing → List (List ℕ) → State Drawing
 wallAfterMessages s [] = s
 wallAfterMessages s (m ∷ ms) = wallAfterMessages (wallTransition protocol s (protocol .decode m) .0) ms
@@ -56,7 +56,7 @@ pub record WritesOutcome (o : I.ParseResult) (before later : List ℕ) (r : ℕ)
   pub buffer : later ≡ ite (leb (outputSize o) (length before)) (over before 0 (output o)) before
   pub within : r ≤ length before
 
--- a screen after the messages in some bytes
+-- a replica after the messages in some bytes
 pub record DeliversAll (s : Replica) (bytes : List ℕ) (r : Replica) : Type 0 where
   pub is : stateOf r ≡ wallAfterMessages (stateOf s) (chunks bytes)
   pub valid : sketchFault (r .sketch) ≡ 0

@@ -24,7 +24,7 @@ pub record Edit : Type 0 where
 abbrev pub isPick : Vec2 → Bool
 isPick p = fits binary64 (p .x) && fits binary64 (p .y)
 
--- what an edit comes to; what binary64 doesn't hold is no pick (9)
+-- the outcome of an edit; what binary64 doesn't hold is no pick (9)
 abbrev pub edit : Drawing → Edit → Outcome Drawing Removed
 edit d e = guard (isPick (e .at)) 9 (editOf (e .operation) limits d (e .curve) (e .at))
 

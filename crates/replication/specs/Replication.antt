@@ -24,12 +24,12 @@ edits l = map (λ x. x .edit) l
 pub record ReplicationCorrect (start : Drawing) (desk : List (DeskStep Drawing Edit Removed)) (wall : List (WallStep Drawing Removed)) : Type 0 where
   pub demand : Demand3 protocol curveView target start desk wall
   -- at its start and after each call the desk has the drawing of the edits accepted so far
-  pub desk-drawn :
+  pub desk-drawing :
       (before later : List (DeskStep Drawing Edit Removed)) → desk ≡ before ++ later
       → applyEdits start (edits (acceptedLog protocol (initial start) (calls before)))
       ≡ accepted (deskAfter (initial start) before .drawing) (reports (acceptedLog protocol (initial start) (calls before)))
   -- at its start and after each delivery the wall has the drawing of the first of the desk's accepted edits, as many as it counts
-  pub wall-drawn :
+  pub wall-drawing :
       (before later : List (WallStep Drawing Removed)) → wall ≡ before ++ later
       → applyEdits start (edits (take (wallAfter (initial start) before .count) (acceptedLog protocol (initial start) (calls desk))))
       ≡ accepted (wallAfter (initial start) before .drawing) (reports (take (wallAfter (initial start) before .count) (acceptedLog protocol (initial start) (calls desk))))

@@ -35,7 +35,7 @@ roomAt = 1 + idSize + 8 + 8
 abbrev pub callSize : ℕ
 callSize = roomAt + 1
 
--- the most room that a call's byte can tell
+-- the largest room that a call's byte can hold
 abbrev pub maxRoom : ℕ
 maxRoom = 255
 
@@ -59,7 +59,7 @@ callsIn s = rows (length s / callSize) (callAt s)
 abbrev pub messagesAt : List (List ℕ) → List ℕ → List (List ℕ)
 messagesAt ms order = map (λ o. getD ms o []) order
 
--- ---- who is turned away: the image; a log that may not hold all messages and the room lent beside them (25); a place at which there is no message (7)
+-- ---- refusals, in order: the image's; a log that may not hold all messages and the room lent beside them (25); a place at which there is no message (7)
 
 abbrev pub hasRoom : ℕ → ℕ → Bool
 hasRoom size room = leb maxRoom room && leb (size / callSize) ((room - maxRoom) / messageSize)
@@ -73,7 +73,7 @@ runBothFault image entries order room =
     (guardNumber (hasRoom (length entries) room) 25
     (guardNumber (allBelow (length (acceptedLog protocol (initial (I.drawingOf image)) (callsIn entries))) order) 7 0))
 
--- ---- what is held: the calls and deliveries as they happened, each list whole, and the claim over both
+-- ---- the run: the calls and deliveries as they happened, each list whole, and the claim over both
 
 pub record RunHolds (image entries order : List ℕ) (r : RunResult) : Type 0 where
   pub start : Drawing

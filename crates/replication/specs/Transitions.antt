@@ -47,7 +47,7 @@ pub record Starts (image : List ℕ) (r : Started) : Type 0 where
 
 pub record UnmetPlace (e : Edit) (d : Drawing) (k place : ℕ) : Type 0 where
   pub before : e .operation ≡ Extend → k ≡ 13 → unmetAt d place ≡ true
-  pub after : e .operation ≡ Extend → k ≡ 19 → (d′ : Drawing) (reply : Removed) → editUntested (e .operation) limits d (e .curve) (e .at) ≡ accepted d′ reply → unmetAt d′ place ≡ true
+  pub after : e .operation ≡ Extend → k ≡ 19 → (d′ : Drawing) (removed : Removed) → editUntested (e .operation) limits d (e .curve) (e .at) ≡ accepted d′ removed → unmetAt d′ place ≡ true
 
 -- with every other number comes 0
 abbrev pub NoPlace : ℕ → ℕ → Type 0
@@ -89,7 +89,7 @@ abbrev pub written : DeskReply → ℕ → Edit → List ℕ → List ℕ
 written (Desk.Refused k place) n e b = b
 written (Desk.Accepted r) n e b = over b 0 (encode (messageFor n e))
 
--- a refusal leaves all of a screen
+-- a refusal leaves the whole replica
 abbrev pub DeskKept : DeskReply → Replica → Replica → Type 0
 DeskKept (Desk.Refused k place) s t = t ≡ s
 DeskKept (Desk.Accepted r) s t = Unit {0}
@@ -104,7 +104,7 @@ DeskNoPlace (Desk.Accepted r) = Unit {0}
 
 -- a sketch that no image gives is refused first; on any other the call is one of the machine's, and leaves another such sketch
 pub record DeskEdits (s : Replica) (c : DeskCall) : Type 0 where
-  pub turned : (sketchFault (s .sketch) ≡ 0 → ⊥) → deskStep c .reply ≡ M.deskRefused (sketchFault (s .sketch))
+  pub when-refused : (sketchFault (s .sketch) ≡ 0 → ⊥) → deskStep c .reply ≡ M.deskRefused (sketchFault (s .sketch))
   pub step : sketchFault (s .sketch) ≡ 0 → DeskStepValid protocol (stateOf s) (deskStep c)
   pub valid : sketchFault (s .sketch) ≡ 0 → sketchFault (c .answer .replica .sketch) ≡ 0
   pub place : sketchFault (s .sketch) ≡ 0 → DeskPlace (c .answer .reply) (c .edit) (view (s .sketch))
@@ -134,7 +134,7 @@ wallReply (Wall.Applied r) = M.wallApplied r
 abbrev pub wallStep : WallCall → WallStep Drawing Removed
 wallStep c = record { bytes = c .bytes; state = stateOf (c .answer .replica); reply = wallReply (c .answer .reply) }
 
--- only an edit that is applied changes a screen
+-- only an edit that is applied changes a replica
 abbrev pub WallKept : WallReply → Replica → Replica → Type 0
 WallKept (Wall.Refused k place) s t = t ≡ s
 WallKept Wall.Old s t = t ≡ s
@@ -151,7 +151,7 @@ WallNoPlace Wall.Old = Unit {0}
 WallNoPlace (Wall.Applied r) = Unit {0}
 
 pub record WallDelivers (s : Replica) (c : WallCall) : Type 0 where
-  pub turned : (sketchFault (s .sketch) ≡ 0 → ⊥) → wallStep c .reply ≡ M.wallRefused (sketchFault (s .sketch))
+  pub when-refused : (sketchFault (s .sketch) ≡ 0 → ⊥) → wallStep c .reply ≡ M.wallRefused (sketchFault (s .sketch))
   pub step : sketchFault (s .sketch) ≡ 0 → WallStepValid protocol (stateOf s) (wallStep c)
   pub valid : sketchFault (s .sketch) ≡ 0 → sketchFault (c .answer .replica .sketch) ≡ 0
   pub place : sketchFault (s .sketch) ≡ 0 → WallPlace (c .answer .reply) (c .bytes) (view (s .sketch))

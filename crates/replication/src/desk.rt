@@ -12,7 +12,7 @@ use image::Operation;
 use sketch::Id;
 ghost use Rattle.replication.specs.Transitions.{DeskEdits, deskCall};
 
-// Makes an edit, counts it and writes its message to the buffer's front; or refuses it and leaves the screen and the buffer.
+// Makes an edit, counts it and writes its message to the buffer's front; or refuses it and leaves the replica and the buffer.
 pub fn desk_edit(
     replica: Replica,
     operation: Operation,

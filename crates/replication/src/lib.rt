@@ -22,7 +22,7 @@ pub struct Replica {
     pub count: EditNumber,
 }
 
-// What a side starts with: the image's sketch at count 0, or the number that the image is refused by and an empty sketch.
+// What desk and wall start with: the image's sketch at count 0, or the number that the image is refused by and an empty sketch.
 pub struct Started {
     pub replica: Replica,
     pub refusal: u8,
@@ -39,7 +39,7 @@ pub struct DeskTransition {
     pub reply: DeskReply,
 }
 
-// The wall's reply: the same, or that the message is old.
+// The wall's reply: refused as at the desk, old (01's term: a number at or below the count), or applied with the report.
 pub enum WallReply {
     Refused(u8, usize),
     Old,

@@ -1,4 +1,4 @@
-// What both sides tell of a refusal: the sketch's own number first, and the place.
+// What desk and wall answer with a refusal: the sketch's own number first, and the place.
 use sketch::Sketch;
 ghost use mathlib.Core.Path.{_≡_};
 ghost use Rattle.replication.specs.Transitions.{reportedPlace, firstFault};

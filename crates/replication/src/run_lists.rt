@@ -56,7 +56,7 @@ fn desk_edit_at(replica: Replica, entries: &[u8], at: usize, out: &mut [u8]) -> 
     desk_edit(replica, operation, get4(entries, at + CURVE_AT), x, y, out)
 }
 
-// Each call on the screen that the one before left, the messages one after the other in the log.
+// Runs each call on the replica that the one before left, and writes the messages one after the other to the log.
 fn run_desk(replica: Replica, entries: &[u8], log: &mut [u8]) -> Replica
     requires { ⌜ (sketchFault (replica .sketch) ≡ 0) × (replica .count ≡ 0) × (messageSize * (length (now entries) / callSize) + maxRoom ≤ length (now log)) ⌝ }
     ensures { λ r. ⌜ DeskRan (view (replica .sketch)) (callsIn (now (entries .entry))) (now (log .exit)) r × (length (now (log .exit)) ≡ length (now (log .entry))) ⌝ }
@@ -73,7 +73,7 @@ fn run_desk(replica: Replica, entries: &[u8], log: &mut [u8]) -> Replica
     last
 }
 
-// Each message of the log that `order` names, on the screen that the one before left.
+// Delivers each message of the log that `order` names to the replica that the one before left.
 fn run_wall(replica: Replica, log: &[u8], order: &[usize]) -> Replica
     requires { ⌜ (sketchFault (replica .sketch) ≡ 0) × InLog (now log) (now order) ⌝ }
     ensures { λ r. ⌜ WallRan replica (messagesInLog (now (log .entry)) (now (order .entry))) r ⌝ }
@@ -90,7 +90,7 @@ fn run_wall(replica: Replica, log: &[u8], order: &[usize]) -> Replica
     last
 }
 
-// Whether a log holds the messages of all calls, and the room that one asks for.
+// Whether a log has room for the messages of all calls, and for the largest room that one lends.
 fn has_room(size: usize, room: usize) -> bool
     ensures { λ r. ⌜ r ≡ hasRoom size room ⌝ }
 {

@@ -24,7 +24,7 @@ fn min(a: usize, b: usize) -> usize
     if a <= b { a } else { b }
 }
 
-// The screen after the messages in some bytes, of which the last may be cut short. What is refused is passed over.
+// The replica after the messages in some bytes, of which the last may be cut short. What is refused is passed over.
 fn deliver_all(replica: Replica, bytes: &[u8]) -> Replica
     requires { ⌜ sketchFault (replica .sketch) ≡ 0 ⌝ }
     ensures { λ r. ⌜ DeliversAll replica (now (bytes .entry)) r ⌝ }

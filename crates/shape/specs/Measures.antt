@@ -61,7 +61,7 @@ point (Round c r start sweep) t = heading (wrapped (start ⊕ t)) ·ᵥ r +ᵥ c
 
 -- ---- projection and distance
 
--- on the circle, in a direction from its centre; the centre itself goes to (r, 0) from it
+-- on the circle, in a direction from its centre; the centre itself projects to (r, 0) from it
 unfoldable pub onCircle : Vec2 → Float → Direction → Vec2
 onCircle c r None = c +ᵥ vec r 0f
 onCircle c r (Unit n) = c +ᵥ n ·ᵥ r

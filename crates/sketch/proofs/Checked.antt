@@ -1,4 +1,4 @@
--- Walks over a sketch's tables: what each keeps, and what each way out tells.
+-- Walks over a sketch's tables: what each keeps, and what each way out answers.
 use mathlib.Core.Path.{_≡_, refl, _∙_}
 use mathlib.Core.Bool.{Bool, true, false, _&&_, and-true}
 use mathlib.Core.List.{List, map}
@@ -14,7 +14,7 @@ use Rattle.sketch.specs.Lookup.{among, sortAmong}
 use Rattle.sketch.specs.Valid.{okPoint, okCurve, okRelation, sortOf, soundCurve, soundRelation}
 use Rattle.sketch.specs.Columns.{PointsChecked, CurvesChecked, RelationsChecked}
 use Rattle.sketch.specs.Blanks.{noPoint, noCurve, noSlot}
-use Rattle.sketch.proofs.Walks.{Walk, walk-start, walk-four, walk-five, walk-on, walk-end, verdict, placed, table-verdict, list-verdict, Column, column-start, column-on}
+use Rattle.sketch.proofs.Walks.{Walk, walk-start, walk-four, walk-five, walk-on, walk-end, walkFault, placed, table-result, list-result, Column, column-start, column-on}
 
 -- ---- points
 
@@ -37,10 +37,10 @@ module _ {next : ℕ} {points : List Point} {n : ℕ} {before ids : List ℕ} {l
   abbrev Points : ℕ → Type 0
   Points = PointsChecked next (take n points) n before ids
 
-  tell : (r : ℕ) → r ≡ verdict okPoint (pointFits next) pointId 0 (take n points) → (r ≡ 0 → n ≤ i) → Points r
+  tell : (r : ℕ) → r ≡ walkFault okPoint (pointFits next) pointId 0 (take n points) → (r ≡ 0 → n ≤ i) → Points r
   tell r e h =
       record {
-        number = e ∙ table-verdict pointId okPoint (λ p. true) next 0 (take n points);
+        number = e ∙ table-result pointId okPoint (λ p. true) next 0 (take n points);
         long = w .column .long;
         column = λ z. let q : n ≡ i = omega (arith, h z, w .walk .within) in rw q (w .column .filled);
       }
@@ -101,10 +101,10 @@ module _
   abbrev Curves : ℕ → Type 0
   Curves = CurvesChecked next points (take n curves) n before was ids sorts
 
-  told : (r : ℕ) → r ≡ verdict okCurve (curveFits next points) curveId 0 (take n curves) → (r ≡ 0 → n ≤ i) → Curves r
-  told r e h =
+  answered : (r : ℕ) → r ≡ walkFault okCurve (curveFits next points) curveId 0 (take n curves) → (r ≡ 0 → n ≤ i) → Curves r
+  answered r e h =
       record {
-        number = e ∙ table-verdict curveId okCurve (curveSound points) next 0 (take n curves);
+        number = e ∙ table-result curveId okCurve (curveSound points) next 0 (take n curves);
         long = w .column .long;
         as-long = w .beside .long;
         column = λ z. let q : n ≡ i = omega (arith, h z, w .walk .within) in rw q (w .column .filled);
@@ -112,19 +112,19 @@ module _
       }
 
   pub curves-end : n ≤ i → Curves 0
-  curves-end h = told 0 (walk-end okCurve (curveFits next points) curveId curves n last i (w .walk) h) (λ z. h)
+  curves-end h = answered 0 (walk-end okCurve (curveFits next points) curveId curves n last i (w .walk) h) (λ z. h)
 
   module _ (h : i < n) where
     abbrev curve : Curve
     curve = getD curves i noCurve
 
     pub curves-four : okCurve curve ≡ false → Curves 4
-    curves-four e = told 4 (walk-four okCurve (curveFits next points) curveId noCurve curves n last i (w .walk) h e) (λ z. absurd (omega arith))
+    curves-four e = answered 4 (walk-four okCurve (curveFits next points) curveId noCurve curves n last i (w .walk) h e) (λ z. absurd (omega arith))
 
     module _ (ok : okCurve curve ≡ true) {s : Bool} (g : s ≡ curveSound points curve) where
       pub curves-five : (ltb last (curve .id) && ltb (curve .id) next && s) ≡ false → Curves 5
       curves-five e =
-          told 5 (walk-five okCurve (curveFits next points) curveId noCurve curves n last i (w .walk) h ok (rw (← g) e)) (λ z. absurd (omega arith))
+          answered 5 (walk-five okCurve (curveFits next points) curveId noCurve curves n last i (w .walk) h ok (rw (← g) e)) (λ z. absurd (omega arith))
 
       pub curves-on :
           {sort : ℕ} → (ltb last (curve .id) && ltb (curve .id) next && s) ≡ true → sort ≡ curveSort curve → n ≤ length ids → n ≤ length sorts
@@ -161,8 +161,8 @@ module _ {points curves sorts : List ℕ} {slots : List RelationSlot} {n i : ℕ
   abbrev Relations : ℕ → Type 0
   Relations = RelationsChecked points curves sorts (map relationIn (take n slots))
 
-  say : (r : ℕ) → r ≡ verdict relationOk fits (λ s. 0) 0 (take n slots) → Relations r
-  say r e = record { number = e ∙ list-verdict relationIn okRelation (relationSound points curves sorts) (take n slots) }
+  say : (r : ℕ) → r ≡ walkFault relationOk fits (λ s. 0) 0 (take n slots) → Relations r
+  say r e = record { number = e ∙ list-result relationIn okRelation (relationSound points curves sorts) (take n slots) }
 
   pub relations-end : n ≤ i → Relations 0
   relations-end h = say 0 (walk-end relationOk fits (λ s. 0) slots n 0 i (w .walk) h)

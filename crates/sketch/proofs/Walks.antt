@@ -1,4 +1,4 @@
--- Walks over a table: the verdict on the whole is the verdict on what is left, and the columns hold what is done.
+-- Walks over a table: the walkFault on the whole is the walkFault on what is left, and the columns hold what is done.
 use mathlib.Core.Path.{_≡_, refl, sym, ap, _∙_}
 use mathlib.Core.Bool.{Bool, true, false, _&&_}
 use mathlib.Core.List.{List, [], _∷_, _++_, map}
@@ -30,28 +30,28 @@ module _ {A : Type 0} (f : A → Bool) (l : List A) (i : ℕ) where
 
 module _ {A : Type 0} (ok : A → Bool) (fits : ℕ → A → Bool) (id : A → ℕ) where
   -- 4 where a record's values are wrong, 5 where it does not fit after the one before
-  abbrev pub verdict : ℕ → List A → ℕ
-  verdict last [] = 0
-  verdict last (a ∷ l) = guardNumber (ok a) 4 (guardNumber (fits last a) 5 (verdict (id a) l))
+  abbrev pub walkFault : ℕ → List A → ℕ
+  walkFault last [] = 0
+  walkFault last (a ∷ l) = guardNumber (ok a) 4 (guardNumber (fits last a) 5 (walkFault (id a) l))
 
   -- i records are passed, the last of them with the id `last`, and n are there
   pub record Walk (xs : List A) (n last i : ℕ) : Type 0 where
     pub within : i ≤ n
     pub enough : n ≤ length xs
-    pub same : verdict 0 (take n xs) ≡ verdict last (drop i (take n xs))
+    pub same : walkFault 0 (take n xs) ≡ walkFault last (drop i (take n xs))
 
   pub walk-start : (xs : List A) (n : ℕ) → n ≤ length xs → Walk xs n 0 0
   walk-start xs n h = record { within = omega arith; enough = h; same = refl }
 
   module _ (d : A) (xs : List A) (n last i : ℕ) (w : Walk xs n last i) where
-    next-record : i < n → verdict 0 (take n xs) ≡ guardNumber (ok (getD xs i d)) 4 (guardNumber (fits last (getD xs i d)) 5 (verdict (id (getD xs i d)) (drop (i + 1) (take n xs))))
+    next-record : i < n → walkFault 0 (take n xs) ≡ guardNumber (ok (getD xs i d)) 4 (guardNumber (fits last (getD xs i d)) 5 (walkFault (id (getD xs i d)) (drop (i + 1) (take n xs))))
     next-record h = w .same ∙ rw (add-one, slice-cons i n xs d h (w .enough))
 
-    pub walk-four : i < n → ok (getD xs i d) ≡ false → 4 ≡ verdict 0 (take n xs)
+    pub walk-four : i < n → ok (getD xs i d) ≡ false → 4 ≡ walkFault 0 (take n xs)
     unfolding guardNumber
     walk-four h e = sym (next-record h ∙ rw e)
 
-    pub walk-five : i < n → ok (getD xs i d) ≡ true → fits last (getD xs i d) ≡ false → 5 ≡ verdict 0 (take n xs)
+    pub walk-five : i < n → ok (getD xs i d) ≡ true → fits last (getD xs i d) ≡ false → 5 ≡ walkFault 0 (take n xs)
     unfolding guardNumber
     walk-five h e f = sym (next-record h ∙ rw (e, f))
 
@@ -59,7 +59,7 @@ module _ {A : Type 0} (ok : A → Bool) (fits : ℕ → A → Bool) (id : A → 
     unfolding guardNumber
     walk-on h e f = record { within = omega arith; enough = w .enough; same = next-record h ∙ rw (e, f) }
 
-  pub walk-end : (xs : List A) (n last i : ℕ) → Walk xs n last i → n ≤ i → 0 ≡ verdict 0 (take n xs)
+  pub walk-end : (xs : List A) (n last i : ℕ) → Walk xs n last i → n ≤ i → 0 ≡ walkFault 0 (take n xs)
   walk-end xs n last i w h =
       let e : length (take n xs) ≤ i = rw length-take (omega arith) in
       sym (w .same ∙ rw (drop-of-length-le (take n xs) e))
@@ -69,14 +69,14 @@ module _ {A : Type 0} where
   abbrev pub placed : (A → ℕ) → (A → Bool) → ℕ → ℕ → A → Bool
   placed id sound next last a = ltb last (id a) && ltb (id a) next && sound a
 
-  pub table-verdict : (id : A → ℕ) (ok sound : A → Bool) (next last : ℕ) (l : List A) → verdict ok (placed id sound next) id last l ≡ tableFault id ok sound next last l 0
-  table-verdict id ok sound next last [] = refl
-  table-verdict id ok sound next last (a ∷ l) = ap (λ t. guardNumber (ok a) 4 (guardNumber (placed id sound next last a) 5 t)) (table-verdict id ok sound next (id a) l)
+  pub table-result : (id : A → ℕ) (ok sound : A → Bool) (next last : ℕ) (l : List A) → walkFault ok (placed id sound next) id last l ≡ tableFault id ok sound next last l 0
+  table-result id ok sound next last [] = refl
+  table-result id ok sound next last (a ∷ l) = ap (λ t. guardNumber (ok a) 4 (guardNumber (placed id sound next last a) 5 t)) (table-result id ok sound next (id a) l)
 
   -- a table without ids, of which each record stands in a slot
-  pub list-verdict : {B : Type 0} (g : A → B) (ok sound : B → Bool) (l : List A) → verdict (λ a. ok (g a)) (λ last a. sound (g a)) (λ a. 0) 0 l ≡ listFault ok sound (map g l)
-  list-verdict g ok sound [] = refl
-  list-verdict g ok sound (a ∷ l) = ap (λ t. guardNumber (ok (g a)) 4 (guardNumber (sound (g a)) 5 t)) (list-verdict g ok sound l)
+  pub list-result : {B : Type 0} (g : A → B) (ok sound : B → Bool) (l : List A) → walkFault (λ a. ok (g a)) (λ last a. sound (g a)) (λ a. 0) 0 l ≡ listFault ok sound (map g l)
+  list-result g ok sound [] = refl
+  list-result g ok sound (a ∷ l) = ap (λ t. guardNumber (ok (g a)) 4 (guardNumber (sound (g a)) 5 t)) (list-result g ok sound l)
 
 -- ---- columns
 

@@ -30,6 +30,10 @@ view s =
       relations = map (λ r. r .relation) (take (s .nrelations) (s .relations));
     }
 
+-- the slots beside a kind that keeps its points itself
+abbrev pub noSlots : List ℕ
+noSlots = 0 ∷ 0 ∷ 0 ∷ 0 ∷ 0 ∷ 0 ∷ 0 ∷ 0 ∷ []
+
 -- how many entries each table may hold, and the largest next id
 pub record Limits : Type 0 where
   pub points : ℕ

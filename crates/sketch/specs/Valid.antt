@@ -38,7 +38,7 @@ okMeasure v = le (ofBits binary64 0) v && le v (ofBits binary64 0x414e_8480_0000
 abbrev pub okPoint : Point → Bool
 okPoint p = okCoordinate (p .x) && okCoordinate (p .y)
 
--- the sorts of curves that relations tell apart: 1 a line, 2 a round (an arc or a circle), 3 freeform; 0 stands for no curve
+-- the sorts of curves that relations distinguish: 1 a line, 2 a round (01's term for an arc or a circle), 3 freeform; 0 stands for no curve
 unfoldable pub sortOf : CurveKind → ℕ
 sortOf (Line a b) = 1
 sortOf (Arc c a b) = 2
@@ -97,11 +97,11 @@ distinct (Circle c r) = true
 distinct (Bezier n) = true
 distinct (Conic a p b rho) = true
 
--- `has` says which points there are
+-- a curve's points are there, and differ where they must; `has` says which points there are
 abbrev pub soundCurve : (ℕ → Bool) → Curve → Bool
 soundCurve has c = every has (usesOf (c .kind) (c .slots)) && distinct (c .kind)
 
--- the curves that a relation names are of its sorts; `sort` tells the sort of a curve by id
+-- the curves that a relation names are of its sorts; `sort` gives the sort of a curve by id
 unfoldable pub fits : (ℕ → ℕ) → Relation → Bool
 fits sort (Coincident p q) = true
 fits sort (PointOnCurve p c) = ltb 0 (sort c)
@@ -170,7 +170,7 @@ faultOf m d =
     (curvesFault (d .next) (d .points) (d .curves)
     (relationsFault (d .points) (d .curves) (d .relations)))))
 
--- the same of a sketch, whose counts may be anything
+-- the first broken rule of a sketch, whose counts may be anything
 abbrev pub sketchFault : Sketch → ℕ
 sketchFault s =
     guardNumber (leb (s .npoints) (limits .points) && leb (s .ncurves) (limits .curves) && leb (s .nrelations) (limits .relations)) 3

@@ -29,7 +29,7 @@ pub record PointColumns (ps : List Point) (ids : List ℕ) (xs ys : List Float) 
   pub ys-long : length ys ≡ length ids
   pub each : (k : ℕ) → k < length ps → position xs ys k ≡ vec (getD ps k noPoint .x) (getD ps k noPoint .y)
 
--- ---- the first n points laid out in columns that have the room
+-- ---- columns that are filled with the first n points, where they have the room
 
 pub record PointsFilled (points : List Point) (n : ℕ) (ids₀ : List ℕ) (xs₀ ys₀ : List Float) (ids : List ℕ) (xs ys : List Float) : Type 0 where
   pub ids-long : length ids ≡ length ids₀
@@ -45,8 +45,8 @@ FillsPoints points n ids₀ xs₀ ys₀ ids xs ys =
 
 -- ---- what is answered from columns, whichever points they hold
 
-abbrev pub PointAt : List ℕ → List Float → List Float → ℕ → Vec2 → Type 0
-PointAt ids xs ys id r = (ps : List Point) → PointColumns ps ids xs ys → r ≡ positionOf ps id
+abbrev pub PositionIs : List ℕ → List Float → List Float → ℕ → Vec2 → Type 0
+PositionIs ids xs ys id r = (ps : List Point) → PointColumns ps ids xs ys → r ≡ positionOf ps id
 
 abbrev pub shapeOfOutline : Outline → Option Shape
 shapeOfOutline Freeform = none

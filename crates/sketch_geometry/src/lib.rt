@@ -10,7 +10,7 @@ ghost use mathlib.Core.Path.{_≡_};
 ghost use Prim.Native.Nat.{_≤_};
 ghost use lib.ListN.{length, getD};
 ghost use lib.Ieee.{nan};
-ghost use Rattle.sketch_geometry.specs.Columns.{position, PointsFilled, FillsPoints, PointAt, ShapeAt};
+ghost use Rattle.sketch_geometry.specs.Columns.{position, PointsFilled, FillsPoints, PositionIs, ShapeAt};
 
 // A curve's shape; a freeform curve has none.
 pub enum Outline {
@@ -42,7 +42,7 @@ fn fill_columns<'a>(
     }
 }
 
-// The same where the columns have the room.
+// Fills the columns with the first n points where they have the room, and leaves them otherwise.
 pub fn fill_point_columns<'a>(
     points: [Point; 512],
     n: usize,
@@ -87,8 +87,8 @@ pub fn position_at<'a>(xs: &'a [f64], ys: &'a [f64], k: usize) -> Vec2
 }
 
 // The point with an id; `near` guesses its place.
-pub fn point_at<'a>(id: Id, ids: &'a [Id], near: &'a [u16], xs: &'a [f64], ys: &'a [f64]) -> Vec2
-    ensures { λ r. ⌜ PointAt (now (ids .entry)) (now (xs .entry)) (now (ys .entry)) id r ⌝ }
+pub fn position_of<'a>(id: Id, ids: &'a [Id], near: &'a [u16], xs: &'a [f64], ys: &'a [f64]) -> Vec2
+    ensures { λ r. ⌜ PositionIs (now (ids .entry)) (now (xs .entry)) (now (ys .entry)) id r ⌝ }
 {
     position_at(xs, ys, place_near(ids, near, id))
 }
@@ -105,18 +105,18 @@ pub fn shape_of<'a>(
 {
     match kind {
         CurveKind::Line(a, b) => {
-            let p = point_at(a, ids, near, xs, ys);
-            let q = point_at(b, ids, near, xs, ys);
+            let p = position_of(a, ids, near, xs, ys);
+            let q = position_of(b, ids, near, xs, ys);
             Outline::Analytic(Shape::from_line(p, q))
         }
         CurveKind::Arc(c, a, b) => {
-            let o = point_at(c, ids, near, xs, ys);
-            let p = point_at(a, ids, near, xs, ys);
-            let q = point_at(b, ids, near, xs, ys);
+            let o = position_of(c, ids, near, xs, ys);
+            let p = position_of(a, ids, near, xs, ys);
+            let q = position_of(b, ids, near, xs, ys);
             Outline::Analytic(Shape::from_arc(o, p, q))
         }
         CurveKind::Circle(c, r) => {
-            let o = point_at(c, ids, near, xs, ys);
+            let o = position_of(c, ids, near, xs, ys);
             Outline::Analytic(Shape::from_circle(o, r))
         }
         _ => Outline::Freeform,

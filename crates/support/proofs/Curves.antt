@@ -16,7 +16,7 @@ use Rattle.bernstein.specs.Evaluate.{evaluateOf}
 use Rattle.support.specs.declared.Form.{Form}
 use Rattle.support.specs.declared.Form.the-variants.{Polynomial, Rational}
 use Rattle.support.specs.Freeform.{controls, weights, pointAt}
-use Rattle.support.specs.Hits.{largest, offEach, polynomial}
+use Rattle.support.specs.Hits.{maxOf, offEach, polynomial}
 use Rattle.support.specs.Pieces.{zipPoints, pointIn}
 use Rattle.support.specs.Contracts.{freeformOf, atMost8, enoughControls, Controls, weightsOf, farthestOf}
 use Rattle.support.proofs.Coordinates.{points-length, points-across, points-up, points-next, points-end}
@@ -128,7 +128,7 @@ module _ (curve : Form) (xs ys ws : List Float) (h : Controls curve xs ys) (e : 
 -- ---- the polynomial
 
 pub coefficients : (d o : Vec2) (curve : Form) (xs ys : List Float) → Controls curve xs ys → (ws : List Float) → ws ≡ weightsOf curve
-    → (scale : Float) → scale ≡ farthestOf o (zipPoints xs ys) → (top : Float) → top ≡ largest 1f (take (length xs) ws)
+    → (scale : Float) → scale ≡ farthestOf o (zipPoints xs ys) → (top : Float) → top ≡ maxOf 1f (take (length xs) ws)
     → offEach d o scale (zipPoints xs ys) (map (λ w. w ⊘ top) (take (length xs) ws)) ≡ polynomial d o (freeformOf curve xs ys)
 unfolding polynomial farthestOf
 coefficients d o curve xs ys h ws ew scale es top et = rw (es, et, ew, front-weights curve xs ys h, control-points curve xs ys h)

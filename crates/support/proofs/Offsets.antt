@@ -15,24 +15,24 @@ use Rattle.geom.specs.Plane.{distance}
 use Rattle.geom.specs.declared.Vec2.{Vec2}
 use Rattle.sketch.specs.Lists.{every}
 use Rattle.bernstein.proofs.Lists.{pushed}
-use Rattle.support.specs.Hits.{largest, off, offEach}
+use Rattle.support.specs.Hits.{maxOf, off, offEach}
 use Rattle.support.specs.Pieces.{zipPoints, pointIn}
 use Rattle.support.specs.Contracts.{farthestOf}
 use Rattle.support.proofs.Coordinates.{points-next, points-end}
 
 -- ---- the largest
 
-pub heavier : (ws : List Float) (i : ℕ) (m n : Float) → i < length ws → n ≡ max m (getD ws i nan) → largest n (drop (i + 1) ws) ≡ largest m (drop i ws)
-unfolding largest
+pub heavier : (ws : List Float) (i : ℕ) (m n : Float) → i < length ws → n ≡ max m (getD ws i nan) → maxOf n (drop (i + 1) ws) ≡ maxOf m (drop i ws)
+unfolding maxOf
 heavier ws i m n h e = rw (e, add-one, drop-cons ws i nan h)
 
-pub heaviest-so-far : (ws : List Float) (i : ℕ) (m : Float) → length ws ≤ i → largest m (drop i ws) ≡ m
-unfolding largest
+pub heaviest-so-far : (ws : List Float) (i : ℕ) (m : Float) → length ws ≤ i → maxOf m (drop i ws) ≡ m
+unfolding maxOf
 heaviest-so-far ws i m h = rw (drop-of-length-le ws h)
 
 -- the largest of m and how far the points from the i-th on lie from o
 abbrev pub farthestFrom : Vec2 → List Float → List Float → ℕ → Float → Float
-farthestFrom o xs ys i m = largest m (map (λ p. distance p o) (zipPoints (drop i xs) (drop i ys)))
+farthestFrom o xs ys i m = maxOf m (map (λ p. distance p o) (zipPoints (drop i xs) (drop i ys)))
 
 module _ (o : Vec2) (xs ys : List Float) where
   pub farthest-start : farthestFrom o xs ys 0 1f ≡ farthestOf o (zipPoints xs ys)
@@ -41,11 +41,11 @@ module _ (o : Vec2) (xs ys : List Float) where
 
   pub farther : (i : ℕ) (m d n : Float) (p : Vec2) → i < length xs → length ys ≡ length xs → p ≡ pointIn xs ys i → d ≡ distance p o → n ≡ max m d
       → farthestFrom o xs ys (i + 1) n ≡ farthestFrom o xs ys i m
-  unfolding largest
+  unfolding maxOf
   farther i m d n p h e ep ed en = rw (en, ed, ep, points-next xs ys i h e)
 
   pub farthest-so-far : (i : ℕ) (m : Float) → length xs ≤ i → farthestFrom o xs ys i m ≡ m
-  unfolding largest
+  unfolding maxOf
   farthest-so-far i m h = rw (points-end xs ys i h)
 
 -- ---- the coefficients

@@ -19,7 +19,7 @@ use Rattle.shape.specs.Measures.{dist, dist2}
 use Rattle.shape.proofs.Offsets.{dist-at-most}
 use Rattle.support.specs.declared.Hits.the-variants.{Found, Refused}
 use Rattle.support.specs.Freeform.{Freeform, pointAt}
-use Rattle.support.specs.Hits.{found, refused, guardHits, near, resolved}
+use Rattle.support.specs.Hits.{found, refused, guardHits, hasNearHit, resolved}
 use Rattle.support.specs.Pieces.{zipPoints, pointIn, answerOf, listOf}
 use Rattle.support.specs.Contracts.{HitsAtFront}
 use Rattle.support.proofs.Coordinates.{points-length, points-across, points-up, points-stored, points-next, points-end}
@@ -28,26 +28,26 @@ use Rattle.support.proofs.Coordinates.{points-length, points-across, po
 
 module _ (q : Vec2) (xs ys : List Float) (i : ℕ) where
   abbrev pub nearFrom : Bool
-  nearFrom = near q (zipPoints (drop i xs) (drop i ys))
+  nearFrom = hasNearHit q (zipPoints (drop i xs) (drop i ys))
 
   module _ (h : i < length xs) (e : length ys ≡ length xs) (p : Vec2) (ep : p ≡ pointIn xs ys i) (s : Float) (es : s ≡ dot (p -ᵥ q) (p -ᵥ q)) where
     by-square : lt s (leastOf at-1e-7) ≡ lt (distance p q) 1e-7
     by-square = rw es (sym (distance-below at-1e-7 exact-1e-7 p q))
 
     pub near-this : lt s (leastOf at-1e-7) ≡ true → nearFrom ≡ true
-    unfolding near
+    unfolding hasNearHit
     near-this t =
         let d : lt (distance (pointIn xs ys i) q) 1e-7 ≡ true = rw ep at (sym by-square ∙ t) in
         rw (points-next xs ys i h e, d)
 
-    pub near-next : lt s (leastOf at-1e-7) ≡ false → near q (zipPoints (drop (i + 1) xs) (drop (i + 1) ys)) ≡ nearFrom
-    unfolding near
+    pub near-next : lt s (leastOf at-1e-7) ≡ false → hasNearHit q (zipPoints (drop (i + 1) xs) (drop (i + 1) ys)) ≡ nearFrom
+    unfolding hasNearHit
     near-next t =
         let d : lt (distance (pointIn xs ys i) q) 1e-7 ≡ false = rw ep at (sym by-square ∙ t) in
         rw (points-next xs ys i h e, d)
 
   pub near-none : length xs ≤ i → nearFrom ≡ false
-  unfolding near
+  unfolding hasNearHit
   near-none h = rw (points-end xs ys i h)
 
 -- ---- the points at the roots
@@ -98,7 +98,7 @@ module _ (line : Shape) (f : Freeform) (ts : List Float) (b : ℕ) (qx₀ qy₀ 
       by-square₂ : le s (mostOf at-1e-7) ≡ le (dist line q) 1e-7
       by-square₂ = rw es (sym (dist-at-most at-1e-7 exact-1e-7 line q))
 
-      step : resolved line f kept (drop i ts) b ≡ guardHits (le (dist line q) 1e-7) 16 b (resolved line f (cond (near q kept) kept (kept ++ q ∷ [])) (drop (i + 1) ts) b)
+      step : resolved line f kept (drop i ts) b ≡ guardHits (le (dist line q) 1e-7) 16 b (resolved line f (cond (hasNearHit q kept) kept (kept ++ q ∷ [])) (drop (i + 1) ts) b)
       unfolding resolved
       step = rw (eq, add-one, drop-cons ts i nan h)
 
@@ -113,7 +113,7 @@ module _ (line : Shape) (f : Freeform) (ts : List Float) (b : ℕ) (qx₀ qy₀ 
         on : le (dist line q) 1e-7 ≡ true
         on = sym by-square₂ ∙ t
 
-        pub skip : near q kept ≡ true → Walk line f ts b qx₀ qy₀ k (i + 1) qx qy
+        pub skip : hasNearHit q kept ≡ true → Walk line f ts b qx₀ qy₀ k (i + 1) qx qy
         unfolding guardHits
         skip n = record {
           within = omega arith;
@@ -125,7 +125,7 @@ module _ (line : Shape) (f : Freeform) (ts : List Float) (b : ℕ) (qx₀ qy₀ 
           rest = sym (step ∙ rw (on, n)) ∙ w .rest;
         }
 
-        pub push : near q kept ≡ false → Walk line f ts b qx₀ qy₀ (k + 1) (i + 1) (set qx k (q .x)) (set qy k (q .y))
+        pub push : hasNearHit q kept ≡ false → Walk line f ts b qx₀ qy₀ (k + 1) (i + 1) (set qx k (q .x)) (set qy k (q .y))
         unfolding guardHits
         push n =
             let x : k < length qx = omega (arith, w .behind, w .roomX) in

@@ -1,4 +1,4 @@
--- What is handed on within a call, for the contracts of functions that nothing outside calls. Definitions only.
+-- The contracts of private functions, which nothing outside needs: what is handed on within a call. Definitions only.
 use Prim.Native.Nat.{ℕ}
 use mathlib.Core.Bool.{Bool, true, cond}
 use mathlib.Core.List.{List, _∷_, map}
@@ -16,7 +16,7 @@ use Rattle.support.specs.declared.Form.the-variants.{Polynomial, Rationa
 use Rattle.support.specs.declared.Hits.{Hits}
 use Rattle.support.specs.declared.Hits.the-variants.{Found, Refused}
 use Rattle.support.specs.Freeform.{Freeform}
-use Rattle.support.specs.Hits.{HitsResult, largest}
+use Rattle.support.specs.Hits.{HitsResult, maxOf}
 use Rattle.support.specs.Pieces.{bezierOf, conicOf, answerOf, listOf}
 
 -- a freeform curve by its form and the coordinates of its control points
@@ -44,7 +44,7 @@ weightsOf (Rational w) = 1f ∷ w ∷ replicate 6 1f
 
 -- how far the farthest of the points lies from o, and 1 at least
 unfoldable pub farthestOf : Vec2 → List Vec2 → Float
-farthestOf o ps = largest 1f (map (λ p. distance p o) ps)
+farthestOf o ps = maxOf 1f (map (λ p. distance p o) ps)
 
 -- an answer of the search for roots, as one of the search for hits
 unfoldable pub hitsOfRoots : Roots → Hits

@@ -50,11 +50,11 @@ shapeHits a b piece budget =
 
 -- ---- a freeform curve: the roots of its distance from the line
 
-unfoldable pub largest : Float → List Float → Float
-largest m [] = m
-largest m (x ∷ xs) =
+unfoldable pub maxOf : Float → List Float → Float
+maxOf m [] = m
+maxOf m (x ∷ xs) =
     let now = max m x in
-    largest now xs
+    maxOf now xs
 
 -- a control point seen from o, each coordinate times its weight and over the scale; then across d
 unfoldable pub off : Vec2 → Vec2 → Float → Vec2 → Float → Float
@@ -68,21 +68,21 @@ offEach d o scale (p ∷ ps) (w ∷ ws) = off d o scale p w ∷ offEach d o scal
 -- the distance as a polynomial, the largest weight being 1 and the farthest control point at 1
 unfoldable pub polynomial : Vec2 → Vec2 → Freeform → List Float
 polynomial d o f =
-    let scale = largest 1f (map (λ p. distance p o) (controls f)) in
-    let heaviest = largest 1f (weights f) in
+    let scale = maxOf 1f (map (λ p. distance p o) (controls f)) in
+    let heaviest = maxOf 1f (weights f) in
     offEach d o scale (controls f) (map (λ w. w ⊘ heaviest) (weights f))
 
 -- a hit was found nearer than 1e-7 to q
-unfoldable pub near : Vec2 → List Vec2 → Bool
-near q [] = false
-near q (p ∷ ps) = cond (lt (distance p q) 1e-7) true (near q ps)
+unfoldable pub hasNearHit : Vec2 → List Vec2 → Bool
+hasNearHit q [] = false
+hasNearHit q (p ∷ ps) = cond (lt (distance p q) 1e-7) true (hasNearHit q ps)
 
 -- the points at the roots, those near an earlier one left out; 16 where one lies more than 1e-7 off the support
 unfoldable pub resolved : Shape → Freeform → List Vec2 → List Float → ℕ → HitsResult
 resolved line f hits [] b = found hits b
 resolved line f hits (t ∷ ts) b =
     let q = pointAt f t in
-    let now = cond (near q hits) hits (hits ++ q ∷ []) in
+    let now = cond (hasNearHit q hits) hits (hits ++ q ∷ []) in
     let rest = resolved line f now ts b in
     guardHits (le (dist line q) 1e-7) 16 b rest
 

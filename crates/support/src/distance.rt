@@ -30,7 +30,7 @@ fn farthest<'a>(o: Vec2, xs: &'a [f64], ys: &'a [f64]) -> f64
 
 // The largest weight, and 1 at least.
 fn heaviest(ws: &[f64]) -> f64
-    ensures { λ r. ⌜ r ≡ Defs.largest 1f (now (ws .entry)) ⌝ }
+    ensures { λ r. ⌜ r ≡ Defs.maxOf 1f (now (ws .entry)) ⌝ }
 {
     let mut m = 1.0;
     let mut i = 0usize;

@@ -20,9 +20,9 @@ use geom::Vec2;
 use shape::Shape;
 
 // Whether one of the points lies nearer than 1e-7 to q.
-fn near<'a>(q: Vec2, xs: &'a [f64], ys: &'a [f64]) -> bool
+fn has_near_hit<'a>(q: Vec2, xs: &'a [f64], ys: &'a [f64]) -> bool
     requires { ⌜ length (now ys) ≡ length (now xs) ⌝ }
-    ensures { λ r. ⌜ r ≡ Defs.near q (zipPoints (now (xs .entry)) (now (ys .entry))) ⌝ }
+    ensures { λ r. ⌜ r ≡ Defs.hasNearHit q (zipPoints (now (xs .entry)) (now (ys .entry))) ⌝ }
 {
     let mut i = 0usize;
     while i < xs.len() {
@@ -56,7 +56,7 @@ fn resolve<'a, 'b>(
             return Hits::Refused(16, budget);
         }
         i += 1;
-        if !near(q, &qx[..k], &qy[..k]) {
+        if !has_near_hit(q, &qx[..k], &qy[..k]) {
             qx[k] = q.x;
             qy[k] = q.y;
             k += 1;

@@ -8,15 +8,12 @@ use Rattle.big_endian.proofs.get1.Tie as tie
 use Rattle.big_endian.proofs.get1.Reads as reads
 use Rattle.big_endian.proofs.get1.Lts as lts
 
--- src/lib.rt:16:9
 shared-slice-read-result : tie.Need-shared-slice-read-result
 shared-slice-read-result c = search needs
 
--- src/lib.rt:12:1
 returns : tie.Need-returns
 returns c = rw field-one
 
--- src/lib.rt:12:1
 returns-2 : tie.Need-returns-2
 returns-2 c =
     let h : length (c .before .args .s .now) ≤ c .before .args .at = omega arith in

@@ -10,38 +10,30 @@ use Rattle.big_endian.proofs.get2.Lts as lts
 use Rattle.big_endian.proofs.get1.Reads as get1-reads
 use Rattle.big_endian.proofs.load.load2.Reads as load2-reads
 
--- src/lib.rt:25:9
 returns : tie.Need-returns
 returns c =
     let a = c .before .before .args in
     let h : length (a .s .now) ≤ a .at = omega arith in
     rw field-past
 
--- src/lib.rt:27:13
 sub-if2 : tie.Need-sub-if2
 sub-if2 c = search needs
 
--- src/lib.rt:28:9
 load2-requires : tie.Need-load2-requires
 load2-requires c κs = search needs
 
--- src/lib.rt:28:9
 returns-2 : tie.Need-returns-2
 returns-2 c = search needs
 
--- src/lib.rt:30:5
 get1-requires : tie.Need-get1-requires
 get1-requires c κs = search needs
 
--- src/lib.rt:30:5
 cast-result : tie.Need-cast-result
 cast-result c = search needs
 
--- src/lib.rt:30:5
 mul-result : tie.Need-mul-result
 mul-result c = search needs
 
--- src/lib.rt:20:1
 returns-3 : tie.Need-returns-3
 returns-3 c =
     let a = c .before .before .before .before .args in

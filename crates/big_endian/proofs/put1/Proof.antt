@@ -6,25 +6,20 @@ use Rattle.big_endian.proofs.put1.Tie as tie
 use Rattle.big_endian.proofs.put1.Reads as reads
 use Rattle.big_endian.proofs.put1.Lts as lts
 
--- src/lib.rt:65:19
 cast-buf : tie.Need-cast-buf
 cast-buf c = search needs
 
--- src/lib.rt:65:9
 slice-write-buf : tie.Need-slice-write-buf
 slice-write-buf c = search needs
 
--- src/lib.rt:61:1
 same-length : tie.Need-same-length
 same-length c = search needs
 
--- src/lib.rt:61:1
 returns : tie.Need-returns
 returns c =
     let a = c .before .args in
     put-byte (a .buf .now) (a .at) (a .v) (omega arith)
 
--- src/lib.rt:61:1
 returns-2 : tie.Need-returns-2
 returns-2 c =
     let a = c .before .args in

@@ -9,23 +9,18 @@ use Rattle.big_endian.proofs.put2.Reads as reads
 use Rattle.big_endian.proofs.put2.Lts as lts
 use Rattle.big_endian.proofs.store.store2.Reads as store2-reads
 
--- src/lib.rt:84:9
 returns : tie.Need-returns
 returns c = put-nothing (c .before .before .args .buf .now) (c .before .before .args .at) 2 (c .before .before .args .v) (omega arith)
 
--- src/lib.rt:87:9
 returns-2 : tie.Need-returns-2
 returns-2 c = put-nothing (c .before .before .before .args .buf .now) (c .before .before .before .args .at) 2 (c .before .before .before .args .v) (omega arith)
 
--- src/lib.rt:89:5
 store2-requires : tie.Need-store2-requires
 store2-requires c κs = search needs
 
--- src/lib.rt:79:1
 same-length : tie.Need-same-length
 same-length c = search needs
 
--- src/lib.rt:79:1
 returns-3 : tie.Need-returns-3
 returns-3 c = put-bytes (c .before .before .before .before .before .before .before .args .buf .now) (c .before .before .before .before .before .before .before .args .at) 2 (c .before .before .before .before .before .before .before .args .v) (omega arith) (c .before .before .store2 .ensures)
 

@@ -9,23 +9,18 @@ use Rattle.big_endian.proofs.put4.Reads as reads
 use Rattle.big_endian.proofs.put4.Lts as lts
 use Rattle.big_endian.proofs.store.store4.Reads as store4-reads
 
--- src/lib.rt:98:9
 returns : tie.Need-returns
 returns c = put-nothing (c .before .before .args .buf .now) (c .before .before .args .at) 4 (c .before .before .args .v) (omega arith)
 
--- src/lib.rt:101:9
 returns-2 : tie.Need-returns-2
 returns-2 c = put-nothing (c .before .before .before .args .buf .now) (c .before .before .before .args .at) 4 (c .before .before .before .args .v) (omega arith)
 
--- src/lib.rt:103:5
 store4-requires : tie.Need-store4-requires
 store4-requires c κs = search needs
 
--- src/lib.rt:93:1
 same-length : tie.Need-same-length
 same-length c = search needs
 
--- src/lib.rt:93:1
 returns-3 : tie.Need-returns-3
 returns-3 c = put-bytes (c .before .before .before .before .before .before .before .args .buf .now) (c .before .before .before .before .before .before .before .args .at) 4 (c .before .before .before .before .before .before .before .args .v) (omega arith) (c .before .before .store4 .ensures)
 

@@ -9,23 +9,18 @@ use Rattle.big_endian.proofs.put8.Reads as reads
 use Rattle.big_endian.proofs.put8.Lts as lts
 use Rattle.big_endian.proofs.store.store8.Reads as store8-reads
 
--- src/lib.rt:112:9
 returns : tie.Need-returns
 returns c = put-nothing (c .before .before .args .buf .now) (c .before .before .args .at) 8 (c .before .before .args .v) (omega arith)
 
--- src/lib.rt:115:9
 returns-2 : tie.Need-returns-2
 returns-2 c = put-nothing (c .before .before .before .args .buf .now) (c .before .before .before .args .at) 8 (c .before .before .before .args .v) (omega arith)
 
--- src/lib.rt:117:5
 store8-requires : tie.Need-store8-requires
 store8-requires c κs = search needs
 
--- src/lib.rt:107:1
 same-length : tie.Need-same-length
 same-length c = search needs
 
--- src/lib.rt:107:1
 returns-3 : tie.Need-returns-3
 returns-3 c = put-bytes (c .before .before .before .before .before .before .before .args .buf .now) (c .before .before .before .before .before .before .before .args .at) 8 (c .before .before .before .before .before .before .before .args .v) (omega arith) (c .before .before .store8 .ensures)
 

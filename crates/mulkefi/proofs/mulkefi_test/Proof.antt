@@ -11,7 +11,7 @@ cast-result : tie.Need-cast-result
 cast-result c = search needs
 
 returns : tie.Need-returns
-returns c = read-number (c .before .read .result) (c .before .before .before .args .bytes .now) (c .before .read .ensures .told)
+returns c = read-number (c .before .read .result) (c .before .before .before .args .bytes .now) (c .before .read .ensures .result-is)
 
 pub mulkefi-test-spec : {M : Type 1} → statement M
 mulkefi-test-spec = tie.close (tie.spec read-requires cast-result returns)

@@ -9,31 +9,24 @@ use Rattle.probe.proofs.mulkefi_image_copy.Lts as lts
 use Rattle.image.proofs.read.Reads as read-reads
 use Rattle.image.proofs.write.Reads as write-reads
 
--- src/lib.rt:32:9
 read-requires : tie.Need-read-requires
 read-requires c κs = search needs
 
--- src/lib.rt:34:16
 cast-result : tie.Need-cast-result
 cast-result c = search needs
 
--- src/lib.rt:34:9
 returns : tie.Need-returns
-returns c = not-copied _ _ _ _ (read-number (c .before .before .before .read .result) (c .before .before .before .before .before .before .args .bytes .now) (c .before .before .before .read .ensures .told)) (c .before .if1 .taken)
+returns c = not-copied _ _ _ _ (read-number (c .before .before .before .read .result) (c .before .before .before .before .before .before .args .bytes .now) (c .before .before .before .read .ensures .result-is)) (c .before .if1 .taken)
 
--- src/lib.rt:37:5
 write-requires : tie.Need-write-requires
 write-requires c κs = search needs
 
--- src/lib.rt:37:5
 cast-result-2 : tie.Need-cast-result-2
 cast-result-2 c = search needs
 
--- src/lib.rt:28:1
 same-length : tie.Need-same-length
 same-length c = search needs
 
--- src/lib.rt:28:1
 returns-2 : tie.Need-returns-2
 returns-2 c = image-copied (c .before .before .before .before .before .before .before .before .before .before .args .bytes .now) (c .before .before .before .before .before .before .before .before .before .before .args .out .now) _ _ (c .before .before .before .before .before .before .before .read .result) _ (λ k. c .before .before .before .before .before .before .before .before .before .shared-slice-known .given k .fits) (c .before .before .before .before .before .before .before .read .ensures) (c .before .before .before .before .before .if1 .left) refl (c .before .before .write .ensures)
 

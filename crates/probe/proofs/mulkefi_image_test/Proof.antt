@@ -8,17 +8,14 @@ use Rattle.probe.proofs.mulkefi_image_test.Reads as reads
 use Rattle.probe.proofs.mulkefi_image_test.Lts as lts
 use Rattle.image.proofs.read.Reads as read-reads
 
--- src/lib.rt:23:9
 read-requires : tie.Need-read-requires
 read-requires c κs = search needs
 
--- src/lib.rt:24:5
 cast-result : tie.Need-cast-result
 cast-result c = search needs
 
--- src/lib.rt:19:1
 returns : tie.Need-returns
-returns c = read-number (c .before .read .result) (c .before .before .before .args .bytes .now) (c .before .read .ensures .told)
+returns c = read-number (c .before .read .result) (c .before .before .before .args .bytes .now) (c .before .read .ensures .result-is)
 
 pub mulkefi-image-test-spec : {M : Type 1} → statement M
 mulkefi-image-test-spec = tie.close (tie.spec read-requires cast-result returns)

@@ -1,4 +1,4 @@
-use Rattle.image.proofs.MessageRoundTrips.{verdict-refused}
+use Rattle.image.proofs.MessageRoundTrips.{result-refused}
 use Rattle.probe.proofs.Answers.{read-number, not-copied, image-copied, message-copied}
 use mathlib.Core.Path.{_≡_, refl, sym, ap, _∙_}
 use native.Mathlib.Omega.{arith}
@@ -10,41 +10,32 @@ use Rattle.probe.proofs.mulkefi_message_copy.Lts as lts
 use Rattle.image.proofs.read_message.Reads as read-message-reads
 use Rattle.image.proofs.write_message.Reads as write-message-reads
 
--- src/lib.rt:45:11
 read-message-requires : tie.Need-read-message-requires
 read-message-requires c κs = search needs
 
--- src/lib.rt:46:30
 enum-known-number : tie.Need-enum-known-number
 enum-known-number c = search needs
 
--- src/lib.rt:46:41
 cast-result : tie.Need-cast-result
 cast-result c = search needs
 
--- src/lib.rt:47:31
 enum-known-m : tie.Need-enum-known-m
 enum-known-m c = search needs
 
--- src/lib.rt:47:37
 write-message-requires : tie.Need-write-message-requires
 write-message-requires c κs = search needs
 
--- src/lib.rt:47:37
 cast-result-2 : tie.Need-cast-result-2
 cast-result-2 c = search needs
 
--- src/lib.rt:41:1
 returns : tie.Need-returns
 returns c =
-    let v = verdict-refused _ _ _ (sym (c .before .before .before .read-message .ensures) ∙ c .before .number .given .1) in
+    let v = result-refused _ _ _ (sym (c .before .before .before .read-message .ensures) ∙ c .before .number .given .1) in
     not-copied _ _ _ _ (v .0) (v .1)
 
--- src/lib.rt:41:1
 same-length : tie.Need-same-length
 same-length c = search needs
 
--- src/lib.rt:41:1
 returns-2 : tie.Need-returns-2
 returns-2 c = message-copied (c .before .before .before .before .before .before .before .before .before .before .args .bytes .now) (c .before .before .before .before .before .before .before .before .before .before .args .out .now) _ _ _ (λ k. c .before .before .before .before .before .before .before .before .before .shared-slice-known .given k .fits) (sym (c .before .before .before .before .before .before .before .read-message .ensures) ∙ c .before .before .before .before .before .m .given .1) (c .before .before .write-message .ensures)
 

@@ -10,35 +10,29 @@ use Rattle.probe.proofs.mulkefi_sketch_test.Lts as lts
 use Rattle.image.proofs.read.Reads as read-reads
 use Rattle.sketch.proofs.fault.Reads as fault-reads
 
--- src/lib.rt:56:9
 read-requires : tie.Need-read-requires
 read-requires c κs = search needs
 
--- src/lib.rt:58:16
 cast-result : tie.Need-cast-result
 cast-result c = search needs
 
--- src/lib.rt:58:9
 returns : tie.Need-returns
 returns c =
-    let e = read-number (c .before .before .before .read .result) (c .before .before .before .before .before .args .bytes .now) (c .before .before .before .read .ensures .told) in
+    let e = read-number (c .before .before .before .read .result) (c .before .before .before .before .before .args .bytes .now) (c .before .before .before .read .ensures .result-is) in
     unread (λ z. c .before .if1 .taken (e ∙ z)) e
 
--- src/lib.rt:65:5
 fault-requires : tie.Need-fault-requires
 fault-requires c κs = search needs
 
--- src/lib.rt:65:5
 cast-result-2 : tie.Need-cast-result-2
 cast-result-2 c = search needs
 
--- src/lib.rt:52:1
 returns-2 : tie.Need-returns-2
 returns-2 c =
     let r = c .before .before .before .before .read in
     let z = c .before .before .if1 .left in
     let s = c .before .before .before .before .before .before .args .bytes .now in
-    tested (r .result .sketch) (sym (read-number (r .result) s (r .ensures .told)) ∙ z) (read-drawing (r .result) s (r .ensures .told) z) (c .fault .ensures)
+    tested (r .result .sketch) (sym (read-number (r .result) s (r .ensures .result-is)) ∙ z) (read-drawing (r .result) s (r .ensures .result-is) z) (c .fault .ensures)
 
 pub mulkefi-sketch-test-spec : {M : Type 1} → statement M
 mulkefi-sketch-test-spec =

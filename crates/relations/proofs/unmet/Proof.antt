@@ -2,7 +2,7 @@
 use mathlib.Core.Path.{sym, _∙_}
 use lib.ListN.{length-map}
 use borrow.Author.Needs.{needs}
-use Rattle.relations.proofs.Verdicts.{told-met, told-unmet}
+use Rattle.relations.proofs.Verdicts.{answered-met, answered-unmet}
 use Rattle.sketch.proofs.Sketches.{sketch-valid}
 use Rattle.relations.proofs.unmet.Statement.{statement}
 use Rattle.relations.proofs.unmet.Tie as tie
@@ -21,14 +21,14 @@ returns-2 c =
     let e = c .before .before .before in
     let s = e .before .before in
     let h = sym (e .before .fault .ensures) ∙ e .if1 .left in
-    told-unmet (s .args .sk) h (sym (length-map (s .args .sk .relations) _) ∙ s .good .0 .1 .1 .1 .1 .1 .1 .1 .1 .0 .1 .0 .1) (c .before .before .search-all .ensures (sketch-valid (s .args .sk) h .1)) (c .if2 .taken)
+    answered-unmet (s .args .sk) h (sym (length-map (s .args .sk .relations) _) ∙ s .good .0 .1 .1 .1 .1 .1 .1 .1 .1 .0 .1 .0 .1) (c .before .before .search-all .ensures (sketch-valid (s .args .sk) h .1)) (c .if2 .taken)
 
 returns-3 : tie.Need-returns-3
 returns-3 c =
     let e = c .before .before .before in
     let s = e .before .before in
     let h = sym (e .before .fault .ensures) ∙ e .if1 .left in
-    told-met (s .args .sk) h (sym (length-map (s .args .sk .relations) _) ∙ s .good .0 .1 .1 .1 .1 .1 .1 .1 .1 .0 .1 .0 .1) (c .before .before .search-all .ensures (sketch-valid (s .args .sk) h .1)) (c .if2 .left)
+    answered-met (s .args .sk) h (sym (length-map (s .args .sk .relations) _) ∙ s .good .0 .1 .1 .1 .1 .1 .1 .1 .1 .0 .1 .0 .1) (c .before .before .search-all .ensures (sketch-valid (s .args .sk) h .1)) (c .if2 .left)
 
 pub unmet-spec : {M : Type 1} → statement M
 unmet-spec = tie.close (tie.spec fault-requires returns search-all-requires returns-2 returns-3)

@@ -17,77 +17,59 @@ Inv-loop n ids₀ near₀ xs₀ ys₀ points i₀ ids near xs ys i = PointsFille
 abbrev μ-loop : tie.MeasureT-loop
 μ-loop n ids₀ near₀ xs₀ ys₀ points i₀ ids near xs ys i = n - i
 
--- src/columns.rt:26:5
 loop-holds : tie.Need-loop-holds Inv-loop μ-loop
 loop-holds c = (points-begun _ _ _ _, omega arith, refl)
 
--- src/columns.rt:27:17
 mul-p : tie.Need-mul-p Inv-loop μ-loop
 mul-p c = search needs
 
--- src/columns.rt:27:17
 array-copy-out-p : tie.Need-array-copy-out-p Inv-loop μ-loop
 array-copy-out-p c = search needs
 
--- src/columns.rt:29:9
 mul-ids : tie.Need-mul-ids Inv-loop μ-loop
 mul-ids c = search needs
 
--- src/columns.rt:29:9
 slice-write-ids : tie.Need-slice-write-ids Inv-loop μ-loop
 slice-write-ids c = search needs
 
--- src/columns.rt:30:9
 mul-xs : tie.Need-mul-xs Inv-loop μ-loop
 mul-xs c = search needs
 
--- src/columns.rt:30:9
 slice-write-xs : tie.Need-slice-write-xs Inv-loop μ-loop
 slice-write-xs c = search needs
 
--- src/columns.rt:31:9
 mul-ys : tie.Need-mul-ys Inv-loop μ-loop
 mul-ys c = search needs
 
--- src/columns.rt:31:9
 slice-write-ys : tie.Need-slice-write-ys Inv-loop μ-loop
 slice-write-ys c = search needs
 
--- src/columns.rt:32:9
 note-requires : tie.Need-note-requires Inv-loop μ-loop
 note-requires c κs = search needs
 
--- src/columns.rt:33:9
 add-i : tie.Need-add-i Inv-loop μ-loop
 add-i c = search needs
 
--- src/columns.rt:26:5
 loop-less : tie.Need-loop-less Inv-loop μ-loop
 loop-less c = search needs
 
--- src/columns.rt:26:5
 loop-again : tie.Need-loop-again Inv-loop μ-loop
 loop-again c =
     let l = c .before .before .before .before .before .before .loop in
     (points-on (l .inv .0) (search needs) (omega arith) (omega arith) (omega arith), omega arith, search needs)
 
--- src/columns.rt:14:1
 same-length : tie.Need-same-length Inv-loop μ-loop
 same-length c = search needs
 
--- src/columns.rt:14:1
 same-length-2 : tie.Need-same-length-2 Inv-loop μ-loop
 same-length-2 c = search needs
 
--- src/columns.rt:14:1
 same-length-3 : tie.Need-same-length-3 Inv-loop μ-loop
 same-length-3 c = search needs
 
--- src/columns.rt:14:1
 same-length-4 : tie.Need-same-length-4 Inv-loop μ-loop
 same-length-4 c = search needs
 
--- src/columns.rt:14:1
 returns : tie.Need-returns Inv-loop μ-loop
 returns c = let l = c .before .loop in points-done (l .inv .0) (omega arith) (omega arith)
 

@@ -9,19 +9,15 @@ use Rattle.sketch_geometry.proofs.number_at.Tie as tie
 use Rattle.sketch_geometry.proofs.number_at.Reads as reads
 use Rattle.sketch_geometry.proofs.number_at.Lts as lts
 
--- src/reading.rt:14:27
 mul-result : tie.Need-mul-result
 mul-result c = search needs
 
--- src/reading.rt:14:27
 shared-slice-read-result : tie.Need-shared-slice-read-result
 shared-slice-read-result c = search needs
 
--- src/reading.rt:11:1
 returns : tie.Need-returns
 returns c = refl
 
--- src/reading.rt:11:1
 returns-2 : tie.Need-returns-2
 returns-2 c = no-number ∙ sym (List·getD-eq-default (c .before .args .column .now) nan (c .if1 .left))
 

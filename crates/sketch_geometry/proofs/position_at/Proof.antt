@@ -7,19 +7,15 @@ use Rattle.sketch_geometry.proofs.position_at.Lts as lts
 use Rattle.geom.proofs.Vec2.new.Reads as new-reads
 use Rattle.sketch_geometry.proofs.number_at.Reads as number-at-reads
 
--- src/reading.rt:21:15
 number-at-requires : tie.Need-number-at-requires
 number-at-requires c κs = search needs
 
--- src/reading.rt:21:33
 number-at-requires-2 : tie.Need-number-at-requires-2
 number-at-requires-2 c κs = search needs
 
--- src/reading.rt:21:5
 new-requires : tie.Need-new-requires
 new-requires c κs = search needs
 
--- src/reading.rt:18:1
 returns : tie.Need-returns
 returns c = rw (c .new .ensures, c .before .number-at2 .ensures, c .before .before .number-at .ensures)
 

@@ -10,45 +10,35 @@ use Rattle.replication.proofs.run_program.Reads as run-program-reads
 use Rattle.io.proofs.read_full.Reads as read-full-reads
 use Rattle.io.proofs.write_all.Reads as write-all-reads
 
--- src/main.rt:14:41
 slice-aggregate-read-full : tie.Need-slice-aggregate-read-full
 slice-aggregate-read-full c = search needs
 
--- src/main.rt:14:9
 read-full-requires : tie.Need-read-full-requires
 read-full-requires c κs = search needs
 
--- src/main.rt:15:30
 array-share-prefix-input : tie.Need-array-share-prefix-input
 array-share-prefix-input c = search needs
 
--- src/main.rt:15:30
 slice-aggregate-run-program : tie.Need-slice-aggregate-run-program
 slice-aggregate-run-program c = search needs
 
--- src/main.rt:15:43
 slice-aggregate-run-program-2 : tie.Need-slice-aggregate-run-program-2
 slice-aggregate-run-program-2 c = search needs
 
--- src/main.rt:15:9
 run-program-requires : tie.Need-run-program-requires
 run-program-requires c κs = search needs
 
--- src/main.rt:16:34
 array-share-prefix-out : tie.Need-array-share-prefix-out
 array-share-prefix-out c = search needs
 
--- src/main.rt:16:34
 slice-aggregate-write-all : tie.Need-slice-aggregate-write-all
 slice-aggregate-write-all c =
     let h = c .before .out2 .given in
     sym (length-take-le (c .before .before .run-program .result) (c .before .before .run-program .last .1 .0) (omega (arith, c .before .before .run-program .ensures .within)))
 
--- src/main.rt:16:5
 write-all-requires : tie.Need-write-all-requires
 write-all-requires c κs = search needs
 
--- src/main.rt:11:1
 returns : tie.Need-returns
 returns c = search needs
 

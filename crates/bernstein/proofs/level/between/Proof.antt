@@ -34,8 +34,8 @@ shared-slice-read-hi c = search needs
 evaluate-requires-2 : tie.Need-evaluate-requires-2 Inv-loop μ-loop
 evaluate-requires-2 c κs = search needs
 
-no-bracket-requires : tie.Need-no-bracket-requires Inv-loop μ-loop
-no-bracket-requires c κs = search needs
+no-sign-change-requires : tie.Need-no-sign-change-requires Inv-loop μ-loop
+no-sign-change-requires c κs = search needs
 
 bisect-requires : tie.Need-bisect-requires Inv-loop μ-loop
 bisect-requires c κs = search needs
@@ -51,7 +51,7 @@ same-length c = search needs
 
 returns-2 : tie.Need-returns-2 Inv-loop μ-loop
 returns-2 c =
-    laid-refused _ _ (out-of _ _ _ _ _ _ _ _ _ _ _ _ (c .before .before .before .before .before .before .before .before .loop .inv) (c .before .before .before .before .before .before .before .loop-test .taken) _ (c .before .before .before .before .before .evaluate2 .ensures) _ (c .before .before .before .before .no-bracket .ensures) _ (c .before .before .bisect .ensures) (c .enum-told .given .1) (not-true _ (c .before .before .before .if2 .taken)))
+    laid-refused _ _ (out-of _ _ _ _ _ _ _ _ _ _ _ _ (c .before .before .before .before .before .before .before .before .loop .inv) (c .before .before .before .before .before .before .before .loop-test .taken) _ (c .before .before .before .before .before .evaluate2 .ensures) _ (c .before .before .before .before .no-sign-change .ensures) _ (c .before .before .bisect .ensures) (c .enum-told .given .1) (not-true _ (c .before .before .before .if2 .taken)))
 
 mul-f : tie.Need-mul-f Inv-loop μ-loop
 mul-f c = search needs
@@ -73,7 +73,7 @@ loop-again c =
     let s = c .before .before .before .before .before .loop .inv in
     let h = c .before .before .before .before .loop-test .taken in
     let v = c .before .before .evaluate2 .ensures in
-    let n = c .before .no-bracket .ensures in
+    let n = c .before .no-sign-change .ensures in
     ⊎-elim
     (λ w. bracketed _ _ _ _ _ _ _ _ _ _ _ _ s h _ v _ n _ _ _ _ _ _ (w .1 .ensures) (w .3 .given .1) (not-true _ (w .0 .taken)) (w .5) (w .6) (w .7))
     (λ w. passed _ _ _ _ _ _ _ _ _ _ _ _ s h _ v _ n _ _ _ (not-false _ (w .0 .left)) (w .1) (w .2) (w .3))
@@ -98,7 +98,7 @@ between-spec =
     mul-hi
     shared-slice-read-hi
     evaluate-requires-2
-    no-bracket-requires
+    no-sign-change-requires
     bisect-requires
     enum-known-r
     enum-told

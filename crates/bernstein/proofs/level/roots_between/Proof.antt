@@ -5,7 +5,7 @@ use mathlib.Core.List.{List, [], _++_}
 use lib.ListN.{length, take, drop}
 use lib.Ieee.{Float}
 use Rattle.float.specs.Numbers.{_⊗_, 2e-13, 1e-10}
-use Rattle.bernstein.specs.Roots.{RootsResult, found, refused, sortOnto, dedupOf, knotsOf, brackets, gathered, sortedDedup, levelOf}
+use Rattle.bernstein.specs.Roots.{RootsResult, found, refused, sortOnto, dedupOf, knotsOf, bisectBetween, gathered, sortedDedup, levelOf}
 use Rattle.bernstein.specs.declared.Roots.the-variants.{Found, Refused}
 use Rattle.bernstein.proofs.Levels.{refuses, finds, part-length, knots-are, knots-fit, knots-counted, knots-few, level-is, level-refused, level-found, q-counted, q-fits, level-few}
 use native.Mathlib.Omega.{arith}
@@ -54,7 +54,7 @@ module _ (c : tie.After-between) where
   largest = c .before .before .before .before .before .before .before .before .before .before .before .largest .result
 
   abbrev gathering : RootsResult
-  gathering = gathered zeros (brackets cs (largest ⊗ 2e-13) (knots tidied) budget)
+  gathering = gathered zeros (bisectBetween cs (largest ⊗ 2e-13) (knots tidied) budget)
 
   is-level : levelOf cs (ts tidied) budget ≡ sortedDedup gathering
   is-level = level-is cs (ts tidied) (knots tidied) zeros budget largest (are tidied) (c .before .before .before .before .before .before .before .before .before .before .before .largest .ensures) (c .before .before .before .before .zeros .ensures .0)

@@ -9,35 +9,27 @@ use Rattle.big_endian.proofs.load.load2.Reads as reads
 use Rattle.big_endian.proofs.load.load2.Lts as lts
 use Rattle.big_endian.proofs.load.wide.Reads as wide-reads
 
--- src/load.rt:17:10
 shared-slice-read-wide : tie.Need-shared-slice-read-wide
 shared-slice-read-wide c = search needs
 
--- src/load.rt:17:5
 wide-requires : tie.Need-wide-requires
 wide-requires c κs = search needs
 
--- src/load.rt:17:5
 mul-result : tie.Need-mul-result
 mul-result c = omega arith
 
--- src/load.rt:17:32
 add-wide : tie.Need-add-wide
 add-wide c = search needs
 
--- src/load.rt:17:30
 shared-slice-read-wide-2 : tie.Need-shared-slice-read-wide-2
 shared-slice-read-wide-2 c = search needs
 
--- src/load.rt:17:25
 wide-requires-2 : tie.Need-wide-requires-2
 wide-requires-2 c κs = search needs
 
--- src/load.rt:17:5
 add-result : tie.Need-add-result
 add-result c = omega arith
 
--- src/load.rt:13:1
 returns : tie.Need-returns
 returns c =
     let a = c .before .before .before .before .before .args in

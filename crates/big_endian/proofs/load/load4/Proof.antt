@@ -9,35 +9,27 @@ use Rattle.big_endian.proofs.load.load4.Reads as reads
 use Rattle.big_endian.proofs.load.load4.Lts as lts
 use Rattle.big_endian.proofs.load.load2.Reads as load2-reads
 
--- src/load.rt:24:5
 load2-requires : tie.Need-load2-requires
 load2-requires c κs = search needs
 
--- src/load.rt:24:5
 cast-result : tie.Need-cast-result
 cast-result c = search needs
 
--- src/load.rt:24:5
 mul-result : tie.Need-mul-result
 mul-result c = search needs
 
--- src/load.rt:24:44
 add-load2 : tie.Need-add-load2
 add-load2 c = search needs
 
--- src/load.rt:24:35
 load2-requires-2 : tie.Need-load2-requires-2
 load2-requires-2 c κs = search needs
 
--- src/load.rt:24:35
 cast-result-2 : tie.Need-cast-result-2
 cast-result-2 c = search needs
 
--- src/load.rt:24:5
 add-result : tie.Need-add-result
 add-result c = search needs
 
--- src/load.rt:20:1
 returns : tie.Need-returns
 returns c =
     let a = c .before .before .before .args in

@@ -9,159 +9,120 @@ use Rattle.big_endian.proofs.load.load8.Lts as lts
 use Rattle.big_endian.proofs.load.swap_bytes.Reads as swap-bytes-reads
 use Rattle.big_endian.proofs.load.wide8.Reads as wide8-reads
 
--- src/load.rt:60:19
 shared-slice-read-wide8 : tie.Need-shared-slice-read-wide8
 shared-slice-read-wide8 c = search needs
 
--- src/load.rt:60:9
 wide8-requires : tie.Need-wide8-requires
 wide8-requires c κs = search needs
 
--- src/load.rt:61:21
 add-wide8 : tie.Need-add-wide8
 add-wide8 c = search needs
 
--- src/load.rt:61:19
 shared-slice-read-wide8-2 : tie.Need-shared-slice-read-wide8-2
 shared-slice-read-wide8-2 c = search needs
 
--- src/load.rt:61:13
 wide8-requires-2 : tie.Need-wide8-requires-2
 wide8-requires-2 c κs = search needs
 
--- src/load.rt:61:13
 mul-b : tie.Need-mul-b
 mul-b c = search needs
 
--- src/load.rt:62:21
 add-wide8-2 : tie.Need-add-wide8-2
 add-wide8-2 c = search needs
 
--- src/load.rt:62:19
 shared-slice-read-wide8-3 : tie.Need-shared-slice-read-wide8-3
 shared-slice-read-wide8-3 c = search needs
 
--- src/load.rt:62:13
 wide8-requires-3 : tie.Need-wide8-requires-3
 wide8-requires-3 c κs = search needs
 
--- src/load.rt:62:13
 mul-c : tie.Need-mul-c
 mul-c c = search needs
 
--- src/load.rt:63:21
 add-wide8-3 : tie.Need-add-wide8-3
 add-wide8-3 c = search needs
 
--- src/load.rt:63:19
 shared-slice-read-wide8-4 : tie.Need-shared-slice-read-wide8-4
 shared-slice-read-wide8-4 c = search needs
 
--- src/load.rt:63:13
 wide8-requires-4 : tie.Need-wide8-requires-4
 wide8-requires-4 c κs = search needs
 
--- src/load.rt:63:13
 mul-d : tie.Need-mul-d
 mul-d c = search needs
 
--- src/load.rt:64:21
 add-wide8-4 : tie.Need-add-wide8-4
 add-wide8-4 c = search needs
 
--- src/load.rt:64:19
 shared-slice-read-wide8-5 : tie.Need-shared-slice-read-wide8-5
 shared-slice-read-wide8-5 c = search needs
 
--- src/load.rt:64:13
 wide8-requires-5 : tie.Need-wide8-requires-5
 wide8-requires-5 c κs = search needs
 
--- src/load.rt:64:13
 mul-e : tie.Need-mul-e
 mul-e c = search needs
 
--- src/load.rt:65:21
 add-wide8-5 : tie.Need-add-wide8-5
 add-wide8-5 c = search needs
 
--- src/load.rt:65:19
 shared-slice-read-wide8-6 : tie.Need-shared-slice-read-wide8-6
 shared-slice-read-wide8-6 c = search needs
 
--- src/load.rt:65:13
 wide8-requires-6 : tie.Need-wide8-requires-6
 wide8-requires-6 c κs = search needs
 
--- src/load.rt:65:13
 mul-f : tie.Need-mul-f
 mul-f c = search needs
 
--- src/load.rt:66:21
 add-wide8-6 : tie.Need-add-wide8-6
 add-wide8-6 c = search needs
 
--- src/load.rt:66:19
 shared-slice-read-wide8-7 : tie.Need-shared-slice-read-wide8-7
 shared-slice-read-wide8-7 c = search needs
 
--- src/load.rt:66:13
 wide8-requires-7 : tie.Need-wide8-requires-7
 wide8-requires-7 c κs = search needs
 
--- src/load.rt:66:13
 mul-g : tie.Need-mul-g
 mul-g c = search needs
 
--- src/load.rt:67:21
 add-wide8-7 : tie.Need-add-wide8-7
 add-wide8-7 c = search needs
 
--- src/load.rt:67:19
 shared-slice-read-wide8-8 : tie.Need-shared-slice-read-wide8-8
 shared-slice-read-wide8-8 c = search needs
 
--- src/load.rt:67:13
 wide8-requires-8 : tie.Need-wide8-requires-8
 wide8-requires-8 c κs = search needs
 
--- src/load.rt:67:13
 mul-h : tie.Need-mul-h
 mul-h c = search needs
 
--- src/load.rt:68:14
 add-swap-bytes : tie.Need-add-swap-bytes
 add-swap-bytes c = search needs
 
--- src/load.rt:68:24
 add-swap-bytes-2 : tie.Need-add-swap-bytes-2
 add-swap-bytes-2 c = search needs
 
--- src/load.rt:68:13
 add-swap-bytes-3 : tie.Need-add-swap-bytes-3
 add-swap-bytes-3 c = search needs
 
--- src/load.rt:68:36
 add-swap-bytes-4 : tie.Need-add-swap-bytes-4
 add-swap-bytes-4 c = search needs
 
--- src/load.rt:68:46
 add-swap-bytes-5 : tie.Need-add-swap-bytes-5
 add-swap-bytes-5 c = search needs
 
--- src/load.rt:68:35
 add-swap-bytes-6 : tie.Need-add-swap-bytes-6
 add-swap-bytes-6 c = search needs
 
--- src/load.rt:68:12
 add-swap-bytes-7 : tie.Need-add-swap-bytes-7
 add-swap-bytes-7 c = search needs
 
--- src/load.rt:68:5
 swap-bytes-requires : tie.Need-swap-bytes-requires
 swap-bytes-requires c κs = search needs
 
--- src/load.rt:56:1
 returns : tie.Need-returns
 returns c =
     let z = c .before .before .before .before .before .before .before .before .before .before .before .before .before .before .before .before .before .before .args in

@@ -6,63 +6,48 @@ use Rattle.big_endian.proofs.load.swap_bytes.Tie as tie
 use Rattle.big_endian.proofs.load.swap_bytes.Reads as reads
 use Rattle.big_endian.proofs.load.swap_bytes.Lts as lts
 
--- src/load.rt:44:13
 mul-a : tie.Need-mul-a
 mul-a c = search needs
 
--- src/load.rt:45:13
 mul-b : tie.Need-mul-b
 mul-b c = search needs
 
--- src/load.rt:46:13
 mul-c : tie.Need-mul-c
 mul-c c = search needs
 
--- src/load.rt:47:13
 mul-d : tie.Need-mul-d
 mul-d c = search needs
 
--- src/load.rt:48:13
 mul-e : tie.Need-mul-e
 mul-e c = search needs
 
--- src/load.rt:49:13
 mul-f : tie.Need-mul-f
 mul-f c = search needs
 
--- src/load.rt:50:13
 mul-g : tie.Need-mul-g
 mul-g c = search needs
 
--- src/load.rt:51:7
 add-result : tie.Need-add-result
 add-result c = search needs
 
--- src/load.rt:51:17
 add-result-2 : tie.Need-add-result-2
 add-result-2 c = search needs
 
--- src/load.rt:51:6
 add-result-3 : tie.Need-add-result-3
 add-result-3 c = search needs
 
--- src/load.rt:51:29
 add-result-4 : tie.Need-add-result-4
 add-result-4 c = search needs
 
--- src/load.rt:51:39
 add-result-5 : tie.Need-add-result-5
 add-result-5 c = search needs
 
--- src/load.rt:51:28
 add-result-6 : tie.Need-add-result-6
 add-result-6 c = search needs
 
--- src/load.rt:51:5
 add-result-7 : tie.Need-add-result-7
 add-result-7 c = search needs
 
--- src/load.rt:34:1
 returns : tie.Need-returns
 returns c = turns _
 

@@ -9,52 +9,41 @@ use Rattle.big_endian.proofs.short.short4.Reads as reads
 use Rattle.big_endian.proofs.short.short4.Lts as lts
 use Rattle.big_endian.proofs.get2.Reads as get2-reads
 
--- src/short.rt:12:9
 returns : tie.Need-returns
 returns c =
     let a = c .before .before .args in
     let h : length (a .s .now) ≤ a .at = omega arith in
     rw field-past
 
--- src/short.rt:14:16
 get2-requires : tie.Need-get2-requires
 get2-requires c κs = search needs
 
--- src/short.rt:14:16
 cast-high : tie.Need-cast-high
 cast-high c = search needs
 
--- src/short.rt:14:16
 mul-high : tie.Need-mul-high
 mul-high c = search needs
 
--- src/short.rt:15:8
 sub-if2 : tie.Need-sub-if2
 sub-if2 c = search needs
 
--- src/short.rt:16:9
 returns-2 : tie.Need-returns-2
 returns-2 c =
     let a = c .before .before .before .before .args in
     omega (arith, field-split (a .s .now) (a .at) 2 2, field-past (a .s .now) (a .at + 2) 2 (omega arith))
 
--- src/short.rt:18:20
 add-get2 : tie.Need-add-get2
 add-get2 c = search needs
 
--- src/short.rt:18:12
 get2-requires-2 : tie.Need-get2-requires-2
 get2-requires-2 c κs = search needs
 
--- src/short.rt:18:12
 cast-result : tie.Need-cast-result
 cast-result c = search needs
 
--- src/short.rt:18:5
 add-result : tie.Need-add-result
 add-result c = search needs
 
--- src/short.rt:7:1
 returns-3 : tie.Need-returns-3
 returns-3 c =
     let a = c .before .before .before .before .before .args in

@@ -9,31 +9,24 @@ use Rattle.big_endian.proofs.store.store2.Tie as tie
 use Rattle.big_endian.proofs.store.store2.Reads as reads
 use Rattle.big_endian.proofs.store.store2.Lts as lts
 
--- src/store.rt:11:15
 cast-buf : tie.Need-cast-buf
 cast-buf c = search needs
 
--- src/store.rt:11:5
 slice-write-buf : tie.Need-slice-write-buf
 slice-write-buf c = search needs
 
--- src/store.rt:12:19
 cast-buf-2 : tie.Need-cast-buf-2
 cast-buf-2 c = search needs
 
--- src/store.rt:12:9
 add-buf : tie.Need-add-buf
 add-buf c = search needs
 
--- src/store.rt:12:5
 slice-write-buf-2 : tie.Need-slice-write-buf-2
 slice-write-buf-2 c = simp length-set (omega arith)
 
--- src/store.rt:7:1
 same-length : tie.Need-same-length
 same-length c = search needs
 
--- src/store.rt:7:1
 returns : tie.Need-returns
 returns c = store-two (c .args .buf .now) (c .args .at) (c .args .v) (omega arith)
 

@@ -9,23 +9,18 @@ use Rattle.big_endian.proofs.store.store4.Reads as reads
 use Rattle.big_endian.proofs.store.store4.Lts as lts
 use Rattle.big_endian.proofs.store.store2.Reads as store2-reads
 
--- src/store.rt:19:5
 store2-requires : tie.Need-store2-requires
 store2-requires c κs = search needs
 
--- src/store.rt:20:17
 add-store2 : tie.Need-add-store2
 add-store2 c = search needs
 
--- src/store.rt:20:5
 store2-requires-2 : tie.Need-store2-requires-2
 store2-requires-2 c κs = search needs
 
--- src/store.rt:15:1
 same-length : tie.Need-same-length
 same-length c = search needs
 
--- src/store.rt:15:1
 returns : tie.Need-returns
 returns c = store-halves (c .before .before .before .before .before .before .before .before .before .args .buf .now) (c .before .before .before .before .before .before .before .before .before .args .at) 2 (c .before .before .before .before .before .before .before .before .before .args .v) (omega arith) (c .before .before .before .before .before .before .store2 .ensures) (c .before .before .store22 .ensures)
 

@@ -9,23 +9,18 @@ use Rattle.big_endian.proofs.store.store8.Reads as reads
 use Rattle.big_endian.proofs.store.store8.Lts as lts
 use Rattle.big_endian.proofs.store.store4.Reads as store4-reads
 
--- src/store.rt:27:5
 store4-requires : tie.Need-store4-requires
 store4-requires c κs = search needs
 
--- src/store.rt:28:17
 add-store4 : tie.Need-add-store4
 add-store4 c = search needs
 
--- src/store.rt:28:5
 store4-requires-2 : tie.Need-store4-requires-2
 store4-requires-2 c κs = search needs
 
--- src/store.rt:23:1
 same-length : tie.Need-same-length
 same-length c = search needs
 
--- src/store.rt:23:1
 returns : tie.Need-returns
 returns c = store-halves (c .before .before .before .before .before .before .before .before .before .args .buf .now) (c .before .before .before .before .before .before .before .before .before .args .at) 4 (c .before .before .before .before .before .before .before .before .before .args .v) (omega arith) (c .before .before .before .before .before .before .store4 .ensures) (c .before .before .store42 .ensures)
 

@@ -12,8 +12,8 @@ use Rattle.edit_plan.proofs.changes.change_for.Tie as tie
 enum-known-plan : tie.Need-enum-known-plan
 enum-known-plan c = search needs
 
-pin-of-requires : tie.Need-pin-of-requires
-pin-of-requires c κs = search needs
+pin-relation-requires : tie.Need-pin-relation-requires
+pin-relation-requires c κs = search needs
 
 halves-requires : tie.Need-halves-requires
 unfolding takes
@@ -75,7 +75,7 @@ divide-once-requires-3 c κs = search needs
 returns : tie.Need-returns
 unfolding changeFor
 returns c =
-    simp (c .cut-once .ensures, c .before .halves .ensures, c .before .before .pin-of .ensures, c .before .before .before .before .before .plan .given .1)
+    simp (c .cut-once .ensures, c .before .halves .ensures, c .before .before .pin-relation .ensures, c .before .before .before .before .before .plan .given .1)
 
 returns-2 : tie.Need-returns-2
 unfolding changeFor
@@ -105,7 +105,7 @@ change-for-spec =
     tie.close
     (tie.spec
     enum-known-plan
-    pin-of-requires
+    pin-relation-requires
     halves-requires
     cut-once-requires
     enum-known-plan-2

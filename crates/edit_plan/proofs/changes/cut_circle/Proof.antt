@@ -4,14 +4,14 @@ use borrow.Author.Needs.{needs}
 use Rattle.edit_plan.proofs.changes.cut_circle.Statement.{statement}
 use Rattle.edit_plan.proofs.changes.cut_circle.Tie as tie
 
-pin-of-requires : tie.Need-pin-of-requires
-pin-of-requires c κs = search needs
+pin-relation-requires : tie.Need-pin-relation-requires
+pin-relation-requires c κs = search needs
 
-add-pin-of : tie.Need-add-pin-of
-add-pin-of c = search needs
+add-pin-relation : tie.Need-add-pin-relation
+add-pin-relation c = search needs
 
-pin-of-requires-2 : tie.Need-pin-of-requires-2
-pin-of-requires-2 c κs = search needs
+pin-relation-requires-2 : tie.Need-pin-relation-requires-2
+pin-relation-requires-2 c κs = search needs
 
 half-circles-requires : tie.Need-half-circles-requires
 half-circles-requires c κs = search needs
@@ -21,15 +21,15 @@ cut-once-requires c κs = search needs
 
 returns : tie.Need-returns
 returns c =
-    simp (c .cut-once .ensures, c .before .half-circles .ensures, c .before .before .pin-of2 .ensures, c .before .before .before .pin-of .ensures, add-one)
+    simp (c .cut-once .ensures, c .before .half-circles .ensures, c .before .before .pin-relation2 .ensures, c .before .before .before .pin-relation .ensures, add-one)
 
 pub cut-circle-spec : {M : Type 1} → statement M
 cut-circle-spec =
     tie.close
     (tie.spec
-    pin-of-requires
-    add-pin-of
-    pin-of-requires-2
+    pin-relation-requires
+    add-pin-relation
+    pin-relation-requires-2
     half-circles-requires
     cut-once-requires
     returns)

@@ -18,14 +18,14 @@ add-i c = search needs
 add-g : tie.Need-add-g
 add-g c = search needs
 
-pin-of-requires : tie.Need-pin-of-requires
-pin-of-requires c κs = search needs
+pin-relation-requires : tie.Need-pin-relation-requires
+pin-relation-requires c κs = search needs
 
-pin-of-requires-2 : tie.Need-pin-of-requires-2
-pin-of-requires-2 c κs = search needs
+pin-relation-requires-2 : tie.Need-pin-relation-requires-2
+pin-relation-requires-2 c κs = search needs
 
-tie-of-requires : tie.Need-tie-of-requires
-tie-of-requires c κs = search needs
+tie-relation-requires : tie.Need-tie-relation-requires
+tie-relation-requires c κs = search needs
 
 add-t18 : tie.Need-add-t18
 add-t18 c = search needs
@@ -54,7 +54,7 @@ add-t25 c =
 
 returns : tie.Need-returns
 returns c =
-    simp (c .new-curve .ensures, c .before .piece2 .ensures, c .before .before .recut .ensures, c .before .before .before .piece .ensures, c .before .before .before .before .new-point2 .ensures, c .before .before .before .before .before .new-point .ensures, c .before .before .before .before .before .before .tie-of .ensures, c .before .before .before .before .before .before .before .pin-of2 .ensures, c .before .before .before .before .before .before .before .before .pin-of .ensures, c .before .before .before .before .before .before .before .before .before .before .before .end-of .ensures, c .before .before .before .before .before .before .before .before .before .before .before .before .start-of .ensures, add-one, add-two, add-three, add-four)
+    simp (c .new-curve .ensures, c .before .piece2 .ensures, c .before .before .recut .ensures, c .before .before .before .piece .ensures, c .before .before .before .before .new-point2 .ensures, c .before .before .before .before .before .new-point .ensures, c .before .before .before .before .before .before .tie-relation .ensures, c .before .before .before .before .before .before .before .pin-relation2 .ensures, c .before .before .before .before .before .before .before .before .pin-relation .ensures, c .before .before .before .before .before .before .before .before .before .before .before .end-of .ensures, c .before .before .before .before .before .before .before .before .before .before .before .before .start-of .ensures, add-one, add-two, add-three, add-four)
 
 pub cut-middle-spec : {M : Type 1} → statement M
 cut-middle-spec =
@@ -64,9 +64,9 @@ cut-middle-spec =
     end-of-requires
     add-i
     add-g
-    pin-of-requires
-    pin-of-requires-2
-    tie-of-requires
+    pin-relation-requires
+    pin-relation-requires-2
+    tie-relation-requires
     add-t18
     new-point-requires
     new-point-requires-2

@@ -3,8 +3,8 @@ use borrow.Author.Needs.{needs}
 use Rattle.edit_plan.proofs.changes.divide_once.Statement.{statement}
 use Rattle.edit_plan.proofs.changes.divide_once.Tie as tie
 
-tie-of-requires : tie.Need-tie-of-requires
-tie-of-requires c κs = search needs
+tie-relation-requires : tie.Need-tie-relation-requires
+tie-relation-requires c κs = search needs
 
 piece-requires : tie.Need-piece-requires
 piece-requires c κs = search needs
@@ -20,13 +20,13 @@ new-curve-requires c κs = search needs
 
 returns : tie.Need-returns
 returns c =
-    simp (c .new-curve .ensures, c .before .piece2 .ensures, c .before .before .recut .ensures, c .before .before .before .piece .ensures, c .before .before .before .before .tie-of .ensures)
+    simp (c .new-curve .ensures, c .before .piece2 .ensures, c .before .before .recut .ensures, c .before .before .before .piece .ensures, c .before .before .before .before .tie-relation .ensures)
 
 pub divide-once-spec : {M : Type 1} → statement M
 divide-once-spec =
     tie.close
     (tie.spec
-    tie-of-requires
+    tie-relation-requires
     piece-requires
     recut-requires
     piece-requires-2

@@ -12,12 +12,12 @@ drop-if-requires c κs = search needs
 returns : tie.Need-returns
 returns c = simp (c .drop-if .ensures, c .before .names .ensures, c .before .before .if1 .taken)
 
-release-extent-requires : tie.Need-release-extent-requires
-release-extent-requires c κs = search needs
+release-relation-requires : tie.Need-release-relation-requires
+release-relation-requires c κs = search needs
 
 returns-2 : tie.Need-returns-2
-returns-2 c = simp (c .release-extent .ensures, c .before .if1 .left)
+returns-2 c = simp (c .release-relation .ensures, c .before .if1 .left)
 
 pub left-by-spec : {M : Type 1} → statement M
 left-by-spec =
-    tie.close (tie.spec names-requires drop-if-requires returns release-extent-requires returns-2)
+    tie.close (tie.spec names-requires drop-if-requires returns release-relation-requires returns-2)

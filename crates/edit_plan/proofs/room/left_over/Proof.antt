@@ -41,8 +41,8 @@ element-copy-out-s c = omega arith
 add-i : tie.Need-add-i Inv-loop μ-loop
 add-i c = omega arith
 
-release-extent-requires : tie.Need-release-extent-requires Inv-loop μ-loop
-release-extent-requires c κs = search needs
+release-relation-requires : tie.Need-release-relation-requires Inv-loop μ-loop
+release-relation-requires c κs = search needs
 
 enum-told : tie.Need-enum-told Inv-loop μ-loop
 enum-told c = search needs
@@ -57,7 +57,7 @@ loop-again : tie.Need-loop-again Inv-loop μ-loop
 loop-again c =
     let l = c .before .before .before .before .before .loop in
     let a = c .before .before .before .before .before .before .args in
-    let e = ap length (sym (c .before .before .release-extent .ensures)) ∙ ap (λ k. length (keptOf k)) (c .enum-told .given .1) in
+    let e = ap length (sym (c .before .before .release-relation .ensures)) ∙ ap (λ k. length (keptOf k)) (c .enum-told .given .1) in
     let n = count-next (rule-of (a .e)) (a .t1 .relations) (a .t1 .nrelations) (l .i) (omega arith) (long (c .before .before .before .before .before .before) (l .inv .1)) in
     (omega arith, l .inv .1, omega arith, omega (arith, n, e, l .inv .3))
 
@@ -71,7 +71,7 @@ loop-again-2 : tie.Need-loop-again-2 Inv-loop μ-loop
 loop-again-2 c =
     let l = c .before .before .before .before .before .loop in
     let a = c .before .before .before .before .before .before .args in
-    let e = ap length (sym (c .before .before .release-extent .ensures)) ∙ ap (λ k. length (keptOf k)) (c .enum-told2 .given .1) in
+    let e = ap length (sym (c .before .before .release-relation .ensures)) ∙ ap (λ k. length (keptOf k)) (c .enum-told2 .given .1) in
     let n = count-next (rule-of (a .e)) (a .t1 .relations) (a .t1 .nrelations) (l .i) (omega arith) (long (c .before .before .before .before .before .before) (l .inv .1)) in
     (omega arith, l .inv .1, omega arith, omega (arith, n, e, l .inv .3))
 
@@ -91,7 +91,7 @@ left-over-spec =
     mul-s
     element-copy-out-s
     add-i
-    release-extent-requires
+    release-relation-requires
     enum-told
     add-j
     loop-less

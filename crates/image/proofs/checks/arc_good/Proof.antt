@@ -9,31 +9,24 @@ use Rattle.big_endian.proofs.get1.Reads as get1-reads
 use Rattle.big_endian.proofs.get4.Reads as get4-reads
 use Rattle.big_endian.proofs.get8.Reads as get8-reads
 
--- src/checks.rt:91:9
 get1-requires : tie.Need-get1-requires
 get1-requires c κs = search needs
 
--- src/checks.rt:93:12
 get1-requires-2 : tie.Need-get1-requires-2
 get1-requires-2 c κs = search needs
 
--- src/checks.rt:94:12
 get8-requires : tie.Need-get8-requires
 get8-requires c κs = search needs
 
--- src/checks.rt:95:12
 get4-requires : tie.Need-get4-requires
 get4-requires c κs = search needs
 
--- src/checks.rt:96:12
 get8-requires-2 : tie.Need-get8-requires-2
 get8-requires-2 c κs = search needs
 
--- src/checks.rt:97:12
 get8-requires-3 : tie.Need-get8-requires-3
 get8-requires-3 c κs = search needs
 
--- src/checks.rt:88:1
 returns : tie.Need-returns
 returns c = simp (c .get83 .ensures, c .before .get82 .ensures, c .before .before .get4 .ensures, c .before .before .before .get8 .ensures, c .before .before .before .before .get12 .ensures, c .before .before .before .before .before .get1 .ensures) (good-arc _)
 

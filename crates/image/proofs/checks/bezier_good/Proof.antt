@@ -15,31 +15,24 @@ use Rattle.big_endian.proofs.get1.Reads as get1-reads
 use Rattle.big_endian.proofs.get8.Reads as get8-reads
 use Rattle.image.proofs.checks.clear_past.Reads as clear-past-reads
 
--- src/checks.rt:132:9
 get1-requires : tie.Need-get1-requires
 get1-requires c κs = search needs
 
--- src/checks.rt:133:9
 get1-requires-2 : tie.Need-get1-requires-2
 get1-requires-2 c κs = search needs
 
--- src/checks.rt:135:12
 get8-requires : tie.Need-get8-requires
 get8-requires c κs = search needs
 
--- src/checks.rt:139:25
 cast-clear-past : tie.Need-cast-clear-past
 cast-clear-past c = search needs
 
--- src/checks.rt:139:25
 add-clear-past : tie.Need-add-clear-past
 add-clear-past c = search needs
 
--- src/checks.rt:139:11
 clear-past-requires : tie.Need-clear-past-requires
 clear-past-requires c κs = search needs
 
--- src/checks.rt:129:1
 returns : tie.Need-returns
 returns c = simp (c .before .get8 .ensures, c .before .before .get12 .ensures, c .before .before .before .get1 .ensures) (good-bezier _ (c .clear-past .ensures ∙ ap (λ (n : ℕ). every (λ i. eqb i 0) (drop (n + 1) (slotsOf (c .before .before .before .before .before .args .r .now)))) (c .before .before .get12 .ensures)))
 

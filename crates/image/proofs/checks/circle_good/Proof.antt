@@ -10,35 +10,27 @@ use Rattle.big_endian.proofs.get4.Reads as get4-reads
 use Rattle.big_endian.proofs.get8.Reads as get8-reads
 use Rattle.image.proofs.checks.radius_at.Reads as radius-at-reads
 
--- src/checks.rt:104:9
 get1-requires : tie.Need-get1-requires
 get1-requires c κs = search needs
 
--- src/checks.rt:106:12
 get1-requires-2 : tie.Need-get1-requires-2
 get1-requires-2 c κs = search needs
 
--- src/checks.rt:107:12
 get4-requires : tie.Need-get4-requires
 get4-requires c κs = search needs
 
--- src/checks.rt:108:12
 get8-requires : tie.Need-get8-requires
 get8-requires c κs = search needs
 
--- src/checks.rt:109:12
 get8-requires-2 : tie.Need-get8-requires-2
 get8-requires-2 c κs = search needs
 
--- src/checks.rt:110:12
 get8-requires-3 : tie.Need-get8-requires-3
 get8-requires-3 c κs = search needs
 
--- src/checks.rt:112:11
 radius-at-requires : tie.Need-radius-at-requires
 radius-at-requires c κs = search needs
 
--- src/checks.rt:101:1
 returns : tie.Need-returns
 returns c = simp (c .before .get83 .ensures, c .before .before .get82 .ensures, c .before .before .before .get8 .ensures, c .before .before .before .before .get4 .ensures, c .before .before .before .before .before .get12 .ensures, c .before .before .before .before .before .before .get1 .ensures) (good-circle _ (c .radius-at .ensures))
 

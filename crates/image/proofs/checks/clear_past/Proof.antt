@@ -21,39 +21,30 @@ Inv-loop r n i₀ i = every (λ s. eqb s 0) (drop n (slotsOf r)) ≡ every (λ s
 abbrev μ-loop : tie.MeasureT-loop
 μ-loop r n i₀ i = 8 - i
 
--- src/checks.rt:120:5
 loop-holds : tie.Need-loop-holds Inv-loop μ-loop
 loop-holds c = refl
 
--- src/checks.rt:121:24
 mul-get4 : tie.Need-mul-get4 Inv-loop μ-loop
 mul-get4 c = search needs
 
--- src/checks.rt:121:20
 add-get4 : tie.Need-add-get4 Inv-loop μ-loop
 add-get4 c = search needs
 
--- src/checks.rt:121:12
 get4-requires : tie.Need-get4-requires Inv-loop μ-loop
 get4-requires c κs = search needs
 
--- src/checks.rt:122:13
 returns : tie.Need-returns Inv-loop μ-loop
 returns c = let l = c .before .before .before .loop in let r = c .before .before .before .before .before .args .r .now in sym (l .inv ∙ every-fails (λ s. eqb s 0) (slotsOf r) (l .i) 0 (rw (eight-slots r) (omega arith)) (ap (λ (n : ℕ). eqb n 0) (sym (c .before .get4 .ensures ∙ slot-at r (l .i) (omega arith))) ∙ ne-eqb _ _ (c .if1 .taken)))
 
--- src/checks.rt:124:9
 add-i : tie.Need-add-i Inv-loop μ-loop
 add-i c = search needs
 
--- src/checks.rt:120:5
 loop-less : tie.Need-loop-less Inv-loop μ-loop
 loop-less c = search needs
 
--- src/checks.rt:120:5
 loop-again : tie.Need-loop-again Inv-loop μ-loop
 loop-again c = let l = c .before .before .before .loop in let r = c .before .before .before .before .before .args .r .now in l .inv ∙ every-passes (λ s. eqb s 0) (slotsOf r) (l .i) 0 (rw (eight-slots r) (omega arith)) (ap (λ (n : ℕ). eqb n 0) (sym (c .before .get4 .ensures ∙ slot-at r (l .i) (omega arith))) ∙ eq-eqb _ _ (c .if1 .left))
 
--- src/checks.rt:116:1
 returns-2 : tie.Need-returns-2 Inv-loop μ-loop
 returns-2 c = let l = c .before .loop in let r = c .before .before .before .args .r .now in sym (l .inv ∙ every-done (λ s. eqb s 0) (slotsOf r) (l .i) (rw (eight-slots r) (omega arith)))
 

@@ -10,31 +10,24 @@ use Rattle.big_endian.proofs.get4.Reads as get4-reads
 use Rattle.big_endian.proofs.get8.Reads as get8-reads
 use Rattle.image.proofs.checks.rho_at.Reads as rho-at-reads
 
--- src/checks.rt:145:9
 get1-requires : tie.Need-get1-requires
 get1-requires c κs = search needs
 
--- src/checks.rt:147:12
 get1-requires-2 : tie.Need-get1-requires-2
 get1-requires-2 c κs = search needs
 
--- src/checks.rt:148:12
 get4-requires : tie.Need-get4-requires
 get4-requires c κs = search needs
 
--- src/checks.rt:149:12
 get8-requires : tie.Need-get8-requires
 get8-requires c κs = search needs
 
--- src/checks.rt:150:12
 get8-requires-2 : tie.Need-get8-requires-2
 get8-requires-2 c κs = search needs
 
--- src/checks.rt:152:11
 rho-at-requires : tie.Need-rho-at-requires
 rho-at-requires c κs = search needs
 
--- src/checks.rt:142:1
 returns : tie.Need-returns
 returns c = simp (c .before .get82 .ensures, c .before .before .get8 .ensures, c .before .before .before .get4 .ensures, c .before .before .before .before .get12 .ensures, c .before .before .before .before .before .get1 .ensures) (good-conic _ (c .rho-at .ensures))
 

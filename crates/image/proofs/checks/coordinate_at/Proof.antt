@@ -15,27 +15,21 @@ use Rattle.big_endian.proofs.get8.Reads as get8-reads
 use Rattle.image.proofs.checks.is_number.Reads as is-number-reads
 use Rattle.sketch.proofs.coordinate_ok.Reads as coordinate-ok-reads
 
--- src/checks.rt:33:9
 get8-requires : tie.Need-get8-requires
 get8-requires c κs = search needs
 
--- src/checks.rt:34:9
 is-number-requires : tie.Need-is-number-requires
 is-number-requires c κs = search needs
 
--- src/checks.rt:35:9
 returns : tie.Need-returns
 returns c = out-of-range okCoordinate coordinate-rejects _ _ (c .before .before .get8 .ensures) (c .before .is-number .ensures) (not-true _ (c .if1 .taken))
 
--- src/checks.rt:37:19
 float-from-bits-coordinate-ok : tie.Need-float-from-bits-coordinate-ok
 float-from-bits-coordinate-ok c = number-bits _ refl (sym (c .before .is-number .ensures) ∙ not-false _ (c .if1 .left))
 
--- src/checks.rt:37:5
 coordinate-ok-requires : tie.Need-coordinate-ok-requires
 coordinate-ok-requires c κs = search needs
 
--- src/checks.rt:30:1
 returns-2 : tie.Need-returns-2
 returns-2 c = c .coordinate-ok .ensures ∙ ap (λ (n : ℕ). okCoordinate (ofBits binary64 n)) (c .before .before .before .get8 .ensures)
 

@@ -12,51 +12,39 @@ use Rattle.image.proofs.checks.circle_good.Reads as circle-good-reads
 use Rattle.image.proofs.checks.conic_good.Reads as conic-good-reads
 use Rattle.image.proofs.checks.line_good.Reads as line-good-reads
 
--- src/checks.rt:158:9
 get1-requires : tie.Need-get1-requires
 get1-requires c κs = search needs
 
--- src/checks.rt:160:14
 line-good-requires : tie.Need-line-good-requires
 line-good-requires c κs = search needs
 
--- src/checks.rt:161:14
 arc-good-requires : tie.Need-arc-good-requires
 arc-good-requires c κs = search needs
 
--- src/checks.rt:162:14
 circle-good-requires : tie.Need-circle-good-requires
 circle-good-requires c κs = search needs
 
--- src/checks.rt:163:14
 bezier-good-requires : tie.Need-bezier-good-requires
 bezier-good-requires c κs = search needs
 
--- src/checks.rt:164:14
 conic-good-requires : tie.Need-conic-good-requires
 conic-good-requires c κs = search needs
 
--- src/checks.rt:155:1
 returns : tie.Need-returns
 returns c = kind-is _ (c .before .before .get1 .ensures) (c .line-good .ensures) (c .before .match .keys1)
 
--- src/checks.rt:155:1
 returns-2 : tie.Need-returns-2
 returns-2 c = kind-is _ (c .before .before .get1 .ensures) (c .arc-good .ensures) (c .before .match .keys2)
 
--- src/checks.rt:155:1
 returns-3 : tie.Need-returns-3
 returns-3 c = kind-is _ (c .before .before .get1 .ensures) (c .circle-good .ensures) (c .before .match .keys3)
 
--- src/checks.rt:155:1
 returns-4 : tie.Need-returns-4
 returns-4 c = kind-is _ (c .before .before .get1 .ensures) (c .bezier-good .ensures) (c .before .match .keys4)
 
--- src/checks.rt:155:1
 returns-5 : tie.Need-returns-5
 returns-5 c = kind-is _ (c .before .before .get1 .ensures) (c .conic-good .ensures) (c .before .match .keys5)
 
--- src/checks.rt:155:1
 returns-6 : tie.Need-returns-6
 returns-6 c = unknown _ (c .before .get1 .ensures) (c .match .rest .0 .0 .0 .0 .1) (c .match .rest .0 .0 .0 .1) (c .match .rest .0 .0 .1) (c .match .rest .0 .1) (c .match .rest .1)
 

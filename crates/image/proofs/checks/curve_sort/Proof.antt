@@ -7,27 +7,21 @@ use Rattle.image.proofs.checks.curve_sort.Reads as reads
 use Rattle.image.proofs.checks.curve_sort.Lts as lts
 use Rattle.big_endian.proofs.get1.Reads as get1-reads
 
--- src/checks.rt:214:9
 get1-requires : tie.Need-get1-requires
 get1-requires c κs = search needs
 
--- src/checks.rt:211:1
 returns : tie.Need-returns
 returns c = sort-line _ (c .before .get1 .ensures) (c .match .keys1)
 
--- src/checks.rt:211:1
 returns-2 : tie.Need-returns-2
 returns-2 c = sort-arc _ (c .before .get1 .ensures) (c .match .keys2)
 
--- src/checks.rt:211:1
 returns-3 : tie.Need-returns-3
 returns-3 c = sort-circle _ (c .before .get1 .ensures) (c .match .keys3)
 
--- src/checks.rt:211:1
 returns-4 : tie.Need-returns-4
 returns-4 c = sort-bezier _ (c .before .get1 .ensures) (c .match .keys4)
 
--- src/checks.rt:211:1
 returns-5 : tie.Need-returns-5
 returns-5 c = sort-conic _ (c .before .get1 .ensures) (c .match .rest .0 .0 .0 .1) (c .match .rest .0 .0 .1) (c .match .rest .0 .1) (c .match .rest .1)
 

@@ -20,91 +20,69 @@ use Rattle.big_endian.proofs.get4.Reads as get4-reads
 use Rattle.image.proofs.checks.slots_in.Reads as slots-in-reads
 use Rattle.sketch.proofs.has.Reads as has-reads
 
--- src/checks.rt:191:9
 get1-requires : tie.Need-get1-requires
 get1-requires c κs = search needs
 
--- src/checks.rt:192:9
 get1-requires-2 : tie.Need-get1-requires-2
 get1-requires-2 c κs = search needs
 
--- src/checks.rt:193:9
 get4-requires : tie.Need-get4-requires
 get4-requires c κs = search needs
 
--- src/checks.rt:194:9
 get4-requires-2 : tie.Need-get4-requires-2
 get4-requires-2 c κs = search needs
 
--- src/checks.rt:195:9
 get4-requires-3 : tie.Need-get4-requires-3
 get4-requires-3 c κs = search needs
 
--- src/checks.rt:197:14
 has-requires : tie.Need-has-requires
 has-requires c κs = search needs
 
--- src/checks.rt:197:34
 has-requires-2 : tie.Need-has-requires-2
 has-requires-2 c κs = search needs
 
--- src/checks.rt:198:14
 has-requires-3 : tie.Need-has-requires-3
 has-requires-3 c κs = search needs
 
--- src/checks.rt:199:15
 has-requires-4 : tie.Need-has-requires-4
 has-requires-4 c κs = search needs
 
--- src/checks.rt:200:15
 has-requires-5 : tie.Need-has-requires-5
 has-requires-5 c κs = search needs
 
--- src/checks.rt:204:14
 has-requires-6 : tie.Need-has-requires-6
 has-requires-6 c κs = search needs
 
--- src/checks.rt:205:26
 cast-slots-in : tie.Need-cast-slots-in
 cast-slots-in c = search needs
 
--- src/checks.rt:205:26
 add-slots-in : tie.Need-add-slots-in
 add-slots-in c = search needs
 
--- src/checks.rt:205:14
 slots-in-requires : tie.Need-slots-in-requires
 slots-in-requires c κs = c .before .before .before .before .before .before .before .before .before .pre
 
--- src/checks.rt:206:14
 has-requires-7 : tie.Need-has-requires-7
 has-requires-7 c κs = search needs
 
--- src/checks.rt:206:34
 has-requires-8 : tie.Need-has-requires-8
 has-requires-8 c κs = search needs
 
--- src/checks.rt:206:54
 has-requires-9 : tie.Need-has-requires-9
 has-requires-9 c κs = search needs
 
--- src/checks.rt:187:1
 returns : tie.Need-returns
 returns c = let r = c .before .before .before .before .before .before .before .before .before .before .before .args .r .now in let known : ℕ → Bool = λ p. among p (now (c .before .before .before .before .before .before .before .before .before .before .before .args .ids)) in sound-line known (curveOf r) (spells-line r (c .before .before .before .before .before .before .before .get1 .ensures) (c .before .before .before .before .before .get4 .ensures) (c .before .before .before .before .get42 .ensures) (c .before .before .before .get43 .ensures) (c .before .before .match .keys1)) (c .before .has .ensures (c .before .before .before .before .before .before .before .before .before .before .before .pre)) (c .has2 .ensures (c .before .before .before .before .before .before .before .before .before .before .before .pre))
 
--- src/checks.rt:187:1
 returns-2 : tie.Need-returns-2
 returns-2 c = let r = c .before .before .before .before .before .before .before .before .before .before .before .before .args .r .now in let known : ℕ → Bool = λ p. among p (now (c .before .before .before .before .before .before .before .before .before .before .before .before .args .ids)) in sound-arc known (curveOf r) (spells-arc r (c .before .before .before .before .before .before .before .before .get1 .ensures) (c .before .before .before .before .before .before .get4 .ensures) (c .before .before .before .before .before .get42 .ensures) (c .before .before .before .before .get43 .ensures) (c .before .before .before .match .keys2)) (c .before .before .has3 .ensures (c .before .before .before .before .before .before .before .before .before .before .before .before .pre)) (c .before .has4 .ensures (c .before .before .before .before .before .before .before .before .before .before .before .before .pre)) (c .has5 .ensures (c .before .before .before .before .before .before .before .before .before .before .before .before .pre))
 
--- src/checks.rt:187:1
 returns-3 : tie.Need-returns-3
 returns-3 c = let r = c .before .before .before .before .before .before .before .before .before .before .args .r .now in let known : ℕ → Bool = λ p. among p (now (c .before .before .before .before .before .before .before .before .before .before .args .ids)) in sound-circle known (curveOf r) (spells-circle r (c .before .before .before .before .before .before .get1 .ensures) (c .before .before .before .before .get4 .ensures) (c .before .before .before .get42 .ensures) (c .before .before .get43 .ensures) (c .before .match .keys3)) (c .has6 .ensures (c .before .before .before .before .before .before .before .before .before .before .pre))
 
--- src/checks.rt:187:1
 returns-4 : tie.Need-returns-4
 returns-4 c = let r = c .before .before .before .before .before .before .before .before .before .before .args .r .now in let known : ℕ → Bool = λ p. among p (now (c .before .before .before .before .before .before .before .before .before .before .args .ids)) in sound-bezier known (curveOf r) (spells-bezier r (c .before .before .before .before .before .before .get1 .ensures) (c .before .before .before .before .before .get12 .ensures) (c .before .match .keys4)) (c .slots-in .ensures ∙ ap (λ (l : List ℕ). every known (take (c .before .before .before .before .before .get12 .result + 1) l)) (bezier-slots r (c .before .before .before .before .before .before .get1 .ensures) (c .before .match .keys4)))
 
--- src/checks.rt:187:1
 returns-5 : tie.Need-returns-5
 returns-5 c = let r = c .before .before .before .before .before .before .before .before .before .before .before .before .args .r .now in let known : ℕ → Bool = λ p. among p (now (c .before .before .before .before .before .before .before .before .before .before .before .before .args .ids)) in sound-conic known (curveOf r) (spells-conic r (c .before .before .before .before .before .before .before .before .get1 .ensures) (c .before .before .before .before .before .before .get4 .ensures) (c .before .before .before .before .before .get42 .ensures) (c .before .before .before .before .get43 .ensures) (c .before .before .before .match .rest .0 .0 .0 .1) (c .before .before .before .match .rest .0 .0 .1) (c .before .before .before .match .rest .0 .1) (c .before .before .before .match .rest .1)) (c .before .before .has7 .ensures (c .before .before .before .before .before .before .before .before .before .before .before .before .pre)) (c .before .has8 .ensures (c .before .before .before .before .before .before .before .before .before .before .before .before .pre)) (c .has9 .ensures (c .before .before .before .before .before .before .before .before .before .before .before .before .pre))
 

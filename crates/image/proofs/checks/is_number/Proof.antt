@@ -6,7 +6,6 @@ use Rattle.image.proofs.checks.is_number.Tie as tie
 use Rattle.image.proofs.checks.is_number.Reads as reads
 use Rattle.image.proofs.checks.is_number.Lts as lts
 
--- src/records.rt:18:1
 returns : tie.Need-returns
 returns c = number-test (c .args .bits)
 

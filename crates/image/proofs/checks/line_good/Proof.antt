@@ -8,31 +8,24 @@ use Rattle.image.proofs.checks.line_good.Lts as lts
 use Rattle.big_endian.proofs.get1.Reads as get1-reads
 use Rattle.big_endian.proofs.get8.Reads as get8-reads
 
--- src/checks.rt:80:6
 get1-requires : tie.Need-get1-requires
 get1-requires c κs = search needs
 
--- src/checks.rt:81:12
 get1-requires-2 : tie.Need-get1-requires-2
 get1-requires-2 c κs = search needs
 
--- src/checks.rt:82:12
 get8-requires : tie.Need-get8-requires
 get8-requires c κs = search needs
 
--- src/checks.rt:83:12
 get8-requires-2 : tie.Need-get8-requires-2
 get8-requires-2 c κs = search needs
 
--- src/checks.rt:84:12
 get8-requires-3 : tie.Need-get8-requires-3
 get8-requires-3 c κs = search needs
 
--- src/checks.rt:85:12
 get8-requires-4 : tie.Need-get8-requires-4
 get8-requires-4 c κs = search needs
 
--- src/checks.rt:77:1
 returns : tie.Need-returns
 returns c = simp (c .get84 .ensures, c .before .get83 .ensures, c .before .before .get82 .ensures, c .before .before .before .get8 .ensures, c .before .before .before .before .get12 .ensures, c .before .before .before .before .before .get1 .ensures) (good-line _)
 

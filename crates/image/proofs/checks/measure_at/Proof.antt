@@ -15,27 +15,21 @@ use Rattle.big_endian.proofs.get8.Reads as get8-reads
 use Rattle.image.proofs.checks.is_number.Reads as is-number-reads
 use Rattle.sketch.proofs.measure_ok.Reads as measure-ok-reads
 
--- src/checks.rt:63:9
 get8-requires : tie.Need-get8-requires
 get8-requires c κs = search needs
 
--- src/checks.rt:64:9
 is-number-requires : tie.Need-is-number-requires
 is-number-requires c κs = search needs
 
--- src/checks.rt:65:9
 returns : tie.Need-returns
 returns c = out-of-range okMeasure measure-rejects _ _ (c .before .before .get8 .ensures) (c .before .is-number .ensures) (not-true _ (c .if1 .taken))
 
--- src/checks.rt:67:16
 float-from-bits-measure-ok : tie.Need-float-from-bits-measure-ok
 float-from-bits-measure-ok c = number-bits _ refl (sym (c .before .is-number .ensures) ∙ not-false _ (c .if1 .left))
 
--- src/checks.rt:67:5
 measure-ok-requires : tie.Need-measure-ok-requires
 measure-ok-requires c κs = search needs
 
--- src/checks.rt:60:1
 returns-2 : tie.Need-returns-2
 returns-2 c = c .measure-ok .ensures ∙ ap (λ (n : ℕ). okMeasure (ofBits binary64 n)) (c .before .before .before .get8 .ensures)
 

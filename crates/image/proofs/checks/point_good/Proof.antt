@@ -7,19 +7,15 @@ use Rattle.image.proofs.checks.point_good.Lts as lts
 use Rattle.big_endian.proofs.get1.Reads as get1-reads
 use Rattle.image.proofs.checks.coordinate_at.Reads as coordinate-at-reads
 
--- src/checks.rt:73:6
 get1-requires : tie.Need-get1-requires
 get1-requires c κs = search needs
 
--- src/checks.rt:73:27
 coordinate-at-requires : tie.Need-coordinate-at-requires
 coordinate-at-requires c κs = search needs
 
--- src/checks.rt:73:49
 coordinate-at-requires-2 : tie.Need-coordinate-at-requires-2
 coordinate-at-requires-2 c κs = search needs
 
--- src/checks.rt:70:1
 returns : tie.Need-returns
 returns c = simp (c .coordinate-at2 .ensures, c .before .coordinate-at .ensures, c .before .before .get1 .ensures)
 

@@ -15,27 +15,21 @@ use Rattle.big_endian.proofs.get8.Reads as get8-reads
 use Rattle.image.proofs.checks.is_number.Reads as is-number-reads
 use Rattle.sketch.proofs.radius_ok.Reads as radius-ok-reads
 
--- src/checks.rt:43:9
 get8-requires : tie.Need-get8-requires
 get8-requires c κs = search needs
 
--- src/checks.rt:44:9
 is-number-requires : tie.Need-is-number-requires
 is-number-requires c κs = search needs
 
--- src/checks.rt:45:9
 returns : tie.Need-returns
 returns c = out-of-range okRadius radius-rejects _ _ (c .before .before .get8 .ensures) (c .before .is-number .ensures) (not-true _ (c .if1 .taken))
 
--- src/checks.rt:47:15
 float-from-bits-radius-ok : tie.Need-float-from-bits-radius-ok
 float-from-bits-radius-ok c = number-bits _ refl (sym (c .before .is-number .ensures) ∙ not-false _ (c .if1 .left))
 
--- src/checks.rt:47:5
 radius-ok-requires : tie.Need-radius-ok-requires
 radius-ok-requires c κs = search needs
 
--- src/checks.rt:40:1
 returns-2 : tie.Need-returns-2
 returns-2 c = c .radius-ok .ensures ∙ ap (λ (n : ℕ). okRadius (ofBits binary64 n)) (c .before .before .before .get8 .ensures)
 

@@ -15,27 +15,21 @@ use Rattle.big_endian.proofs.get8.Reads as get8-reads
 use Rattle.image.proofs.checks.is_number.Reads as is-number-reads
 use Rattle.sketch.proofs.rho_ok.Reads as rho-ok-reads
 
--- src/checks.rt:53:9
 get8-requires : tie.Need-get8-requires
 get8-requires c κs = search needs
 
--- src/checks.rt:54:9
 is-number-requires : tie.Need-is-number-requires
 is-number-requires c κs = search needs
 
--- src/checks.rt:55:9
 returns : tie.Need-returns
 returns c = out-of-range okRho rho-rejects _ _ (c .before .before .get8 .ensures) (c .before .is-number .ensures) (not-true _ (c .if1 .taken))
 
--- src/checks.rt:57:12
 float-from-bits-rho-ok : tie.Need-float-from-bits-rho-ok
 float-from-bits-rho-ok c = number-bits _ refl (sym (c .before .is-number .ensures) ∙ not-false _ (c .if1 .left))
 
--- src/checks.rt:57:5
 rho-ok-requires : tie.Need-rho-ok-requires
 rho-ok-requires c κs = search needs
 
--- src/checks.rt:50:1
 returns-2 : tie.Need-returns-2
 returns-2 c = c .rho-ok .ensures ∙ ap (λ (n : ℕ). okRho (ofBits binary64 n)) (c .before .before .before .get8 .ensures)
 

@@ -25,47 +25,36 @@ Inv-loop r n ids near i₀ i = Ascends ids × (every (λ p. among p ids) (take n
 abbrev μ-loop : tie.MeasureT-loop
 μ-loop r n ids near i₀ i = 8 - i
 
--- src/checks.rt:175:5
 loop-holds : tie.Need-loop-holds Inv-loop μ-loop
 loop-holds c = (c .before .before .before .pre, refl)
 
--- src/checks.rt:177:13
 returns : tie.Need-returns Inv-loop μ-loop
 returns c = let l = c .before .before .loop in let r = c .before .before .before .before .before .before .args .r .now in let n = c .before .before .before .before .before .before .args .n in let f : ℕ → Bool = λ p. among p (now (c .before .before .before .before .before .before .args .ids)) in sym (l .inv .1 ∙ every-done f (take n (slotsOf r)) (l .i) (rw (length-take, eight-slots r) (omega arith)))
 
--- src/checks.rt:179:40
 mul-get4 : tie.Need-mul-get4 Inv-loop μ-loop
 mul-get4 c = search needs
 
--- src/checks.rt:179:36
 add-get4 : tie.Need-add-get4 Inv-loop μ-loop
 add-get4 c = search needs
 
--- src/checks.rt:179:28
 get4-requires : tie.Need-get4-requires Inv-loop μ-loop
 get4-requires c κs = search needs
 
--- src/checks.rt:179:13
 has-requires : tie.Need-has-requires Inv-loop μ-loop
 has-requires c κs = search needs
 
--- src/checks.rt:180:13
 returns-2 : tie.Need-returns-2 Inv-loop μ-loop
 returns-2 c = let l = c .before .before .before .before .before .loop in let r = c .before .before .before .before .before .before .before .before .before .args .r .now in let n = c .before .before .before .before .before .before .before .before .before .args .n in let f : ℕ → Bool = λ p. among p (now (c .before .before .before .before .before .before .before .before .before .args .ids)) in let e : f (getD (take n (slotsOf r)) (l .i) 0) ≡ false = ap f (getD-take n (slotsOf r) (l .i) 0 (omega arith)) ∙ ap f (sym (c .before .before .get4 .ensures ∙ slot-at r (l .i) (omega arith))) ∙ sym (c .before .has .ensures (l .inv .0)) ∙ not-true _ (c .if2 .taken) in sym (l .inv .1 ∙ every-fails f (take n (slotsOf r)) (l .i) 0 (rw (length-take, eight-slots r) (omega arith)) e)
 
--- src/checks.rt:182:9
 add-i : tie.Need-add-i Inv-loop μ-loop
 add-i c = search needs
 
--- src/checks.rt:175:5
 loop-less : tie.Need-loop-less Inv-loop μ-loop
 loop-less c = search needs
 
--- src/checks.rt:175:5
 loop-again : tie.Need-loop-again Inv-loop μ-loop
 loop-again c = let l = c .before .before .before .before .before .loop in let r = c .before .before .before .before .before .before .before .before .before .args .r .now in let n = c .before .before .before .before .before .before .before .before .before .args .n in let f : ℕ → Bool = λ p. among p (now (c .before .before .before .before .before .before .before .before .before .args .ids)) in let e : f (getD (take n (slotsOf r)) (l .i) 0) ≡ true = ap f (getD-take n (slotsOf r) (l .i) 0 (omega arith)) ∙ ap f (sym (c .before .before .get4 .ensures ∙ slot-at r (l .i) (omega arith))) ∙ sym (c .before .has .ensures (l .inv .0)) ∙ not-false _ (c .if2 .left) in (l .inv .0, l .inv .1 ∙ every-passes f (take n (slotsOf r)) (l .i) 0 (rw (length-take, eight-slots r) (omega arith)) e)
 
--- src/checks.rt:170:1
 returns-3 : tie.Need-returns-3 Inv-loop μ-loop
 returns-3 c = let l = c .before .loop in let r = c .before .before .before .before .before .args .r .now in let n = c .before .before .before .before .before .args .n in let f : ℕ → Bool = λ p. among p (now (c .before .before .before .before .before .args .ids)) in sym (l .inv .1 ∙ every-done f (take n (slotsOf r)) (l .i) (rw (length-take, eight-slots r) (omega arith)))
 

@@ -31,123 +31,93 @@ Inv-loop s from n next points near-points ids₀ sorts₀ near₀ last₀ i₀ i
 abbrev μ-loop : tie.MeasureT-loop
 μ-loop s from n next points near-points ids₀ sorts₀ near₀ last₀ i₀ ids sorts near last i = n - i
 
--- src/faults.rt:109:5
 loop-holds : tie.Need-loop-holds Inv-loop μ-loop
 loop-holds c = let a = c .before .before .before .before .before .before .args in (rows-start goodCurve (λ r. soundCurve (λ p. among p (now (a .points))) (curveOf r)) _ _ _, sorts-start _ _, refl, length-rows curveSize (a .n) (a .s .now) (a .from), c .before .before .before .before .before .before .pre .3)
 
--- src/faults.rt:110:25
 mul-at : tie.Need-mul-at Inv-loop μ-loop
 mul-at c = search needs
 
--- src/faults.rt:110:18
 add-at : tie.Need-add-at Inv-loop μ-loop
 add-at c = search needs
 
--- src/faults.rt:111:19
 add-end : tie.Need-add-end Inv-loop μ-loop
 add-end c = search needs
 
--- src/faults.rt:112:17
 sub-r : tie.Need-sub-r Inv-loop μ-loop
 sub-r c = search needs
 
--- src/faults.rt:112:17
 part-r-start : tie.Need-part-r-start Inv-loop μ-loop
 part-r-start c = search needs
 
--- src/faults.rt:112:17
 part-r-end : tie.Need-part-r-end Inv-loop μ-loop
 part-r-end c = search needs
 
--- src/faults.rt:113:13
 get4-requires : tie.Need-get4-requires Inv-loop μ-loop
 get4-requires c κs = search needs
 
--- src/faults.rt:114:13
 curve-good-requires : tie.Need-curve-good-requires Inv-loop μ-loop
 curve-good-requires c κs = search needs
 
--- src/faults.rt:115:13
 same-length : tie.Need-same-length Inv-loop μ-loop
 same-length c = search needs
 
--- src/faults.rt:115:13
 same-length-2 : tie.Need-same-length-2 Inv-loop μ-loop
 same-length-2 c = search needs
 
--- src/faults.rt:115:13
 same-length-3 : tie.Need-same-length-3 Inv-loop μ-loop
 same-length-3 c = search needs
 
--- src/faults.rt:115:13
 returns : tie.Need-returns Inv-loop μ-loop
 returns c = let l = c .before .before .before .before .before .loop in let a = c .before .before .before .before .before .before .before .before .before .before .before .before .args in let sound : List ℕ → Bool = (λ r. soundCurve (λ p. among p (now (a .points))) (curveOf r)) in (rows-four goodCurve sound (a .next) (l .inv .0) (omega arith) (row-part curveSize (a .n) (a .s .now) (a .from) (l .i) (omega arith)) (c .before .curve-good .ensures) (not-true _ (c .if1 .taken)), sorts-stop (l .inv .1) (λ z. omega arith))
 
--- src/faults.rt:117:42
 curve-sound-requires : tie.Need-curve-sound-requires Inv-loop μ-loop
 curve-sound-requires c κs = c .before .before .before .before .before .loop .inv .4
 
--- src/faults.rt:118:13
 same-length-4 : tie.Need-same-length-4 Inv-loop μ-loop
 same-length-4 c = search needs
 
--- src/faults.rt:118:13
 same-length-5 : tie.Need-same-length-5 Inv-loop μ-loop
 same-length-5 c = search needs
 
--- src/faults.rt:118:13
 same-length-6 : tie.Need-same-length-6 Inv-loop μ-loop
 same-length-6 c = search needs
 
--- src/faults.rt:118:13
 returns-2 : tie.Need-returns-2 Inv-loop μ-loop
 returns-2 c = let l = c .before .before .before .before .before .before .before .loop in let a = c .before .before .before .before .before .before .before .before .before .before .before .before .before .before .args in let sound : List ℕ → Bool = (λ r. soundCurve (λ p. among p (now (a .points))) (curveOf r)) in (rows-five goodCurve sound (a .next) (l .inv .0) (omega arith) (row-part curveSize (a .n) (a .s .now) (a .from) (l .i) (omega arith)) (c .before .before .before .curve-good .ensures) (not-false _ (c .before .before .if1 .left)) (c .before .curve-sound .ensures) (c .before .before .before .before .get4 .ensures) (not-true _ (c .if2 .taken)), sorts-stop (l .inv .1) (λ z. omega arith))
 
--- src/faults.rt:120:9
 mul-ids : tie.Need-mul-ids Inv-loop μ-loop
 mul-ids c = search needs
 
--- src/faults.rt:120:9
 slice-write-ids : tie.Need-slice-write-ids Inv-loop μ-loop
 slice-write-ids c = search needs
 
--- src/faults.rt:121:20
 curve-sort-requires : tie.Need-curve-sort-requires Inv-loop μ-loop
 curve-sort-requires c κs = search needs
 
--- src/faults.rt:121:9
 slice-write-sorts : tie.Need-slice-write-sorts Inv-loop μ-loop
 slice-write-sorts c = search needs
 
--- src/faults.rt:122:9
 note-requires : tie.Need-note-requires Inv-loop μ-loop
 note-requires c κs = search needs
 
--- src/faults.rt:124:9
 add-i : tie.Need-add-i Inv-loop μ-loop
 add-i c = search needs
 
--- src/faults.rt:109:5
 loop-less : tie.Need-loop-less Inv-loop μ-loop
 loop-less c = search needs
 
--- src/faults.rt:109:5
 loop-again : tie.Need-loop-again Inv-loop μ-loop
 loop-again c = let l = c .before .before .before .before .before .before .before .before .before .before .before .before .loop in let a = c .before .before .before .before .before .before .before .before .before .before .before .before .before .before .before .before .before .before .before .args in let sound : List ℕ → Bool = (λ r. soundCurve (λ p. among p (now (a .points))) (curveOf r)) in (rows-on goodCurve sound (a .next) (l .inv .0) (omega arith) (row-part curveSize (a .n) (a .s .now) (a .from) (l .i) (omega arith)) (c .before .before .before .before .before .before .before .before .curve-good .ensures) (not-false _ (c .before .before .before .before .before .before .before .if1 .left)) (c .before .before .before .before .before .before .curve-sound .ensures) (c .before .before .before .before .before .before .before .before .before .get4 .ensures) (not-false _ (c .before .before .before .before .before .if2 .left)) (omega arith), sorts-on (l .inv .1) (omega arith) (omega arith) (row-part curveSize (a .n) (a .s .now) (a .from) (l .i) (omega arith)) (c .before .before .before .before .curve-sort .ensures), search needs, l .inv .3, l .inv .4)
 
--- src/faults.rt:93:1
 same-length-7 : tie.Need-same-length-7 Inv-loop μ-loop
 same-length-7 c = search needs
 
--- src/faults.rt:93:1
 same-length-8 : tie.Need-same-length-8 Inv-loop μ-loop
 same-length-8 c = search needs
 
--- src/faults.rt:93:1
 same-length-9 : tie.Need-same-length-9 Inv-loop μ-loop
 same-length-9 c = search needs
 
--- src/faults.rt:93:1
 returns-3 : tie.Need-returns-3 Inv-loop μ-loop
 returns-3 c = let l = c .before .loop in let a = c .before .before .before .before .before .before .before .before .args in let sound : List ℕ → Bool = (λ r. soundCurve (λ p. among p (now (a .points))) (curveOf r)) in (rows-end goodCurve sound (a .next) (l .inv .0) (omega arith), sorts-end (l .inv .1) (omega arith))
 

@@ -11,120 +11,93 @@ use Rattle.big_endian.proofs.get1.Reads as get1-reads
 use Rattle.big_endian.proofs.get2.Reads as get2-reads
 use Rattle.big_endian.proofs.get4.Reads as get4-reads
 
--- src/reader.rt:55:9
 returns : tie.Need-returns
 unfolding headFault guardNumber
 returns c = simp (lt-leb _ _ (c .if1 .taken))
 
--- src/reader.rt:57:8
 get1-requires : tie.Need-get1-requires
 get1-requires c κs = search needs
 
--- src/reader.rt:58:9
 returns-2 : tie.Need-returns-2
 unfolding headFault guardNumber
 returns-2 c = simp (ne-eqb _ _ (c .if2 .taken), ← c .before .get1 .ensures, le-leb _ _ (c .before .before .if1 .left))
 
--- src/reader.rt:61:9
 returns-3 : tie.Need-returns-3
 unfolding headFault guardNumber
 returns-3 c = simp (lt-leb _ _ (c .if3 .taken), eq-eqb _ _ (c .before .if2 .left), ← c .before .before .get1 .ensures, le-leb _ _ (c .before .before .before .if1 .left))
 
--- src/reader.rt:63:8
 get4-requires : tie.Need-get4-requires
 get4-requires c κs = search needs
 
--- src/reader.rt:63:8
 cast-if4 : tie.Need-cast-if4
 cast-if4 c = search needs
 
--- src/reader.rt:63:8
 add-if4 : tie.Need-add-if4
 add-if4 c = search needs
 
--- src/reader.rt:64:9
 returns-4 : tie.Need-returns-4
 unfolding headFault guardNumber
 returns-4 c = simp (ne-eqb _ _ (c .if4 .taken), ← c .before .get4 .ensures, le-leb _ _ (c .before .before .if3 .left), eq-eqb _ _ (c .before .before .before .if2 .left), ← c .before .before .before .before .get1 .ensures, le-leb _ _ (c .before .before .before .before .before .if1 .left))
 
--- src/reader.rt:66:14
 get2-requires : tie.Need-get2-requires
 get2-requires c κs = search needs
 
--- src/reader.rt:66:14
 cast-np : tie.Need-cast-np
 cast-np c = search needs
 
--- src/reader.rt:68:9
 returns-5 : tie.Need-returns-5
 unfolding headFault guardNumber
 returns-5 c = simp (lt-leb _ _ (c .if5 .taken), ← c .before .get2 .ensures, eq-eqb _ _ (c .before .before .if4 .left), ← c .before .before .before .get4 .ensures, le-leb _ _ (c .before .before .before .before .if3 .left), eq-eqb _ _ (c .before .before .before .before .before .if2 .left), ← c .before .before .before .before .before .before .get1 .ensures, le-leb _ _ (c .before .before .before .before .before .before .before .if1 .left))
 
--- src/reader.rt:70:14
 get2-requires-2 : tie.Need-get2-requires-2
 get2-requires-2 c κs = search needs
 
--- src/reader.rt:70:14
 cast-nc : tie.Need-cast-nc
 cast-nc c = search needs
 
--- src/reader.rt:72:9
 returns-6 : tie.Need-returns-6
 unfolding headFault guardNumber
 returns-6 c = simp (lt-leb _ _ (c .if6 .taken), ← c .before .get22 .ensures, le-leb _ _ (c .before .before .if5 .left), ← c .before .before .before .get2 .ensures, eq-eqb _ _ (c .before .before .before .before .if4 .left), ← c .before .before .before .before .before .get4 .ensures, le-leb _ _ (c .before .before .before .before .before .before .if3 .left), eq-eqb _ _ (c .before .before .before .before .before .before .before .if2 .left), ← c .before .before .before .before .before .before .before .before .get1 .ensures, le-leb _ _ (c .before .before .before .before .before .before .before .before .before .if1 .left))
 
--- src/reader.rt:74:14
 get2-requires-3 : tie.Need-get2-requires-3
 get2-requires-3 c κs = search needs
 
--- src/reader.rt:74:14
 cast-nr : tie.Need-cast-nr
 cast-nr c = search needs
 
--- src/reader.rt:76:9
 returns-7 : tie.Need-returns-7
 unfolding headFault guardNumber
 returns-7 c = simp (lt-leb _ _ (c .if7 .taken), ← c .before .get23 .ensures, le-leb _ _ (c .before .before .if6 .left), ← c .before .before .before .get22 .ensures, le-leb _ _ (c .before .before .before .before .if5 .left), ← c .before .before .before .before .before .get2 .ensures, eq-eqb _ _ (c .before .before .before .before .before .before .if4 .left), ← c .before .before .before .before .before .before .before .get4 .ensures, le-leb _ _ (c .before .before .before .before .before .before .before .before .if3 .left), eq-eqb _ _ (c .before .before .before .before .before .before .before .before .before .if2 .left), ← c .before .before .before .before .before .before .before .before .before .before .get1 .ensures, le-leb _ _ (c .before .before .before .before .before .before .before .before .before .before .before .if1 .left))
 
--- src/reader.rt:78:13
 mul-if8 : tie.Need-mul-if8
 mul-if8 c = search needs
 
--- src/reader.rt:78:8
 add-if8 : tie.Need-add-if8
 add-if8 c = search needs
 
--- src/reader.rt:78:23
 mul-if8-2 : tie.Need-mul-if8-2
 mul-if8-2 c = search needs
 
--- src/reader.rt:78:8
 add-if8-2 : tie.Need-add-if8-2
 add-if8-2 c = search needs
 
--- src/reader.rt:78:33
 mul-if8-3 : tie.Need-mul-if8-3
 mul-if8-3 c = search needs
 
--- src/reader.rt:78:8
 add-if8-3 : tie.Need-add-if8-3
 add-if8-3 c = search needs
 
--- src/reader.rt:79:9
 returns-8 : tie.Need-returns-8
 unfolding headFault guardNumber
 returns-8 c = simp (ne-eqb _ _ (c .if8 .taken), le-leb _ _ (c .before .if7 .left), ← c .before .before .get23 .ensures, le-leb _ _ (c .before .before .before .if6 .left), ← c .before .before .before .before .get22 .ensures, le-leb _ _ (c .before .before .before .before .before .if5 .left), ← c .before .before .before .before .before .before .get2 .ensures, eq-eqb _ _ (c .before .before .before .before .before .before .before .if4 .left), ← c .before .before .before .before .before .before .before .before .get4 .ensures, le-leb _ _ (c .before .before .before .before .before .before .before .before .before .if3 .left), eq-eqb _ _ (c .before .before .before .before .before .before .before .before .before .before .if2 .left), ← c .before .before .before .before .before .before .before .before .before .before .before .get1 .ensures, le-leb _ _ (c .before .before .before .before .before .before .before .before .before .before .before .before .if1 .left))
 
--- src/reader.rt:81:8
 get4-requires-2 : tie.Need-get4-requires-2
 get4-requires-2 c κs = search needs
 
--- src/reader.rt:82:9
 returns-9 : tie.Need-returns-9
 unfolding headFault guardNumber
 returns-9 c = simp (lt-leb _ _ (c .if9 .taken), ← c .before .get42 .ensures, eq-eqb _ _ (c .before .before .if8 .left), le-leb _ _ (c .before .before .before .if7 .left), ← c .before .before .before .before .get23 .ensures, le-leb _ _ (c .before .before .before .before .before .if6 .left), ← c .before .before .before .before .before .before .get22 .ensures, le-leb _ _ (c .before .before .before .before .before .before .before .if5 .left), ← c .before .before .before .before .before .before .before .before .get2 .ensures, eq-eqb _ _ (c .before .before .before .before .before .before .before .before .before .if4 .left), ← c .before .before .before .before .before .before .before .before .before .before .get4 .ensures, le-leb _ _ (c .before .before .before .before .before .before .before .before .before .before .before .if3 .left), eq-eqb _ _ (c .before .before .before .before .before .before .before .before .before .before .before .before .if2 .left), ← c .before .before .before .before .before .before .before .before .before .before .before .before .before .get1 .ensures, le-leb _ _ (c .before .before .before .before .before .before .before .before .before .before .before .before .before .before .if1 .left))
 
--- src/reader.rt:50:1
 returns-10 : tie.Need-returns-10
 unfolding headFault guardNumber
 returns-10 c = simp (le-leb _ _ (c .if9 .left), ← c .before .get42 .ensures, eq-eqb _ _ (c .before .before .if8 .left), le-leb _ _ (c .before .before .before .if7 .left), ← c .before .before .before .before .get23 .ensures, le-leb _ _ (c .before .before .before .before .before .if6 .left), ← c .before .before .before .before .before .before .get22 .ensures, le-leb _ _ (c .before .before .before .before .before .before .before .if5 .left), ← c .before .before .before .before .before .before .before .before .get2 .ensures, eq-eqb _ _ (c .before .before .before .before .before .before .before .before .before .if4 .left), ← c .before .before .before .before .before .before .before .before .before .before .get4 .ensures, le-leb _ _ (c .before .before .before .before .before .before .before .before .before .before .before .if3 .left), eq-eqb _ _ (c .before .before .before .before .before .before .before .before .before .before .before .before .if2 .left), ← c .before .before .before .before .before .before .before .before .before .before .before .before .before .get1 .ensures, le-leb _ _ (c .before .before .before .before .before .before .before .before .before .before .before .before .before .before .if1 .left))

@@ -25,99 +25,75 @@ Inv-loop s n next ids₀ near₀ last₀ i₀ ids near last i = RowsWalk goodPoi
 abbrev μ-loop : tie.MeasureT-loop
 μ-loop s n next ids₀ near₀ last₀ i₀ ids near last i = n - i
 
--- src/faults.rt:72:5
 loop-holds : tie.Need-loop-holds Inv-loop μ-loop
 loop-holds c = (rows-start goodPoint (λ r. true) _ _ _, refl, length-rows pointSize (c .before .before .before .args .n) (c .before .before .before .args .s .now) headerSize)
 
--- src/faults.rt:73:23
 mul-at : tie.Need-mul-at Inv-loop μ-loop
 mul-at c = search needs
 
--- src/faults.rt:73:18
 add-at : tie.Need-add-at Inv-loop μ-loop
 add-at c = search needs
 
--- src/faults.rt:74:19
 add-end : tie.Need-add-end Inv-loop μ-loop
 add-end c = search needs
 
--- src/faults.rt:75:17
 sub-r : tie.Need-sub-r Inv-loop μ-loop
 sub-r c = search needs
 
--- src/faults.rt:75:17
 part-r-start : tie.Need-part-r-start Inv-loop μ-loop
 part-r-start c = search needs
 
--- src/faults.rt:75:17
 part-r-end : tie.Need-part-r-end Inv-loop μ-loop
 part-r-end c = search needs
 
--- src/faults.rt:76:13
 get4-requires : tie.Need-get4-requires Inv-loop μ-loop
 get4-requires c κs = search needs
 
--- src/faults.rt:77:13
 point-good-requires : tie.Need-point-good-requires Inv-loop μ-loop
 point-good-requires c κs = search needs
 
--- src/faults.rt:78:13
 same-length : tie.Need-same-length Inv-loop μ-loop
 same-length c = search needs
 
--- src/faults.rt:78:13
 same-length-2 : tie.Need-same-length-2 Inv-loop μ-loop
 same-length-2 c = search needs
 
--- src/faults.rt:78:13
 returns : tie.Need-returns Inv-loop μ-loop
 returns c = let l = c .before .before .before .before .before .loop in let a = c .before .before .before .before .before .before .before .before .before .args in rows-four goodPoint (λ r. true) (a .next) (l .inv .0) (omega arith) (row-part pointSize (a .n) (a .s .now) headerSize (l .i) (omega arith)) (c .before .point-good .ensures) (not-true _ (c .if1 .taken))
 
--- src/faults.rt:81:13
 same-length-3 : tie.Need-same-length-3 Inv-loop μ-loop
 same-length-3 c = search needs
 
--- src/faults.rt:81:13
 same-length-4 : tie.Need-same-length-4 Inv-loop μ-loop
 same-length-4 c = search needs
 
--- src/faults.rt:81:13
 returns-2 : tie.Need-returns-2 Inv-loop μ-loop
 returns-2 c = let l = c .before .before .before .before .before .before .loop in let a = c .before .before .before .before .before .before .before .before .before .before .args in rows-five goodPoint (λ r. true) (a .next) (l .inv .0) (omega arith) (row-part pointSize (a .n) (a .s .now) headerSize (l .i) (omega arith)) (c .before .before .point-good .ensures) (not-false _ (c .before .if1 .left)) refl (c .before .before .before .get4 .ensures) (alone (ltb (l .last) (c .before .before .before .get4 .result) && ltb (c .before .before .before .get4 .result) (a .next)) (not-true _ (c .if2 .taken)))
 
--- src/faults.rt:83:9
 mul-ids : tie.Need-mul-ids Inv-loop μ-loop
 mul-ids c = search needs
 
--- src/faults.rt:83:9
 slice-write-ids : tie.Need-slice-write-ids Inv-loop μ-loop
 slice-write-ids c = search needs
 
--- src/faults.rt:84:9
 note-requires : tie.Need-note-requires Inv-loop μ-loop
 note-requires c κs = search needs
 
--- src/faults.rt:86:9
 add-i : tie.Need-add-i Inv-loop μ-loop
 add-i c = search needs
 
--- src/faults.rt:72:5
 loop-less : tie.Need-loop-less Inv-loop μ-loop
 loop-less c = search needs
 
--- src/faults.rt:72:5
 loop-again : tie.Need-loop-again Inv-loop μ-loop
 loop-again c = let l = c .before .before .before .before .before .before .before .before .before .before .loop in let a = c .before .before .before .before .before .before .before .before .before .before .before .before .before .before .args in (rows-on goodPoint (λ r. true) (a .next) (l .inv .0) (omega arith) (row-part pointSize (a .n) (a .s .now) headerSize (l .i) (omega arith)) (c .before .before .before .before .before .before .point-good .ensures) (not-false _ (c .before .before .before .before .before .if1 .left)) refl (c .before .before .before .before .before .before .before .get4 .ensures) (alone (ltb (l .last) (c .before .before .before .before .before .before .before .get4 .result) && ltb (c .before .before .before .before .before .before .before .get4 .result) (a .next)) (not-false _ (c .before .before .before .before .if2 .left))) (omega arith), search needs, l .inv .2)
 
--- src/faults.rt:60:1
 same-length-5 : tie.Need-same-length-5 Inv-loop μ-loop
 same-length-5 c = search needs
 
--- src/faults.rt:60:1
 same-length-6 : tie.Need-same-length-6 Inv-loop μ-loop
 same-length-6 c = search needs
 
--- src/faults.rt:60:1
 returns-3 : tie.Need-returns-3 Inv-loop μ-loop
 returns-3 c = let l = c .before .loop in rows-end goodPoint (λ r. true) _ (l .inv .0) (omega arith)
 

@@ -27,63 +27,48 @@ Inv-loop s from n points near-points curves near-curves sorts i₀ i = ListWalk 
 abbrev μ-loop : tie.MeasureT-loop
 μ-loop s from n points near-points curves near-curves sorts i₀ i = n - i
 
--- src/faults.rt:144:5
 loop-holds : tie.Need-loop-holds Inv-loop μ-loop
 loop-holds c = let a = c .before .before .before .before .before .before .args in (list-start goodRelation (λ r. soundRelation (λ p. among p (now (a .points))) (λ j. sortAmong j (now (a .curves)) (now (a .sorts))) (relationOf r)) _, length-rows relationSize (a .n) (a .s .now) (a .from), c .before .before .before .before .before .before .pre .1, c .before .before .before .before .before .before .pre .2, c .before .before .before .before .before .before .pre .3)
 
--- src/faults.rt:145:25
 mul-at : tie.Need-mul-at Inv-loop μ-loop
 mul-at c = search needs
 
--- src/faults.rt:145:18
 add-at : tie.Need-add-at Inv-loop μ-loop
 add-at c = search needs
 
--- src/faults.rt:146:19
 add-end : tie.Need-add-end Inv-loop μ-loop
 add-end c = search needs
 
--- src/faults.rt:147:17
 sub-r : tie.Need-sub-r Inv-loop μ-loop
 sub-r c = search needs
 
--- src/faults.rt:147:17
 part-r-start : tie.Need-part-r-start Inv-loop μ-loop
 part-r-start c = search needs
 
--- src/faults.rt:147:17
 part-r-end : tie.Need-part-r-end Inv-loop μ-loop
 part-r-end c = search needs
 
--- src/faults.rt:148:9
 add-i : tie.Need-add-i Inv-loop μ-loop
 add-i c = search needs
 
--- src/faults.rt:149:13
 relation-good-requires : tie.Need-relation-good-requires Inv-loop μ-loop
 relation-good-requires c κs = search needs
 
--- src/faults.rt:150:13
 returns : tie.Need-returns Inv-loop μ-loop
 returns c = let l = c .before .before .before .before .loop in let a = c .before .before .before .before .before .before .before .before .before .before .before .args in let sound : List ℕ → Bool = (λ r. soundRelation (λ p. among p (now (a .points))) (λ j. sortAmong j (now (a .curves)) (now (a .sorts))) (relationOf r)) in list-four goodRelation sound (l .inv .0) (omega arith) (row-part relationSize (a .n) (a .s .now) (a .from) (l .i) (omega arith)) (c .before .relation-good .ensures) (not-true _ (c .if1 .taken))
 
--- src/faults.rt:152:13
 relation-sound-requires : tie.Need-relation-sound-requires Inv-loop μ-loop
 relation-sound-requires c κs = let l = c .before .before .before .before .loop in (l .inv .2, l .inv .3, l .inv .4)
 
--- src/faults.rt:153:13
 returns-2 : tie.Need-returns-2 Inv-loop μ-loop
 returns-2 c = let l = c .before .before .before .before .before .before .loop in let a = c .before .before .before .before .before .before .before .before .before .before .before .before .before .args in let sound : List ℕ → Bool = (λ r. soundRelation (λ p. among p (now (a .points))) (λ j. sortAmong j (now (a .curves)) (now (a .sorts))) (relationOf r)) in list-five goodRelation sound (l .inv .0) (omega arith) (row-part relationSize (a .n) (a .s .now) (a .from) (l .i) (omega arith)) (c .before .before .before .relation-good .ensures) (not-false _ (c .before .before .if1 .left)) (c .before .relation-sound .ensures) (not-true _ (c .if2 .taken))
 
--- src/faults.rt:144:5
 loop-less : tie.Need-loop-less Inv-loop μ-loop
 loop-less c = search needs
 
--- src/faults.rt:144:5
 loop-again : tie.Need-loop-again Inv-loop μ-loop
 loop-again c = let l = c .before .before .before .before .before .before .loop in let a = c .before .before .before .before .before .before .before .before .before .before .before .before .before .args in let sound : List ℕ → Bool = (λ r. soundRelation (λ p. among p (now (a .points))) (λ j. sortAmong j (now (a .curves)) (now (a .sorts))) (relationOf r)) in (list-on goodRelation sound (l .inv .0) (omega arith) (row-part relationSize (a .n) (a .s .now) (a .from) (l .i) (omega arith)) (c .before .before .before .relation-good .ensures) (not-false _ (c .before .before .if1 .left)) (c .before .relation-sound .ensures) (not-false _ (c .if2 .left)), l .inv .1, l .inv .2, l .inv .3, l .inv .4)
 
--- src/faults.rt:130:1
 returns-3 : tie.Need-returns-3 Inv-loop μ-loop
 returns-3 c = let l = c .before .loop in let a = c .before .before .before .before .before .before .before .before .args in let sound : List ℕ → Bool = (λ r. soundRelation (λ p. among p (now (a .points))) (λ j. sortAmong j (now (a .curves)) (now (a .sorts))) (relationOf r)) in list-end goodRelation sound (l .inv .0) (omega arith)
 

@@ -14,103 +14,78 @@ use Rattle.big_endian.proofs.get4.Reads as get4-reads
 use Rattle.image.proofs.faults.curves_fault.Reads as curves-fault-reads
 use Rattle.image.proofs.faults.relations_fault.Reads as relations-fault-reads
 
--- src/faults.rt:164:14
 get2-requires : tie.Need-get2-requires
 get2-requires c κs = search needs
 
--- src/faults.rt:164:14
 cast-np : tie.Need-cast-np
 cast-np c = search needs
 
--- src/faults.rt:165:14
 get2-requires-2 : tie.Need-get2-requires-2
 get2-requires-2 c κs = search needs
 
--- src/faults.rt:165:14
 cast-nc : tie.Need-cast-nc
 cast-nc c = search needs
 
--- src/faults.rt:166:14
 get2-requires-3 : tie.Need-get2-requires-3
 get2-requires-3 c κs = search needs
 
--- src/faults.rt:166:14
 cast-nr : tie.Need-cast-nr
 cast-nr c = search needs
 
--- src/faults.rt:172:14
 mul-curves-fault : tie.Need-mul-curves-fault
 mul-curves-fault c = search needs
 
--- src/faults.rt:172:9
 add-curves-fault : tie.Need-add-curves-fault
 add-curves-fault c = search needs
 
--- src/faults.rt:174:9
 get4-requires : tie.Need-get4-requires
 get4-requires c κs = search needs
 
--- src/faults.rt:177:9
 slice-aggregate-curves-fault : tie.Need-slice-aggregate-curves-fault
 slice-aggregate-curves-fault c = search needs
 
--- src/faults.rt:178:9
 slice-aggregate-curves-fault-2 : tie.Need-slice-aggregate-curves-fault-2
 slice-aggregate-curves-fault-2 c = search needs
 
--- src/faults.rt:179:9
 slice-aggregate-curves-fault-3 : tie.Need-slice-aggregate-curves-fault-3
 slice-aggregate-curves-fault-3 c = search needs
 
--- src/faults.rt:170:9
 curves-fault-requires : tie.Need-curves-fault-requires
 curves-fault-requires c κs = let s = c .before .before .before .before .before .before .before .before .before .before .args .s .now in let h = head-kept s 0 (c .before .before .before .before .before .before .before .before .before .before .pre .0) .0 in let k : c .before .before .before .before .before .get22 .result ≤ 128 = omega (arith, h .few-curves, c .before .before .before .before .before .get22 .ensures) in (k, k, omega (arith, h .size, c .before .before .before .before .before .before .get2 .ensures, c .before .before .before .before .before .get22 .ensures), c .before .before .before .before .before .before .before .before .before .before .pre .1)
 
--- src/faults.rt:182:9
 returns : tie.Need-returns
 returns c = let s = c .before .before .before .before .before .before .before .before .before .before .before .before .before .before .before .args .s .now in let h = head-kept s 0 (c .before .before .before .before .before .before .before .before .before .before .before .before .before .before .before .pre .0) .0 in let t = rw (c .before .before .before .before .before .before .before .before .before .before .before .get2 .ensures, c .before .before .before .before .before .before .before .before .before .before .get22 .ensures, c .before .before .before .before .before .before .before .before .get4 .ensures) at (c .before .before .before .before .curves-fault .ensures) in by-curve s (c .before .before .before .before .before .before .before .before .before .before .before .before .before .before .before .pre .2) (t .0) (t .1) (c .if1 .taken)
 
--- src/faults.rt:186:14
 mul-relations-fault : tie.Need-mul-relations-fault
 mul-relations-fault c = search needs
 
--- src/faults.rt:186:9
 add-relations-fault : tie.Need-add-relations-fault
 add-relations-fault c = search needs
 
--- src/faults.rt:186:24
 mul-relations-fault-2 : tie.Need-mul-relations-fault-2
 mul-relations-fault-2 c = search needs
 
--- src/faults.rt:186:9
 add-relations-fault-2 : tie.Need-add-relations-fault-2
 add-relations-fault-2 c = search needs
 
--- src/faults.rt:190:9
 array-share-prefix-ids : tie.Need-array-share-prefix-ids
 array-share-prefix-ids c = let s = c .before .before .before .before .before .before .before .before .before .before .before .before .before .before .before .args .s .now in let h = head-kept s 0 (c .before .before .before .before .before .before .before .before .before .before .before .before .before .before .before .pre .0) .0 in let k : c .before .before .before .before .before .before .before .before .before .before .get22 .result ≤ 128 = omega (arith, h .few-curves, c .before .before .before .before .before .before .before .before .before .before .get22 .ensures) in omega arith
 
--- src/faults.rt:190:9
 slice-aggregate-relations-fault : tie.Need-slice-aggregate-relations-fault
 slice-aggregate-relations-fault c = let s = c .before .before .before .before .before .before .before .before .before .before .before .before .before .before .before .before .args .s .now in let h = head-kept s 0 (c .before .before .before .before .before .before .before .before .before .before .before .before .before .before .before .before .pre .0) .0 in let k : c .before .before .before .before .before .before .before .before .before .before .before .get22 .result ≤ 128 = omega (arith, h .few-curves, c .before .before .before .before .before .before .before .before .before .before .before .get22 .ensures) in rw length-take (omega arith)
 
--- src/faults.rt:191:9
 slice-aggregate-relations-fault-2 : tie.Need-slice-aggregate-relations-fault-2
 slice-aggregate-relations-fault-2 c = search needs
 
--- src/faults.rt:192:9
 array-share-prefix-sorts : tie.Need-array-share-prefix-sorts
 array-share-prefix-sorts c = let s = c .before .before .before .before .before .before .before .before .before .before .before .before .before .before .before .before .before .args .s .now in let h = head-kept s 0 (c .before .before .before .before .before .before .before .before .before .before .before .before .before .before .before .before .before .pre .0) .0 in let k : c .before .before .before .before .before .before .before .before .before .before .before .before .get22 .result ≤ 128 = omega (arith, h .few-curves, c .before .before .before .before .before .before .before .before .before .before .before .before .get22 .ensures) in omega arith
 
--- src/faults.rt:192:9
 slice-aggregate-relations-fault-3 : tie.Need-slice-aggregate-relations-fault-3
 slice-aggregate-relations-fault-3 c = let s = c .before .before .before .before .before .before .before .before .before .before .before .before .before .before .before .before .before .before .args .s .now in let h = head-kept s 0 (c .before .before .before .before .before .before .before .before .before .before .before .before .before .before .before .before .before .before .pre .0) .0 in let k : c .before .before .before .before .before .before .before .before .before .before .before .before .before .get22 .result ≤ 128 = omega (arith, h .few-curves, c .before .before .before .before .before .before .before .before .before .before .before .before .before .get22 .ensures) in rw length-take (omega arith)
 
--- src/faults.rt:184:5
 relations-fault-requires : tie.Need-relations-fault-requires
 relations-fault-requires c κs = let s = c .before .before .before .before .before .before .before .before .before .before .before .before .before .before .before .before .before .before .args .s .now in let h = head-kept s 0 (c .before .before .before .before .before .before .before .before .before .before .before .before .before .before .before .before .before .before .pre .0) .0 in let k : c .before .before .before .before .before .before .before .before .before .before .before .before .before .get22 .result ≤ 128 = omega (arith, h .few-curves, c .before .before .before .before .before .before .before .before .before .before .before .before .before .get22 .ensures) in let t = rw (c .before .before .before .before .before .before .before .before .before .before .before .before .before .before .get2 .ensures, c .before .before .before .before .before .before .before .before .before .before .before .before .before .get22 .ensures, c .before .before .before .before .before .before .before .before .before .before .before .get4 .ensures) at (c .before .before .before .before .before .before .before .curves-fault .ensures) in (omega (arith, h .size, c .before .before .before .before .before .before .before .before .before .before .before .before .before .before .get2 .ensures, c .before .before .before .before .before .before .before .before .before .before .before .before .before .get22 .ensures, c .before .before .before .before .before .before .before .before .before .before .before .before .get23 .ensures), rw (length-take, length-take) (omega (arith, t .0 .long, t .1 .as-long)), c .before .before .before .before .before .before .before .before .before .before .before .before .before .before .before .before .before .before .pre .1, rw (c .before .before .before .before .before .before .before .before .before .before .before .before .before .get22 .ensures) (curves-rise s (c .before .before .before .before .before .before .before .before .before .before .before .before .before .before .before .before .before .before .pre .2) (t .0) (t .1) (c .before .before .before .if1 .left)))
 
--- src/faults.rt:160:1
 returns-2 : tie.Need-returns-2
 returns-2 c = let s = c .before .before .before .before .before .before .before .before .before .before .before .before .before .before .before .before .before .before .before .args .s .now in let h = head-kept s 0 (c .before .before .before .before .before .before .before .before .before .before .before .before .before .before .before .before .before .before .before .pre .0) .0 in let t = rw (c .before .before .before .before .before .before .before .before .before .before .before .before .before .before .before .get2 .ensures, c .before .before .before .before .before .before .before .before .before .before .before .before .before .before .get22 .ensures, c .before .before .before .before .before .before .before .before .before .before .before .before .get4 .ensures) at (c .before .before .before .before .before .before .before .before .curves-fault .ensures) in past-curves s (c .before .before .before .before .before .before .before .before .before .before .before .before .before .before .before .before .before .before .before .pre .2) (t .0) (t .1) (c .before .before .before .before .if1 .left) (rw (c .before .before .before .before .before .before .before .before .before .before .before .before .before .before .before .get2 .ensures, c .before .before .before .before .before .before .before .before .before .before .before .before .before .before .get22 .ensures, c .before .before .before .before .before .before .before .before .before .before .before .before .before .get23 .ensures) at (c .relations-fault .ensures))
 

@@ -7,29 +7,23 @@ use Rattle.image.proofs.messages.operation_byte.Tie as tie
 use Rattle.image.proofs.messages.operation_byte.Reads as reads
 use Rattle.image.proofs.messages.operation_byte.Lts as lts
 
--- src/messages.rt:28:28
 enum-told : tie.Need-enum-told
 enum-told c = search needs
 
--- src/messages.rt:29:29
 enum-told-2 : tie.Need-enum-told-2
 enum-told-2 c = search needs
 
--- src/messages.rt:30:30
 enum-told-3 : tie.Need-enum-told-3
 enum-told-3 c = search needs
 
--- src/messages.rt:24:1
 returns : tie.Need-returns
 unfolding operationByte
 returns c = sym (ap (operationByte) (c .enum-told .given .1))
 
--- src/messages.rt:24:1
 returns-2 : tie.Need-returns-2
 unfolding operationByte
 returns-2 c = sym (ap (operationByte) (c .enum-told2 .given .1))
 
--- src/messages.rt:24:1
 returns-3 : tie.Need-returns-3
 unfolding operationByte
 returns-3 c = sym (ap (operationByte) (c .enum-told3 .given .1))

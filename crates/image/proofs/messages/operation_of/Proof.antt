@@ -8,17 +8,14 @@ use Rattle.image.proofs.messages.operation_of.Tie as tie
 use Rattle.image.proofs.messages.operation_of.Reads as reads
 use Rattle.image.proofs.messages.operation_of.Lts as lts
 
--- src/messages.rt:14:1
 returns : tie.Need-returns
 unfolding operationOf
 returns c = sym (ap (operationOf) (c .match .keys1))
 
--- src/messages.rt:14:1
 returns-2 : tie.Need-returns-2
 unfolding operationOf
 returns-2 c = sym (ap (operationOf) (c .match .keys2))
 
--- src/messages.rt:14:1
 returns-3 : tie.Need-returns-3
 unfolding operationOf
 returns-3 c = simp (ne-eqb _ 1 (c .match .rest .0 .1), ne-eqb _ 2 (c .match .rest .1))

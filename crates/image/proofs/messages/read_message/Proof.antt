@@ -12,74 +12,58 @@ use Rattle.big_endian.proofs.get4.Reads as get4-reads
 use Rattle.big_endian.proofs.get8.Reads as get8-reads
 use Rattle.image.proofs.messages.operation_of.Reads as operation-of-reads
 
--- src/messages.rt:41:9
 returns : tie.Need-returns
 unfolding messageFault resultOf guardNumber
 returns c = simp (lt-leb _ _ (c .if1 .taken))
 
--- src/messages.rt:43:8
 get1-requires : tie.Need-get1-requires
 get1-requires c κs = search needs
 
--- src/messages.rt:44:9
 returns-2 : tie.Need-returns-2
 unfolding messageFault resultOf guardNumber
 returns-2 c = simp (ne-eqb _ _ (c .if2 .taken), ← c .before .get1 .ensures, le-leb _ _ (c .before .before .if1 .left))
 
--- src/messages.rt:47:9
 returns-3 : tie.Need-returns-3
 unfolding messageFault resultOf guardNumber
 returns-3 c = simp (ne-eqb _ _ (c .if3 .taken), eq-eqb _ _ (c .before .if2 .left), ← c .before .before .get1 .ensures, le-leb _ _ (c .before .before .before .if1 .left))
 
--- src/messages.rt:49:8
 get4-requires : tie.Need-get4-requires
 get4-requires c κs = search needs
 
--- src/messages.rt:50:9
 returns-4 : tie.Need-returns-4
 unfolding messageFault resultOf guardNumber
 returns-4 c = simp (ne-eqb _ _ (c .if4 .taken), ← c .before .get4 .ensures, eq-eqb _ _ (c .before .before .if3 .left), eq-eqb _ _ (c .before .before .before .if2 .left), ← c .before .before .before .before .get1 .ensures, le-leb _ _ (c .before .before .before .before .before .if1 .left))
 
--- src/messages.rt:52:9
 get4-requires-2 : tie.Need-get4-requires-2
 get4-requires-2 c κs = search needs
 
--- src/messages.rt:54:9
 returns-5 : tie.Need-returns-5
 unfolding messageFault resultOf guardNumber
 returns-5 c = simp (lt-leb _ _ (c .if5 .taken), ← c .before .get42 .ensures, eq-eqb _ _ (c .before .before .if4 .left), ← c .before .before .before .get4 .ensures, eq-eqb _ _ (c .before .before .before .before .if3 .left), eq-eqb _ _ (c .before .before .before .before .before .if2 .left), ← c .before .before .before .before .before .before .get1 .ensures, le-leb _ _ (c .before .before .before .before .before .before .before .if1 .left))
 
--- src/messages.rt:56:9
 get1-requires-2 : tie.Need-get1-requires-2
 get1-requires-2 c κs = search needs
 
--- src/messages.rt:58:9
 returns-6 : tie.Need-returns-6
 unfolding messageFault resultOf guardNumber
 returns-6 c = simp (lt-leb _ _ (c .if6 .taken), ← c .before .get12 .ensures, le-leb _ _ (c .before .before .if5 .left), ← c .before .before .before .get42 .ensures, eq-eqb _ _ (c .before .before .before .before .if4 .left), ← c .before .before .before .before .before .get4 .ensures, eq-eqb _ _ (c .before .before .before .before .before .before .if3 .left), eq-eqb _ _ (c .before .before .before .before .before .before .before .if2 .left), ← c .before .before .before .before .before .before .before .before .get1 .ensures, le-leb _ _ (c .before .before .before .before .before .before .before .before .before .if1 .left))
 
--- src/messages.rt:61:9
 returns-7 : tie.Need-returns-7
 unfolding messageFault resultOf guardNumber
 returns-7 c = simp (lt-leb _ _ (c .if7 .taken), le-leb _ _ (c .before .if6 .left), ← c .before .before .get12 .ensures, le-leb _ _ (c .before .before .before .if5 .left), ← c .before .before .before .before .get42 .ensures, eq-eqb _ _ (c .before .before .before .before .before .if4 .left), ← c .before .before .before .before .before .before .get4 .ensures, eq-eqb _ _ (c .before .before .before .before .before .before .before .if3 .left), eq-eqb _ _ (c .before .before .before .before .before .before .before .before .if2 .left), ← c .before .before .before .before .before .before .before .before .before .get1 .ensures, le-leb _ _ (c .before .before .before .before .before .before .before .before .before .before .if1 .left))
 
--- src/messages.rt:63:9
 operation-of-requires : tie.Need-operation-of-requires
 operation-of-requires c κs = search needs
 
--- src/messages.rt:67:16
 get4-requires-3 : tie.Need-get4-requires-3
 get4-requires-3 c κs = search needs
 
--- src/messages.rt:68:12
 get8-requires : tie.Need-get8-requires
 get8-requires c κs = search needs
 
--- src/messages.rt:69:12
 get8-requires-2 : tie.Need-get8-requires-2
 get8-requires-2 c κs = search needs
 
--- src/messages.rt:36:1
 returns-8 : tie.Need-returns-8
 unfolding messageFault resultOf guardNumber
 returns-8 c = simp (← c .get82 .ensures, ← c .before .get8 .ensures, ← c .before .before .get43 .ensures, ← c .before .before .before .operation-of .ensures, le-leb _ _ (c .before .before .before .before .if7 .left), le-leb _ _ (c .before .before .before .before .before .if6 .left), ← c .before .before .before .before .before .before .get12 .ensures, le-leb _ _ (c .before .before .before .before .before .before .before .if5 .left), ← c .before .before .before .before .before .before .before .before .get42 .ensures, eq-eqb _ _ (c .before .before .before .before .before .before .before .before .before .if4 .left), ← c .before .before .before .before .before .before .before .before .before .before .get4 .ensures, eq-eqb _ _ (c .before .before .before .before .before .before .before .before .before .before .before .if3 .left), eq-eqb _ _ (c .before .before .before .before .before .before .before .before .before .before .before .before .if2 .left), ← c .before .before .before .before .before .before .before .before .before .before .before .before .before .get1 .ensures, le-leb _ _ (c .before .before .before .before .before .before .before .before .before .before .before .before .before .before .if1 .left))

@@ -18,68 +18,53 @@ use Rattle.big_endian.proofs.put4.Reads as put4-reads
 use Rattle.big_endian.proofs.put8.Reads as put8-reads
 use Rattle.image.proofs.messages.operation_byte.Reads as operation-byte-reads
 
--- src/messages.rt:79:9
 returns : tie.Need-returns
 unfolding guardNumber
 returns c = let t = lt-leb _ _ (c .if1 .taken) in record { number = rw t; buffer = rw t }
 
--- src/messages.rt:82:9
 returns-2 : tie.Need-returns-2
 unfolding guardNumber
 returns-2 c = let t1 = le-leb _ _ (c .before .if1 .left) in let t2 = lt-leb _ _ (c .if2 .taken) in record { number = rw (t1, t2); buffer = rw (t1, t2) }
 
--- src/messages.rt:85:5
 cast-put4 : tie.Need-cast-put4
 cast-put4 c = search needs
 
 put4-requires : tie.Need-put4-requires
 put4-requires c κs = search needs
 
--- src/messages.rt:86:18
 cast-put1 : tie.Need-cast-put1
 cast-put1 c = search needs
 
--- src/messages.rt:86:5
 put1-requires : tie.Need-put1-requires
 put1-requires c κs = search needs
 
--- src/messages.rt:87:18
 cast-put4-2 : tie.Need-cast-put4-2
 cast-put4-2 c = search needs
 
--- src/messages.rt:87:5
 put4-requires-2 : tie.Need-put4-requires-2
 put4-requires-2 c κs = search needs
 
--- src/messages.rt:88:18
 operation-byte-requires : tie.Need-operation-byte-requires
 operation-byte-requires c κs = search needs
 
--- src/messages.rt:88:5
 put1-requires-2 : tie.Need-put1-requires-2
 put1-requires-2 c κs = search needs
 
--- src/messages.rt:89:19
 cast-put4-3 : tie.Need-cast-put4-3
 cast-put4-3 c = search needs
 
--- src/messages.rt:89:5
 put4-requires-3 : tie.Need-put4-requires-3
 put4-requires-3 c κs = search needs
 
--- src/messages.rt:90:5
 put8-requires : tie.Need-put8-requires
 put8-requires c κs = search needs
 
--- src/messages.rt:91:5
 put8-requires-2 : tie.Need-put8-requires-2
 put8-requires-2 c κs = search needs
 
--- src/messages.rt:75:1
 same-length : tie.Need-same-length
 same-length c = search needs
 
--- src/messages.rt:75:1
 returns-3 : tie.Need-returns-3
 unfolding guardNumber encode
 returns-3 c =

@@ -23,67 +23,51 @@ Inv-loop s from n slots₀ i₀ slots i = (length slots ≡ 128) × (i ≤ n) ×
 abbrev μ-loop : tie.MeasureT-loop
 μ-loop s from n slots₀ i₀ slots i = n - i
 
--- src/reader.rt:84:21
 no-curves-requires : tie.Need-no-curves-requires Inv-loop μ-loop
 no-curves-requires c κs = search needs
 
--- src/reader.rt:86:5
 loop-holds : tie.Need-loop-holds Inv-loop μ-loop
 loop-holds c = let a = c .before .before .args in (c .no-curves .ensures, omega arith, length-rows curveSize (a .n) (a .s .now) (a .from), refl)
 
--- src/reader.rt:87:25
 mul-at : tie.Need-mul-at Inv-loop μ-loop
 mul-at c = search needs
 
--- src/reader.rt:87:18
 add-at : tie.Need-add-at Inv-loop μ-loop
 add-at c = search needs
 
--- src/reader.rt:88:19
 add-end : tie.Need-add-end Inv-loop μ-loop
 add-end c = search needs
 
--- src/reader.rt:89:17
 sub-r : tie.Need-sub-r Inv-loop μ-loop
 sub-r c = search needs
 
--- src/reader.rt:89:17
 part-r-start : tie.Need-part-r-start Inv-loop μ-loop
 part-r-start c = search needs
 
--- src/reader.rt:89:17
 part-r-end : tie.Need-part-r-end Inv-loop μ-loop
 part-r-end c = search needs
 
--- src/reader.rt:90:32
 slots-at-requires : tie.Need-slots-at-requires Inv-loop μ-loop
 slots-at-requires c κs = search needs
 
--- src/reader.rt:90:20
 curve-at-requires : tie.Need-curve-at-requires Inv-loop μ-loop
 curve-at-requires c κs = let l = c .before .before .before .loop in let a = c .before .before .before .before .before .before .args in let rows = rowsAt curveSize (a .n) (a .s .now) (a .from) in (ap plainCurve (row-part curveSize (a .n) (a .s .now) (a .from) (l .i) (omega arith)) ∙ every-row plainCurve rows (l .i) (c .before .before .before .before .before .before .pre .2) (omega arith), c .slots-at .ensures)
 
--- src/reader.rt:90:9
 mul-slots : tie.Need-mul-slots Inv-loop μ-loop
 mul-slots c = search needs
 
--- src/reader.rt:90:9
 array-set-from-slots : tie.Need-array-set-from-slots Inv-loop μ-loop
 array-set-from-slots c = search needs
 
--- src/reader.rt:91:9
 add-i : tie.Need-add-i Inv-loop μ-loop
 add-i c = search needs
 
--- src/reader.rt:86:5
 loop-less : tie.Need-loop-less Inv-loop μ-loop
 loop-less c = search needs
 
--- src/reader.rt:86:5
 loop-again : tie.Need-loop-again Inv-loop μ-loop
 loop-again c = let l = c .before .before .before .before .loop in let a = c .before .before .before .before .before .before .before .args in let rows = rowsAt curveSize (a .n) (a .s .now) (a .from) in let h : l .i < length (l .slots) = omega arith in (simp length-set (l .inv .0), omega arith, l .inv .2, filling curveOf (λ (l : List Curve). l) (λ x. x) (λ l x. refl) rows (l .slots) (l .i) _ (omega arith) h (c .curve-at .ensures ∙ ap curveOf (row-part curveSize (a .n) (a .s .now) (a .from) (l .i) (omega arith))) (l .inv .3))
 
--- src/reader.rt:80:1
 returns : tie.Need-returns Inv-loop μ-loop
 returns c = let l = c .before .loop in let a = c .before .before .before .before .args in let rows = rowsAt curveSize (a .n) (a .s .now) (a .from) in filled curveOf (λ (l : List Curve). l) (λ x. x) (λ l x. refl) rows (l .slots) (a .n) (l .i) (omega arith) (omega arith) (l .inv .3)
 

@@ -18,71 +18,54 @@ use Rattle.image.proofs.reader.curves_at.Reads as curves-at-reads
 use Rattle.image.proofs.reader.points_at.Reads as points-at-reads
 use Rattle.image.proofs.reader.relations_at.Reads as relations-at-reads
 
--- src/reader.rt:118:9
 get4-requires : tie.Need-get4-requires
 get4-requires c κs = search needs
 
--- src/reader.rt:119:19
 get2-requires : tie.Need-get2-requires
 get2-requires c κs = search needs
 
--- src/reader.rt:119:19
 cast-npoints : tie.Need-cast-npoints
 cast-npoints c = search needs
 
--- src/reader.rt:120:19
 get2-requires-2 : tie.Need-get2-requires-2
 get2-requires-2 c κs = search needs
 
--- src/reader.rt:120:19
 cast-ncurves : tie.Need-cast-ncurves
 cast-ncurves c = search needs
 
--- src/reader.rt:121:22
 get2-requires-3 : tie.Need-get2-requires-3
 get2-requires-3 c κs = search needs
 
--- src/reader.rt:121:22
 cast-nrelations : tie.Need-cast-nrelations
 cast-nrelations c = search needs
 
--- src/reader.rt:122:9
 points-at-requires : tie.Need-points-at-requires
 points-at-requires c κs = let s = c .before .before .before .before .before .args .s .now in let e = c .before .before .before .before .before .pre in let h = image-kept s e .head in (omega (arith, h .few-points, c .before .before .get2 .ensures), omega (arith, h .size, c .before .before .get2 .ensures), ap (λ (n : ℕ). every plainPoint (rowsAt pointSize n s headerSize)) (c .before .before .get2 .ensures) ∙ plain-points s e)
 
--- src/reader.rt:123:36
 mul-curves-at : tie.Need-mul-curves-at
 mul-curves-at c = search needs
 
--- src/reader.rt:123:31
 add-curves-at : tie.Need-add-curves-at
 add-curves-at c = search needs
 
--- src/reader.rt:123:9
 curves-at-requires : tie.Need-curves-at-requires
 curves-at-requires c κs = let s = c .before .before .before .before .before .before .args .s .now in let e = c .before .before .before .before .before .before .pre in let h = image-kept s e .head in (omega (arith, h .few-curves, c .before .before .get22 .ensures), omega (arith, h .size, c .before .before .before .get2 .ensures, c .before .before .get22 .ensures), rw (c .before .before .before .get2 .ensures, c .before .before .get22 .ensures) (plain-curves s e))
 
--- src/reader.rt:124:42
 mul-relations-at : tie.Need-mul-relations-at
 mul-relations-at c = search needs
 
--- src/reader.rt:124:37
 add-relations-at : tie.Need-add-relations-at
 add-relations-at c = search needs
 
--- src/reader.rt:124:57
 mul-relations-at-2 : tie.Need-mul-relations-at-2
 mul-relations-at-2 c = search needs
 
--- src/reader.rt:124:37
 add-relations-at-2 : tie.Need-add-relations-at-2
 add-relations-at-2 c = search needs
 
--- src/reader.rt:124:9
 relations-at-requires : tie.Need-relations-at-requires
 relations-at-requires c κs = let s = c .before .before .before .before .before .before .before .args .s .now in let e = c .before .before .before .before .before .before .before .pre in let h = image-kept s e .head in (omega (arith, h .few-relations, c .before .before .get23 .ensures), omega (arith, h .size, c .before .before .before .before .get2 .ensures, c .before .before .before .get22 .ensures, c .before .before .get23 .ensures), rw (c .before .before .before .before .get2 .ensures, c .before .before .before .get22 .ensures, c .before .before .get23 .ensures) (plain-relations s e))
 
--- src/reader.rt:114:1
 returns : tie.Need-returns
 returns c = spelled _ (c .before .before .before .before .before .before .before .before .pre) (λ k. c .before .before .before .before .before .before .before .shared-slice-known .given k .fits) (record { next = c .before .before .before .before .before .before .get4 .result; npoints = c .before .before .before .before .before .get2 .result; ncurves = c .before .before .before .before .get22 .result; nrelations = c .before .before .before .get23 .result; points = c .before .before .points-at .result; curves = c .before .curves-at .result; relations = c .relations-at .result }) (c .before .before .before .before .before .before .get4 .ensures) (c .before .before .before .before .before .get2 .ensures) (c .before .before .before .before .get22 .ensures) (c .before .before .before .get23 .ensures) (c .before .before .points-at .ensures) (c .before .curves-at .ensures) (c .relations-at .ensures)
 

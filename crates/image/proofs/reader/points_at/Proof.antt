@@ -22,63 +22,48 @@ Inv-loop s n slots₀ i₀ slots i = (length slots ≡ 512) × (i ≤ n) × (len
 abbrev μ-loop : tie.MeasureT-loop
 μ-loop s n slots₀ i₀ slots i = n - i
 
--- src/reader.rt:68:21
 no-points-requires : tie.Need-no-points-requires Inv-loop μ-loop
 no-points-requires c κs = search needs
 
--- src/reader.rt:70:5
 loop-holds : tie.Need-loop-holds Inv-loop μ-loop
 loop-holds c = let a = c .before .before .args in (c .no-points .ensures, omega arith, length-rows pointSize (a .n) (a .s .now) headerSize, refl)
 
--- src/reader.rt:71:23
 mul-at : tie.Need-mul-at Inv-loop μ-loop
 mul-at c = search needs
 
--- src/reader.rt:71:18
 add-at : tie.Need-add-at Inv-loop μ-loop
 add-at c = search needs
 
--- src/reader.rt:72:19
 add-end : tie.Need-add-end Inv-loop μ-loop
 add-end c = search needs
 
--- src/reader.rt:73:17
 sub-r : tie.Need-sub-r Inv-loop μ-loop
 sub-r c = search needs
 
--- src/reader.rt:73:17
 part-r-start : tie.Need-part-r-start Inv-loop μ-loop
 part-r-start c = search needs
 
--- src/reader.rt:73:17
 part-r-end : tie.Need-part-r-end Inv-loop μ-loop
 part-r-end c = search needs
 
--- src/reader.rt:74:20
 point-at-requires : tie.Need-point-at-requires Inv-loop μ-loop
 point-at-requires c κs = let l = c .before .before .loop in let a = c .before .before .before .before .before .args in let rows = rowsAt pointSize (a .n) (a .s .now) headerSize in ap plainPoint (row-part pointSize (a .n) (a .s .now) headerSize (l .i) (omega arith)) ∙ every-row plainPoint rows (l .i) (c .before .before .before .before .before .pre .2) (omega arith)
 
--- src/reader.rt:74:9
 mul-slots : tie.Need-mul-slots Inv-loop μ-loop
 mul-slots c = search needs
 
--- src/reader.rt:74:9
 array-set-from-slots : tie.Need-array-set-from-slots Inv-loop μ-loop
 array-set-from-slots c = search needs
 
--- src/reader.rt:75:9
 add-i : tie.Need-add-i Inv-loop μ-loop
 add-i c = search needs
 
--- src/reader.rt:70:5
 loop-less : tie.Need-loop-less Inv-loop μ-loop
 loop-less c = search needs
 
--- src/reader.rt:70:5
 loop-again : tie.Need-loop-again Inv-loop μ-loop
 loop-again c = let l = c .before .before .before .loop in let a = c .before .before .before .before .before .before .args in let rows = rowsAt pointSize (a .n) (a .s .now) headerSize in let h : l .i < length (l .slots) = omega arith in (simp length-set (l .inv .0), omega arith, l .inv .2, filling pointOf (λ (l : List Point). l) (λ x. x) (λ l x. refl) rows (l .slots) (l .i) _ (omega arith) h (c .point-at .ensures ∙ ap pointOf (row-part pointSize (a .n) (a .s .now) headerSize (l .i) (omega arith))) (l .inv .3))
 
--- src/reader.rt:64:1
 returns : tie.Need-returns Inv-loop μ-loop
 returns c = let l = c .before .loop in let a = c .before .before .before .before .args in let rows = rowsAt pointSize (a .n) (a .s .now) headerSize in filled pointOf (λ (l : List Point). l) (λ x. x) (λ l x. refl) rows (l .slots) (a .n) (l .i) (omega arith) (omega arith) (l .inv .3)
 

@@ -10,25 +10,20 @@ use Rattle.image.proofs.faults.image_fault.Reads as image-fault-reads
 use Rattle.image.proofs.reader.refuse.Reads as refuse-reads
 use Rattle.image.proofs.reader.decode_sketch.Reads as decode-sketch-reads
 
--- src/reader.rt:162:9
 image-fault-requires : tie.Need-image-fault-requires
 image-fault-requires c κs = search needs
 
--- src/reader.rt:164:9
 refuse-requires : tie.Need-refuse-requires
 refuse-requires c κs = search needs
 
--- src/reader.rt:164:9
 returns : tie.Need-returns
-returns c = record { told = refused-by (c .before .before .before .before .args .s .now) (c .before .before .image-fault .ensures) (c .before .if1 .taken) (c .refuse .result) (c .refuse .ensures .0); sound = c .refuse .ensures .1 }
+returns c = record { result-is = refused-by (c .before .before .before .before .args .s .now) (c .before .before .image-fault .ensures) (c .before .if1 .taken) (c .refuse .result) (c .refuse .ensures .0); sound = c .refuse .ensures .1 }
 
--- src/reader.rt:166:9
 decode-sketch-requires : tie.Need-decode-sketch-requires
 decode-sketch-requires c κs = sym (c .before .image-fault .ensures) ∙ c .if1 .left
 
--- src/reader.rt:159:1
 returns-2 : tie.Need-returns-2
-returns-2 c = record { told = accepted-as (c .before .before .before .before .args .s .now) (c .before .before .image-fault .ensures) (c .before .if1 .left) (record { sketch = c .decode-sketch .result; refusal = 0 }) refl (c .decode-sketch .ensures .0); sound = c .decode-sketch .ensures .1 }
+returns-2 c = record { result-is = accepted-as (c .before .before .before .before .args .s .now) (c .before .before .image-fault .ensures) (c .before .if1 .left) (record { sketch = c .decode-sketch .result; refusal = 0 }) refl (c .decode-sketch .ensures .0); sound = c .decode-sketch .ensures .1 }
 
 pub read-spec : {M : Type 1} → statement M
 read-spec =

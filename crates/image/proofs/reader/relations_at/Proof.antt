@@ -22,63 +22,48 @@ Inv-loop s from n slots₀ i₀ slots i = (length slots ≡ 256) × (i ≤ n) ×
 abbrev μ-loop : tie.MeasureT-loop
 μ-loop s from n slots₀ i₀ slots i = n - i
 
--- src/reader.rt:100:21
 no-relations-requires : tie.Need-no-relations-requires Inv-loop μ-loop
 no-relations-requires c κs = search needs
 
--- src/reader.rt:102:5
 loop-holds : tie.Need-loop-holds Inv-loop μ-loop
 loop-holds c = let a = c .before .before .args in (c .no-relations .ensures, omega arith, length-rows relationSize (a .n) (a .s .now) (a .from), refl)
 
--- src/reader.rt:103:25
 mul-at : tie.Need-mul-at Inv-loop μ-loop
 mul-at c = search needs
 
--- src/reader.rt:103:18
 add-at : tie.Need-add-at Inv-loop μ-loop
 add-at c = search needs
 
--- src/reader.rt:104:19
 add-end : tie.Need-add-end Inv-loop μ-loop
 add-end c = search needs
 
--- src/reader.rt:105:17
 sub-r : tie.Need-sub-r Inv-loop μ-loop
 sub-r c = search needs
 
--- src/reader.rt:105:17
 part-r-start : tie.Need-part-r-start Inv-loop μ-loop
 part-r-start c = search needs
 
--- src/reader.rt:105:17
 part-r-end : tie.Need-part-r-end Inv-loop μ-loop
 part-r-end c = search needs
 
--- src/reader.rt:106:13
 relation-at-requires : tie.Need-relation-at-requires Inv-loop μ-loop
 relation-at-requires c κs = let l = c .before .before .loop in let a = c .before .before .before .before .before .args in let rows = rowsAt relationSize (a .n) (a .s .now) (a .from) in ap plainRelation (row-part relationSize (a .n) (a .s .now) (a .from) (l .i) (omega arith)) ∙ every-row plainRelation rows (l .i) (c .before .before .before .before .before .pre .2) (omega arith)
 
--- src/reader.rt:107:9
 mul-slots : tie.Need-mul-slots Inv-loop μ-loop
 mul-slots c = search needs
 
--- src/reader.rt:107:9
 array-set-from-slots : tie.Need-array-set-from-slots Inv-loop μ-loop
 array-set-from-slots c = search needs
 
--- src/reader.rt:108:9
 add-i : tie.Need-add-i Inv-loop μ-loop
 add-i c = search needs
 
--- src/reader.rt:102:5
 loop-less : tie.Need-loop-less Inv-loop μ-loop
 loop-less c = search needs
 
--- src/reader.rt:102:5
 loop-again : tie.Need-loop-again Inv-loop μ-loop
 loop-again c = let l = c .before .before .before .loop in let a = c .before .before .before .before .before .before .args in let rows = rowsAt relationSize (a .n) (a .s .now) (a .from) in let h : l .i < length (l .slots) = omega arith in (simp length-set (l .inv .0), omega arith, l .inv .2, filling relationOf (λ (l : List RelationSlot). map (λ t. t .relation) l) (λ t. t .relation) (λ l x. map-append (λ t. t .relation) l (x ∷ [])) rows (l .slots) (l .i) _ (omega arith) h (c .relation-at .ensures ∙ ap relationOf (row-part relationSize (a .n) (a .s .now) (a .from) (l .i) (omega arith))) (l .inv .3))
 
--- src/reader.rt:96:1
 returns : tie.Need-returns Inv-loop μ-loop
 returns c = let l = c .before .loop in let a = c .before .before .before .before .args in let rows = rowsAt relationSize (a .n) (a .s .now) (a .from) in filled relationOf (λ (l : List RelationSlot). map (λ t. t .relation) l) (λ t. t .relation) (λ l x. map-append (λ t. t .relation) l (x ∷ [])) rows (l .slots) (a .n) (l .i) (omega arith) (omega arith) (l .inv .3)
 

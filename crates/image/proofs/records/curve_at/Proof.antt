@@ -12,39 +12,30 @@ use Rattle.big_endian.proofs.get8.Reads as get8-reads
 use Rattle.image.proofs.records.kept_slots.Reads as kept-slots-reads
 use Rattle.image.proofs.records.kind_of.Reads as kind-of-reads
 
--- src/records.rt:100:9
 get1-requires : tie.Need-get1-requires
 get1-requires c κs = search needs
 
--- src/records.rt:101:9
 get1-requires-2 : tie.Need-get1-requires-2
 get1-requires-2 c κs = search needs
 
--- src/records.rt:102:30
 get1-requires-3 : tie.Need-get1-requires-3
 get1-requires-3 c κs = search needs
 
--- src/records.rt:102:60
 get8-requires : tie.Need-get8-requires
 get8-requires c κs = search needs
 
--- src/records.rt:102:45
 float-from-bits-kind-of : tie.Need-float-from-bits-kind-of
 float-from-bits-kind-of c = number-bits _ (c .get8 .ensures) (plain-number (c .before .before .before .before .before .args .r .now) (c .before .before .before .before .before .pre .0))
 
--- src/records.rt:102:9
 kind-of-requires : tie.Need-kind-of-requires
 kind-of-requires c κs = search needs
 
--- src/records.rt:103:9
 kept-slots-requires : tie.Need-kept-slots-requires
 kept-slots-requires c κs = search needs
 
--- src/records.rt:105:13
 get4-requires : tie.Need-get4-requires
 get4-requires c κs = search needs
 
--- src/records.rt:96:1
 returns : tie.Need-returns
 returns c = simp (c .get4 .ensures, c .before .kept-slots .ensures, c .before .before .kind-of .ensures, c .before .before .before .get8 .ensures, c .before .before .before .before .get13 .ensures, c .before .before .before .before .before .get12 .ensures, c .before .before .before .before .before .before .get1 .ensures, c .before .before .before .before .before .before .before .before .pre .1)
 

@@ -6,11 +6,9 @@ use Rattle.image.proofs.records.kept_slots.Tie as tie
 use Rattle.image.proofs.records.kept_slots.Reads as reads
 use Rattle.image.proofs.records.kept_slots.Lts as lts
 
--- src/records.rt:89:9
 returns : tie.Need-returns
 returns c = simp (eq-eqb _ 4 (c .if1 .taken))
 
--- src/records.rt:85:1
 returns-2 : tie.Need-returns-2
 returns-2 c = simp (ne-eqb _ 4 (c .if1 .left))
 

@@ -10,31 +10,24 @@ use Rattle.big_endian.proofs.get1.Reads as get1-reads
 use Rattle.big_endian.proofs.get4.Reads as get4-reads
 use Rattle.big_endian.proofs.get8.Reads as get8-reads
 
--- src/records.rt:35:13
 get4-requires : tie.Need-get4-requires
 get4-requires c κs = search needs
 
--- src/records.rt:36:16
 get1-requires : tie.Need-get1-requires
 get1-requires c κs = search needs
 
--- src/records.rt:37:27
 get8-requires : tie.Need-get8-requires
 get8-requires c κs = search needs
 
--- src/records.rt:37:12
 float-from-bits-t6 : tie.Need-float-from-bits-t6
 float-from-bits-t6 c = number-bits _ (c .get8 .ensures) (plain-x (c .before .before .before .before .args .r .now) (c .before .before .before .before .pre))
 
--- src/records.rt:38:27
 get8-requires-2 : tie.Need-get8-requires-2
 get8-requires-2 c κs = search needs
 
--- src/records.rt:38:12
 float-from-bits-t8 : tie.Need-float-from-bits-t8
 float-from-bits-t8 c = number-bits _ (c .get82 .ensures) (plain-y (c .before .before .before .before .before .args .r .now) (c .before .before .before .before .before .pre))
 
--- src/records.rt:30:1
 returns : tie.Need-returns
 returns c = simp (c .get82 .ensures, c .before .get8 .ensures, c .before .before .get1 .ensures, c .before .before .before .get4 .ensures)
 

@@ -11,31 +11,24 @@ use Rattle.big_endian.proofs.get4.Reads as get4-reads
 use Rattle.big_endian.proofs.get8.Reads as get8-reads
 use Rattle.image.proofs.records.relation_by.Reads as relation-by-reads
 
--- src/records.rt:151:17
 get1-requires : tie.Need-get1-requires
 get1-requires c κs = search needs
 
--- src/records.rt:151:29
 get4-requires : tie.Need-get4-requires
 get4-requires c κs = search needs
 
--- src/records.rt:151:41
 get4-requires-2 : tie.Need-get4-requires-2
 get4-requires-2 c κs = search needs
 
--- src/records.rt:151:68
 get8-requires : tie.Need-get8-requires
 get8-requires c κs = search needs
 
--- src/records.rt:151:53
 float-from-bits-relation-by : tie.Need-float-from-bits-relation-by
 float-from-bits-relation-by c = number-bits _ (c .get8 .ensures) (plain-value (c .before .before .before .before .before .args .r .now) (c .before .before .before .before .before .pre))
 
--- src/records.rt:151:5
 relation-by-requires : tie.Need-relation-by-requires
 relation-by-requires c κs = search needs
 
--- src/records.rt:147:1
 returns : tie.Need-returns
 returns c = simp (c .relation-by .ensures, c .before .get8 .ensures, c .before .before .get42 .ensures, c .before .before .before .get4 .ensures, c .before .before .before .before .get1 .ensures)
 

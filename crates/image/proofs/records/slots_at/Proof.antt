@@ -7,39 +7,30 @@ use Rattle.image.proofs.records.slots_at.Reads as reads
 use Rattle.image.proofs.records.slots_at.Lts as lts
 use Rattle.big_endian.proofs.get4.Reads as get4-reads
 
--- src/records.rt:57:6
 get4-requires : tie.Need-get4-requires
 get4-requires c κs = search needs
 
--- src/records.rt:57:18
 get4-requires-2 : tie.Need-get4-requires-2
 get4-requires-2 c κs = search needs
 
--- src/records.rt:57:31
 get4-requires-3 : tie.Need-get4-requires-3
 get4-requires-3 c κs = search needs
 
--- src/records.rt:57:44
 get4-requires-4 : tie.Need-get4-requires-4
 get4-requires-4 c κs = search needs
 
--- src/records.rt:57:57
 get4-requires-5 : tie.Need-get4-requires-5
 get4-requires-5 c κs = search needs
 
--- src/records.rt:57:70
 get4-requires-6 : tie.Need-get4-requires-6
 get4-requires-6 c κs = search needs
 
--- src/records.rt:57:83
 get4-requires-7 : tie.Need-get4-requires-7
 get4-requires-7 c κs = search needs
 
--- src/records.rt:57:96
 get4-requires-8 : tie.Need-get4-requires-8
 get4-requires-8 c κs = search needs
 
--- src/records.rt:54:1
 returns : tie.Need-returns
 unfolding idsAt
 returns c = simp (c .get48 .ensures, c .before .get47 .ensures, c .before .before .get46 .ensures, c .before .before .before .get45 .ensures, c .before .before .before .before .get44 .ensures, c .before .before .before .before .before .get43 .ensures, c .before .before .before .before .before .before .get42 .ensures, c .before .before .before .before .before .before .before .get4 .ensures)

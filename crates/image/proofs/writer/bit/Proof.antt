@@ -7,12 +7,10 @@ use Rattle.image.proofs.writer.bit.Tie as tie
 use Rattle.image.proofs.writer.bit.Reads as reads
 use Rattle.image.proofs.writer.bit.Lts as lts
 
--- src/writer.rt:23:1
 returns : tie.Need-returns
 unfolding bit
 returns c = (sym (ap bit (c .if1 .taken)), omega arith)
 
--- src/writer.rt:23:1
 returns-2 : tie.Need-returns-2
 unfolding bit
 returns-2 c = (sym (ap bit (c .if1 .left)), omega arith)

@@ -7,51 +7,40 @@ use Rattle.image.proofs.writer.degree_of.Tie as tie
 use Rattle.image.proofs.writer.degree_of.Reads as reads
 use Rattle.image.proofs.writer.degree_of.Lts as lts
 
--- src/writer.rt:56:34
 enum-told : tie.Need-enum-told
 enum-told c = search needs
 
--- src/writer.rt:57:36
 enum-told-2 : tie.Need-enum-told-2
 enum-told-2 c = search needs
 
--- src/writer.rt:58:36
 enum-told-3 : tie.Need-enum-told-3
 enum-told-3 c = search needs
 
--- src/writer.rt:59:27
 enum-known-kind : tie.Need-enum-known-kind
 enum-known-kind c = search needs
 
--- src/writer.rt:59:33
 cast-result : tie.Need-cast-result
 cast-result c = search needs
 
--- src/writer.rt:60:41
 enum-told-4 : tie.Need-enum-told-4
 enum-told-4 c = search needs
 
--- src/writer.rt:52:1
 returns : tie.Need-returns
 unfolding degreeOf
 returns c = sym (ap degreeOf (c .enum-told .given .1))
 
--- src/writer.rt:52:1
 returns-2 : tie.Need-returns-2
 unfolding degreeOf
 returns-2 c = sym (ap degreeOf (c .enum-told2 .given .1))
 
--- src/writer.rt:52:1
 returns-3 : tie.Need-returns-3
 unfolding degreeOf
 returns-3 c = sym (ap degreeOf (c .enum-told3 .given .1))
 
--- src/writer.rt:52:1
 returns-4 : tie.Need-returns-4
 unfolding degreeOf
 returns-4 c = sym (ap degreeOf (c .before .kind .given .1))
 
--- src/writer.rt:52:1
 returns-5 : tie.Need-returns-5
 unfolding degreeOf
 returns-5 c = sym (ap degreeOf (c .enum-told4 .given .1))

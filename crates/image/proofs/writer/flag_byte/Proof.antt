@@ -7,35 +7,27 @@ use Rattle.image.proofs.writer.flag_byte.Reads as reads
 use Rattle.image.proofs.writer.flag_byte.Lts as lts
 use Rattle.image.proofs.writer.bit.Reads as bit-reads
 
--- src/writer.rt:86:5
 bit-requires : tie.Need-bit-requires
 bit-requires c κs = search needs
 
--- src/writer.rt:86:31
 bit-requires-2 : tie.Need-bit-requires-2
 bit-requires-2 c κs = search needs
 
--- src/writer.rt:86:27
 mul-result : tie.Need-mul-result
 mul-result c = omega arith
 
--- src/writer.rt:86:5
 add-result : tie.Need-add-result
 add-result c = omega arith
 
--- src/writer.rt:86:55
 bit-requires-3 : tie.Need-bit-requires-3
 bit-requires-3 c κs = search needs
 
--- src/writer.rt:86:51
 mul-result-2 : tie.Need-mul-result-2
 mul-result-2 c = omega arith
 
--- src/writer.rt:86:5
 add-result-2 : tie.Need-add-result-2
 add-result-2 c = omega arith
 
--- src/writer.rt:83:1
 returns : tie.Need-returns
 unfolding flagByte
 returns c = simp (c .bit3 .ensures .0, c .before .bit2 .ensures .0, c .before .before .bit .ensures .0)

@@ -7,47 +7,37 @@ use Rattle.image.proofs.writer.kind_byte.Tie as tie
 use Rattle.image.proofs.writer.kind_byte.Reads as reads
 use Rattle.image.proofs.writer.kind_byte.Lts as lts
 
--- src/writer.rt:43:34
 enum-told : tie.Need-enum-told
 enum-told c = search needs
 
--- src/writer.rt:44:36
 enum-told-2 : tie.Need-enum-told-2
 enum-told-2 c = search needs
 
--- src/writer.rt:45:36
 enum-told-3 : tie.Need-enum-told-3
 enum-told-3 c = search needs
 
--- src/writer.rt:46:33
 enum-told-4 : tie.Need-enum-told-4
 enum-told-4 c = search needs
 
--- src/writer.rt:47:41
 enum-told-5 : tie.Need-enum-told-5
 enum-told-5 c = search needs
 
--- src/writer.rt:39:1
 returns : tie.Need-returns
 unfolding kindByte
 returns c = sym (ap (kindByte) (c .enum-told .given .1))
 
--- src/writer.rt:39:1
 returns-2 : tie.Need-returns-2
 unfolding kindByte
 returns-2 c = sym (ap (kindByte) (c .enum-told2 .given .1))
 
--- src/writer.rt:39:1
 returns-3 : tie.Need-returns-3
 unfolding kindByte
 returns-3 c = sym (ap (kindByte) (c .enum-told3 .given .1))
 
--- src/writer.rt:39:1
 returns-4 : tie.Need-returns-4
 unfolding kindByte
 returns-4 c = sym (ap (kindByte) (c .enum-told4 .given .1))
 
--- src/writer.rt:39:1
 returns-5 : tie.Need-returns-5
 unfolding kindByte
 returns-5 c = sym (ap (kindByte) (c .enum-told5 .given .1))

@@ -9,57 +9,45 @@ use Rattle.image.proofs.writer.number_bits.Tie as tie
 use Rattle.image.proofs.writer.number_bits.Reads as reads
 use Rattle.image.proofs.writer.number_bits.Lts as lts
 
--- src/writer.rt:69:34
 enum-told : tie.Need-enum-told
 enum-told c = search needs
 
--- src/writer.rt:70:36
 enum-told-2 : tie.Need-enum-told-2
 enum-told-2 c = search needs
 
--- src/writer.rt:71:30
 enum-known-kind : tie.Need-enum-known-kind
 enum-known-kind c = search needs
 
--- src/writer.rt:71:36
 float-to-bits-result : tie.Need-float-to-bits-result
 unfolding okNumber
 float-to-bits-result c = number-float okRadius radius-rejects _ (sym (ap okNumber (c .before .kind .given .1)) ∙ c .before .before .before .pre)
 
--- src/writer.rt:72:33
 enum-told-3 : tie.Need-enum-told-3
 enum-told-3 c = search needs
 
--- src/writer.rt:73:35
 enum-known-kind-2 : tie.Need-enum-known-kind-2
 enum-known-kind-2 c = search needs
 
--- src/writer.rt:73:43
 float-to-bits-result-2 : tie.Need-float-to-bits-result-2
 unfolding okNumber
 float-to-bits-result-2 c = number-float okRho rho-rejects _ (sym (ap okNumber (c .before .kind2 .given .1)) ∙ c .before .before .before .pre)
 
--- src/writer.rt:64:1
 returns : tie.Need-returns
 unfolding numberBits
 returns c = sym (ap numberBits (c .enum-told .given .1))
 
--- src/writer.rt:64:1
 returns-2 : tie.Need-returns-2
 unfolding numberBits
 returns-2 c = sym (ap numberBits (c .enum-told2 .given .1))
 
--- src/writer.rt:64:1
 returns-3 : tie.Need-returns-3
 unfolding numberBits
 returns-3 c = sym (ap numberBits (c .before .kind .given .1))
 
--- src/writer.rt:64:1
 returns-4 : tie.Need-returns-4
 unfolding numberBits
 returns-4 c = sym (ap numberBits (c .enum-told3 .given .1))
 
--- src/writer.rt:64:1
 returns-5 : tie.Need-returns-5
 unfolding numberBits
 returns-5 c = sym (ap numberBits (c .before .kind2 .given .1))

@@ -23,79 +23,60 @@ use Rattle.image.proofs.writer.number_bits.Reads as number-bits-reads
 use Rattle.image.proofs.writer.slot_ids.Reads as slot-ids-reads
 use Rattle.image.proofs.writer.write_slots.Reads as write-slots-reads
 
--- src/writer.rt:107:19
 cast-put4 : tie.Need-cast-put4
 cast-put4 c = search needs
 
--- src/writer.rt:107:5
 put4-requires : tie.Need-put4-requires
 put4-requires c κs = search needs
 
--- src/writer.rt:108:15
 add-put1 : tie.Need-add-put1
 add-put1 c = search needs
 
--- src/writer.rt:108:23
 kind-byte-requires : tie.Need-kind-byte-requires
 kind-byte-requires c κs = search needs
 
--- src/writer.rt:108:5
 put1-requires : tie.Need-put1-requires
 put1-requires c κs = search needs
 
--- src/writer.rt:109:15
 add-put1-2 : tie.Need-add-put1-2
 add-put1-2 c = search needs
 
--- src/writer.rt:109:23
 flag-byte-requires : tie.Need-flag-byte-requires
 flag-byte-requires c κs = search needs
 
--- src/writer.rt:109:5
 put1-requires-2 : tie.Need-put1-requires-2
 put1-requires-2 c κs = search needs
 
--- src/writer.rt:110:15
 add-put1-3 : tie.Need-add-put1-3
 add-put1-3 c = search needs
 
--- src/writer.rt:110:23
 degree-of-requires : tie.Need-degree-of-requires
 degree-of-requires c κs = search needs
 
--- src/writer.rt:110:5
 put1-requires-3 : tie.Need-put1-requires-3
 put1-requires-3 c κs = search needs
 
--- src/writer.rt:111:22
 add-write-slots : tie.Need-add-write-slots
 add-write-slots c = search needs
 
--- src/writer.rt:111:30
 slot-ids-requires : tie.Need-slot-ids-requires
 slot-ids-requires c κs = search needs
 
--- src/writer.rt:111:5
 write-slots-requires : tie.Need-write-slots-requires
 write-slots-requires c κs = search needs
 
--- src/writer.rt:112:15
 add-put8 : tie.Need-add-put8
 add-put8 c = search needs
 
--- src/writer.rt:112:24
 number-bits-requires : tie.Need-number-bits-requires
 number-bits-requires c κs = ok-number (c .before .before .before .before .before .before .before .before .before .before .before .before .before .before .before .before .before .before .before .before .before .before .before .before .before .before .before .before .args .c) (c .before .before .before .before .before .before .before .before .before .before .before .before .before .before .before .before .before .before .before .before .before .before .before .before .before .before .before .before .pre .1)
 
--- src/writer.rt:112:5
 put8-requires : tie.Need-put8-requires
 put8-requires c κs = search needs
 
--- src/writer.rt:101:1
 same-length : tie.Need-same-length
 same-length c = search needs
 
--- src/writer.rt:101:1
 returns : tie.Need-returns
 unfolding encodeCurve
 returns c =

@@ -25,49 +25,38 @@ Inv-loop buf₀ from n curves i₀ buf i = (i ≤ n) × (length curves ≡ 128) 
 abbrev μ-loop : tie.MeasureT-loop
 μ-loop buf₀ from n curves i₀ buf i = n - i
 
--- src/writer.rt:203:5
 loop-holds : tie.Need-loop-holds Inv-loop μ-loop
 loop-holds c = (omega arith, c .before .good .1 .1 .0 .1 .0 .1, writing-starts encodeCurve curveSize (λ (l : List Curve). l) (λ x. x) (λ l x. refl) refl _ _ _)
 
--- src/writer.rt:204:17
 mul-c : tie.Need-mul-c Inv-loop μ-loop
 mul-c c = search needs
 
--- src/writer.rt:204:17
 array-copy-out-c : tie.Need-array-copy-out-c Inv-loop μ-loop
 array-copy-out-c c = search needs
 
--- src/writer.rt:205:33
 mul-write-curve : tie.Need-mul-write-curve Inv-loop μ-loop
 mul-write-curve c = search needs
 
--- src/writer.rt:205:26
 add-write-curve : tie.Need-add-write-curve Inv-loop μ-loop
 add-write-curve c = search needs
 
--- src/writer.rt:205:9
 write-curve-requires : tie.Need-write-curve-requires Inv-loop μ-loop
 write-curve-requires c κs = (omega arith, every-at okCurve (c .before .before .before .before .before .args .t3) (c .before .before .before .before .before .args .n) (c .before .before .before .loop .i) _ (c .before .before .before .before .before .pre .2) (omega arith) (omega arith))
 
--- src/writer.rt:206:9
 add-i : tie.Need-add-i Inv-loop μ-loop
 add-i c = search needs
 
--- src/writer.rt:203:5
 loop-less : tie.Need-loop-less Inv-loop μ-loop
 loop-less c = search needs
 
--- src/writer.rt:203:5
 loop-again : tie.Need-loop-again Inv-loop μ-loop
 loop-again c =
     let l = c .before .before .before .before .before .before .loop in
     (omega arith, l .inv .1, writing-turns encodeCurve curveSize (λ (l : List Curve). l) (λ x. x) (λ l x. refl) _ _ _ (l .i) _ _ _ (omega arith) (omega arith) (c .before .before .write-curve .ensures .1) (c .before .before .write-curve .ensures .0) (l .inv .2))
 
--- src/writer.rt:198:1
 same-length : tie.Need-same-length Inv-loop μ-loop
 same-length c = c .before .loop .inv .2 .same-long
 
--- src/writer.rt:198:1
 returns : tie.Need-returns Inv-loop μ-loop
 returns c =
     let a = c .before .before .before .args in

@@ -12,67 +12,51 @@ use Rattle.big_endian.proofs.put1.Reads as put1-reads
 use Rattle.big_endian.proofs.put2.Reads as put2-reads
 use Rattle.big_endian.proofs.put4.Reads as put4-reads
 
--- src/writer.rt:227:24
 mul-put4 : tie.Need-mul-put4
 mul-put4 c = search needs
 
--- src/writer.rt:227:19
 add-put4 : tie.Need-add-put4
 add-put4 c = search needs
 
--- src/writer.rt:227:34
 mul-put4-2 : tie.Need-mul-put4-2
 mul-put4-2 c = search needs
 
--- src/writer.rt:227:19
 add-put4-2 : tie.Need-add-put4-2
 add-put4-2 c = search needs
 
--- src/writer.rt:227:44
 mul-put4-3 : tie.Need-mul-put4-3
 mul-put4-3 c = search needs
 
--- src/writer.rt:227:19
 add-put4-3 : tie.Need-add-put4-3
 add-put4-3 c = search needs
 
--- src/writer.rt:227:19
 sub-put4 : tie.Need-sub-put4
 sub-put4 c = search needs
 
--- src/writer.rt:227:5
 put4-requires : tie.Need-put4-requires
 put4-requires c κs = search needs
 
--- src/writer.rt:228:18
 cast-put1 : tie.Need-cast-put1
 cast-put1 c = search needs
 
--- src/writer.rt:228:5
 put1-requires : tie.Need-put1-requires
 put1-requires c κs = search needs
 
--- src/writer.rt:229:5
 put4-requires-2 : tie.Need-put4-requires-2
 put4-requires-2 c κs = search needs
 
--- src/writer.rt:230:5
 put2-requires : tie.Need-put2-requires
 put2-requires c κs = search needs
 
--- src/writer.rt:231:5
 put2-requires-2 : tie.Need-put2-requires-2
 put2-requires-2 c κs = search needs
 
--- src/writer.rt:232:5
 put2-requires-3 : tie.Need-put2-requires-3
 put2-requires-3 c κs = search needs
 
--- src/writer.rt:223:1
 same-length : tie.Need-same-length
 same-length c = search needs
 
--- src/writer.rt:223:1
 returns : tie.Need-returns
 unfolding header
 returns c =

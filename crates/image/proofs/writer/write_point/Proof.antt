@@ -16,55 +16,42 @@ use Rattle.big_endian.proofs.put4.Reads as put4-reads
 use Rattle.big_endian.proofs.put8.Reads as put8-reads
 use Rattle.image.proofs.writer.bit.Reads as bit-reads
 
--- src/writer.rt:33:19
 cast-put4 : tie.Need-cast-put4
 cast-put4 c = search needs
 
--- src/writer.rt:33:5
 put4-requires : tie.Need-put4-requires
 put4-requires c κs = search needs
 
--- src/writer.rt:34:15
 add-put8 : tie.Need-add-put8
 add-put8 c = search needs
 
--- src/writer.rt:34:23
 float-to-bits-put8 : tie.Need-float-to-bits-put8
 float-to-bits-put8 c = number-float okCoordinate coordinate-rejects (c .before .before .before .before .before .before .before .before .args .p .x) (both (okCoordinate (c .before .before .before .before .before .before .before .before .args .p .x)) _ (c .before .before .before .before .before .before .before .before .pre .1) .0)
 
--- src/writer.rt:34:5
 put8-requires : tie.Need-put8-requires
 put8-requires c κs = search needs
 
--- src/writer.rt:35:15
 add-put8-2 : tie.Need-add-put8-2
 add-put8-2 c = search needs
 
--- src/writer.rt:35:24
 float-to-bits-put8-2 : tie.Need-float-to-bits-put8-2
 float-to-bits-put8-2 c = number-float okCoordinate coordinate-rejects (c .before .before .before .before .before .before .before .before .before .before .before .before .before .args .p .y) (both (okCoordinate (c .before .before .before .before .before .before .before .before .before .before .before .before .before .args .p .x)) _ (c .before .before .before .before .before .before .before .before .before .before .before .before .before .pre .1) .1)
 
--- src/writer.rt:35:5
 put8-requires-2 : tie.Need-put8-requires-2
 put8-requires-2 c κs = search needs
 
--- src/writer.rt:36:15
 add-put1 : tie.Need-add-put1
 add-put1 c = search needs
 
--- src/writer.rt:36:24
 bit-requires : tie.Need-bit-requires
 bit-requires c κs = search needs
 
--- src/writer.rt:36:5
 put1-requires : tie.Need-put1-requires
 put1-requires c κs = search needs
 
--- src/writer.rt:29:1
 same-length : tie.Need-same-length
 same-length c = search needs
 
--- src/writer.rt:29:1
 returns : tie.Need-returns
 unfolding encodePoint
 returns c =

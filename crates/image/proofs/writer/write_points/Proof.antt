@@ -26,49 +26,38 @@ Inv-loop buf₀ from n points i₀ buf i = (i ≤ n) × (length points ≡ 512) 
 abbrev μ-loop : tie.MeasureT-loop
 μ-loop buf₀ from n points i₀ buf i = n - i
 
--- src/writer.rt:190:5
 loop-holds : tie.Need-loop-holds Inv-loop μ-loop
 loop-holds c = (omega arith, c .before .good .1 .1 .0 .1 .0 .1, writing-starts encodePoint pointSize (λ (l : List Point). l) (λ x. x) (λ l x. refl) refl _ _ _)
 
--- src/writer.rt:191:17
 mul-p : tie.Need-mul-p Inv-loop μ-loop
 mul-p c = search needs
 
--- src/writer.rt:191:17
 array-copy-out-p : tie.Need-array-copy-out-p Inv-loop μ-loop
 array-copy-out-p c = search needs
 
--- src/writer.rt:192:33
 mul-write-point : tie.Need-mul-write-point Inv-loop μ-loop
 mul-write-point c = search needs
 
--- src/writer.rt:192:26
 add-write-point : tie.Need-add-write-point Inv-loop μ-loop
 add-write-point c = search needs
 
--- src/writer.rt:192:9
 write-point-requires : tie.Need-write-point-requires Inv-loop μ-loop
 write-point-requires c κs = (omega arith, every-at okPoint (c .before .before .before .before .before .args .t3) (c .before .before .before .before .before .args .n) (c .before .before .before .loop .i) _ (c .before .before .before .before .before .pre .2) (omega arith) (omega arith))
 
--- src/writer.rt:193:9
 add-i : tie.Need-add-i Inv-loop μ-loop
 add-i c = search needs
 
--- src/writer.rt:190:5
 loop-less : tie.Need-loop-less Inv-loop μ-loop
 loop-less c = search needs
 
--- src/writer.rt:190:5
 loop-again : tie.Need-loop-again Inv-loop μ-loop
 loop-again c =
     let l = c .before .before .before .before .before .before .loop in
     (omega arith, l .inv .1, writing-turns encodePoint pointSize (λ (l : List Point). l) (λ x. x) (λ l x. refl) _ _ _ (l .i) _ _ _ (omega arith) (omega arith) (length-point _) (c .before .before .write-point .ensures) (l .inv .2))
 
--- src/writer.rt:185:1
 same-length : tie.Need-same-length Inv-loop μ-loop
 same-length c = c .before .loop .inv .2 .same-long
 
--- src/writer.rt:185:1
 returns : tie.Need-returns Inv-loop μ-loop
 returns c =
     let a = c .before .before .before .args in

@@ -16,63 +16,48 @@ use Rattle.image.proofs.writer.relation_byte.Reads as relation-byte-rea
 use Rattle.image.proofs.writer.second_id.Reads as second-id-reads
 use Rattle.image.proofs.writer.value_bits.Reads as value-bits-reads
 
--- src/writer.rt:179:19
 relation-byte-requires : tie.Need-relation-byte-requires
 relation-byte-requires c κs = search needs
 
--- src/writer.rt:179:5
 put1-requires : tie.Need-put1-requires
 put1-requires c κs = search needs
 
--- src/writer.rt:180:15
 add-put4 : tie.Need-add-put4
 add-put4 c = search needs
 
--- src/writer.rt:180:23
 first-id-requires : tie.Need-first-id-requires
 first-id-requires c κs = search needs
 
--- src/writer.rt:180:23
 cast-put4 : tie.Need-cast-put4
 cast-put4 c = search needs
 
--- src/writer.rt:180:5
 put4-requires : tie.Need-put4-requires
 put4-requires c κs = search needs
 
--- src/writer.rt:181:15
 add-put4-2 : tie.Need-add-put4-2
 add-put4-2 c = search needs
 
--- src/writer.rt:181:23
 second-id-requires : tie.Need-second-id-requires
 second-id-requires c κs = search needs
 
--- src/writer.rt:181:23
 cast-put4-2 : tie.Need-cast-put4-2
 cast-put4-2 c = search needs
 
--- src/writer.rt:181:5
 put4-requires-2 : tie.Need-put4-requires-2
 put4-requires-2 c κs = search needs
 
--- src/writer.rt:182:15
 add-put8 : tie.Need-add-put8
 add-put8 c = search needs
 
--- src/writer.rt:182:23
 value-bits-requires : tie.Need-value-bits-requires
 value-bits-requires c κs = search needs
 
--- src/writer.rt:182:5
 put8-requires : tie.Need-put8-requires
 put8-requires c κs = search needs
 
--- src/writer.rt:175:1
 same-length : tie.Need-same-length
 same-length c = search needs
 
--- src/writer.rt:175:1
 returns : tie.Need-returns
 unfolding encodeRelation
 returns c =

@@ -26,49 +26,38 @@ Inv-loop buf₀ from n relations i₀ buf i = (i ≤ n) × (length relations ≡
 abbrev μ-loop : tie.MeasureT-loop
 μ-loop buf₀ from n relations i₀ buf i = n - i
 
--- src/writer.rt:214:5
 loop-holds : tie.Need-loop-holds Inv-loop μ-loop
 loop-holds c = (omega arith, c .before .good .1 .1 .0 .1 .0 .1, writing-starts encodeRelation relationSize (λ (l : List RelationSlot). map (λ t. t .relation) l) (λ t. t .relation) (λ l x. map-append (λ t. t .relation) l (x ∷ [])) refl _ _ _)
 
--- src/writer.rt:215:20
 mul-slot : tie.Need-mul-slot Inv-loop μ-loop
 mul-slot c = search needs
 
--- src/writer.rt:215:20
 array-copy-out-slot : tie.Need-array-copy-out-slot Inv-loop μ-loop
 array-copy-out-slot c = search needs
 
--- src/writer.rt:217:36
 mul-write-relation : tie.Need-mul-write-relation Inv-loop μ-loop
 mul-write-relation c = search needs
 
--- src/writer.rt:217:29
 add-write-relation : tie.Need-add-write-relation Inv-loop μ-loop
 add-write-relation c = search needs
 
--- src/writer.rt:217:9
 write-relation-requires : tie.Need-write-relation-requires Inv-loop μ-loop
 write-relation-requires c κs = (omega arith, every-at (λ t. okRelation (t .relation)) (c .before .before .before .before .before .args .t3) (c .before .before .before .before .before .args .n) (c .before .before .before .loop .i) _ (sym (every-map okRelation (λ t. t .relation) (take (c .before .before .before .before .before .args .n) (c .before .before .before .before .before .args .t3))) ∙ c .before .before .before .before .before .pre .2) (omega arith) (omega arith))
 
--- src/writer.rt:218:9
 add-i : tie.Need-add-i Inv-loop μ-loop
 add-i c = search needs
 
--- src/writer.rt:214:5
 loop-less : tie.Need-loop-less Inv-loop μ-loop
 loop-less c = search needs
 
--- src/writer.rt:214:5
 loop-again : tie.Need-loop-again Inv-loop μ-loop
 loop-again c =
     let l = c .before .before .before .before .before .before .loop in
     (omega arith, l .inv .1, writing-turns encodeRelation relationSize (λ (l : List RelationSlot). map (λ t. t .relation) l) (λ t. t .relation) (λ l x. map-append (λ t. t .relation) l (x ∷ [])) _ _ _ (l .i) _ _ _ (omega arith) (omega arith) (length-relation _) (c .before .before .write-relation .ensures) (l .inv .2))
 
--- src/writer.rt:209:1
 same-length : tie.Need-same-length Inv-loop μ-loop
 same-length c = c .before .loop .inv .2 .same-long
 
--- src/writer.rt:209:1
 returns : tie.Need-returns Inv-loop μ-loop
 returns c =
     let a = c .before .before .before .args in

@@ -23,43 +23,33 @@ Inv-loop buf₀ at s i₀ buf i = (i ≤ 8) × (length s ≡ 8) × Writing (byte
 abbrev μ-loop : tie.MeasureT-loop
 μ-loop buf₀ at s i₀ buf i = 8 - i
 
--- src/writer.rt:94:5
 loop-holds : tie.Need-loop-holds Inv-loop μ-loop
 loop-holds c = (omega arith, c .before .good .1 .1 .0 .1 .0 .1, writing-starts (bytes 4) 4 (λ (l : List ℕ). l) (λ x. x) (λ l x. refl) refl _ _ _)
 
--- src/writer.rt:95:24
 mul-put4 : tie.Need-mul-put4 Inv-loop μ-loop
 mul-put4 c = search needs
 
--- src/writer.rt:95:19
 add-put4 : tie.Need-add-put4 Inv-loop μ-loop
 add-put4 c = search needs
 
--- src/writer.rt:95:31
 mul-put4-2 : tie.Need-mul-put4-2 Inv-loop μ-loop
 mul-put4-2 c = search needs
 
--- src/writer.rt:95:31
 array-read-put4 : tie.Need-array-read-put4 Inv-loop μ-loop
 array-read-put4 c = search needs
 
--- src/writer.rt:95:31
 cast-put4 : tie.Need-cast-put4 Inv-loop μ-loop
 cast-put4 c = search needs
 
--- src/writer.rt:95:9
 put4-requires : tie.Need-put4-requires Inv-loop μ-loop
 put4-requires c κs = search needs
 
--- src/writer.rt:96:9
 add-i : tie.Need-add-i Inv-loop μ-loop
 add-i c = search needs
 
--- src/writer.rt:94:5
 loop-less : tie.Need-loop-less Inv-loop μ-loop
 loop-less c = search needs
 
--- src/writer.rt:94:5
 loop-again : tie.Need-loop-again Inv-loop μ-loop
 loop-again c =
     let l = c .before .before .before .before .before .loop in
@@ -67,11 +57,9 @@ loop-again c =
     let q = length-bytes 4 (getD (c .before .before .before .before .before .before .before .args .t3) (l .i) 0) in
     (omega arith, l .inv .1, writing-turns (bytes 4) 4 (λ (l : List ℕ). l) (λ x. x) (λ l x. refl) _ _ _ (l .i) 0 _ _ (omega arith) (omega arith) q (c .before .before .put4 .ensures ∙ placed-fits _ _ _ (omega (arith, w .same-long))) w)
 
--- src/writer.rt:89:1
 same-length : tie.Need-same-length Inv-loop μ-loop
 same-length c = c .before .loop .inv .2 .same-long
 
--- src/writer.rt:89:1
 returns : tie.Need-returns Inv-loop μ-loop
 returns c =
     let l = c .before .loop in

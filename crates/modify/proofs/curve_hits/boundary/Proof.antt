@@ -8,27 +8,21 @@ use Rattle.modify.proofs.curve_hits.boundary.Reads as reads
 use Rattle.modify.proofs.curve_hits.boundary.Lts as lts
 use Rattle.support.proofs.endless.Reads as endless-reads
 
--- src/curve_hits.rt:25:21
 enum-known-sh : tie.Need-enum-known-sh
 enum-known-sh c = search needs
 
--- src/curve_hits.rt:27:17
 endless-requires : tie.Need-endless-requires
 endless-requires c κs = search needs
 
--- src/curve_hits.rt:27:17
 returns : tie.Need-returns
 returns c = bound-endless _ _ (c .before .before .before .sh .given .1) (c .before .if1 .taken) (c .endless .ensures)
 
--- src/curve_hits.rt:31:14
 enum-told : tie.Need-enum-told
 enum-told c = search needs
 
--- src/curve_hits.rt:21:1
 returns-2 : tie.Need-returns-2
 returns-2 c = bound-line _ _ (c .before .before .sh .given .1) (c .if1 .left)
 
--- src/curve_hits.rt:21:1
 returns-3 : tie.Need-returns-3
 returns-3 c = bound-round _ _ (c .enum-told .given .1)
 

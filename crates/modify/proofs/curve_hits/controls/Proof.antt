@@ -10,7 +10,7 @@ use Rattle.modify.proofs.curve_hits.controls.Statement.{statement}
 use Rattle.modify.proofs.curve_hits.controls.Tie as tie
 use Rattle.modify.proofs.curve_hits.controls.Reads as reads
 use Rattle.modify.proofs.curve_hits.controls.Lts as lts
-use Rattle.sketch_geometry.proofs.point_at.Reads as point-at-reads
+use Rattle.sketch_geometry.proofs.position_of.Reads as position-of-reads
 
 abbrev Inv-loop : tie.InvT-loop
 Inv-loop n ids near xs ys slots px₀ py₀ i₀ px py i = Laying slots n px py i × ((ps : List Point) → PointColumns ps ids xs ys → Front ps slots px py i)
@@ -18,55 +18,42 @@ Inv-loop n ids near xs ys slots px₀ py₀ i₀ px py i = Laying slots n px py 
 abbrev μ-loop : tie.MeasureT-loop
 μ-loop n ids near xs ys slots px₀ py₀ i₀ px py i = 8 - i
 
--- src/curve_hits.rt:49:5
 loop-holds : tie.Need-loop-holds Inv-loop μ-loop
 loop-holds c = (record { few = omega arith; within = omega arith; slots-long = search needs; xs-long = search needs; ys-long = search needs }, λ ps w. front-none ps _ _ _)
 
--- src/curve_hits.rt:51:13
 returns : tie.Need-returns Inv-loop μ-loop
 returns c = λ ps w. controls-few (c .before .before .loop .inv .0) (c .before .before .loop .inv .1 ps w) (c .if1 .taken)
 
--- src/curve_hits.rt:53:26
-mul-point-at : tie.Need-mul-point-at Inv-loop μ-loop
-mul-point-at c = search needs
+mul-position-of : tie.Need-mul-position-of Inv-loop μ-loop
+mul-position-of c = search needs
 
--- src/curve_hits.rt:53:26
-array-read-point-at : tie.Need-array-read-point-at Inv-loop μ-loop
-array-read-point-at c = search needs
+array-read-position-of : tie.Need-array-read-position-of Inv-loop μ-loop
+array-read-position-of c = search needs
 
--- src/curve_hits.rt:53:13
-point-at-requires : tie.Need-point-at-requires Inv-loop μ-loop
-point-at-requires c κs = search needs
+position-of-requires : tie.Need-position-of-requires Inv-loop μ-loop
+position-of-requires c κs = search needs
 
--- src/curve_hits.rt:54:9
 mul-px : tie.Need-mul-px Inv-loop μ-loop
 mul-px c = search needs
 
--- src/curve_hits.rt:54:9
 array-write-px : tie.Need-array-write-px Inv-loop μ-loop
 array-write-px c = search needs
 
--- src/curve_hits.rt:55:9
 mul-py : tie.Need-mul-py Inv-loop μ-loop
 mul-py c = search needs
 
--- src/curve_hits.rt:55:9
 array-write-py : tie.Need-array-write-py Inv-loop μ-loop
 array-write-py c = search needs
 
--- src/curve_hits.rt:56:9
 add-i : tie.Need-add-i Inv-loop μ-loop
 add-i c = search needs
 
--- src/curve_hits.rt:49:5
 loop-less : tie.Need-loop-less Inv-loop μ-loop
 loop-less c = search needs
 
--- src/curve_hits.rt:49:5
 loop-again : tie.Need-loop-again Inv-loop μ-loop
-loop-again c = (laying-on (c .before .before .before .loop .inv .0) (c .before .before .loop-test .taken) (omega arith) _ _, λ ps w. front-on (c .before .before .before .loop .inv .0) (c .before .before .before .loop .inv .1 ps w) (c .before .before .loop-test .taken) _ (c .point-at .ensures ps w))
+loop-again c = (laying-on (c .before .before .before .loop .inv .0) (c .before .before .loop-test .taken) (omega arith) _ _, λ ps w. front-on (c .before .before .before .loop .inv .0) (c .before .before .before .loop .inv .1 ps w) (c .before .before .loop-test .taken) _ (c .position-of .ensures ps w))
 
--- src/curve_hits.rt:36:1
 returns-2 : tie.Need-returns-2 Inv-loop μ-loop
 returns-2 c = λ ps w. controls-all (c .before .loop .inv .0) (c .before .loop .inv .1 ps w) (c .loop-test .left)
 
@@ -78,9 +65,9 @@ controls-spec =
     μ-loop
     loop-holds
     returns
-    mul-point-at
-    array-read-point-at
-    point-at-requires
+    mul-position-of
+    array-read-position-of
+    position-of-requires
     mul-px
     array-write-px
     mul-py

@@ -1,5 +1,5 @@
 use mathlib.Core.Path.{_≡_, refl, sym, ap, _∙_}
-use Rattle.modify.proofs.CutterLists.{told-none, told-some}
+use Rattle.modify.proofs.CutterLists.{answered-none, answered-some}
 use Rattle.modify.specs.ExtendContracts.{support}
 use Rattle.modify.proofs.CurveHits.{with-room, met-fits, met-as, outlined-is, meets-shape, meets-bezier, meets-conic}
 use native.Mathlib.Omega.{arith}
@@ -30,14 +30,14 @@ hits-requires c κs = search needs
 enum-known-kind-2 : tie.Need-enum-known-kind-2
 enum-known-kind-2 c = search needs
 
-point-at-requires : tie.Need-point-at-requires
-point-at-requires c κs = search needs
+position-of-requires : tie.Need-position-of-requires
+position-of-requires c κs = search needs
 
-point-at-requires-2 : tie.Need-point-at-requires-2
-point-at-requires-2 c κs = search needs
+position-of-requires-2 : tie.Need-position-of-requires-2
+position-of-requires-2 c κs = search needs
 
-point-at-requires-3 : tie.Need-point-at-requires-3
-point-at-requires-3 c κs = search needs
+position-of-requires-3 : tie.Need-position-of-requires-3
+position-of-requires-3 c κs = search needs
 
 hits-requires-2 : tie.Need-hits-requires-2
 hits-requires-2 c κs = search needs
@@ -52,7 +52,7 @@ enum-told : tie.Need-enum-told
 enum-told c = search needs
 
 returns : tie.Need-returns
-returns c = ((λ ps w atB. absurd (outlined-is ps _ (c .before .before .before .match .keys3) (told-none (c .enum-told .given .1) (c .before .before .shape-of .ensures ps w)))), (omega arith, omega arith))
+returns c = ((λ ps w atB. absurd (outlined-is ps _ (c .before .before .before .match .keys3) (answered-none (c .enum-told .given .1) (c .before .before .shape-of .ensures ps w)))), (omega arith, omega arith))
 
 boundary-requires : tie.Need-boundary-requires
 boundary-requires c κs = search needs
@@ -76,7 +76,7 @@ same-length-4 : tie.Need-same-length-4
 same-length-4 c = search needs
 
 returns-3 : tie.Need-returns-3
-returns-3 c = ((λ ps w atB. met-as (with-room _ _ _ _ (c .before .before .before .before .before .before .before .before .before .before .before .before .before .before .before .before .before .before .before .pre .0) (c .before .before .before .before .before .before .before .before .before .before .before .before .before .before .before .before .before .before .before .pre .1) ∙ meets-conic ps (support _ _ atB) _ _ _ (c .before .before .before .before .before .before .before .before .before .before .before .kind2 .given .1) (c .before .before .before .before .before .before .before .before .before .point-at .ensures ps w) (c .before .before .before .before .before .before .before .before .point-at2 .ensures ps w) (c .before .before .before .before .before .before .before .point-at3 .ensures ps w)) (c .before .before .before .before .hits2 .ensures)), met-fits (c .before .before .before .before .hits2 .ensures))
+returns-3 c = ((λ ps w atB. met-as (with-room _ _ _ _ (c .before .before .before .before .before .before .before .before .before .before .before .before .before .before .before .before .before .before .before .pre .0) (c .before .before .before .before .before .before .before .before .before .before .before .before .before .before .before .before .before .before .before .pre .1) ∙ meets-conic ps (support _ _ atB) _ _ _ (c .before .before .before .before .before .before .before .before .before .before .before .kind2 .given .1) (c .before .before .before .before .before .before .before .before .before .position-of .ensures ps w) (c .before .before .before .before .before .before .before .before .position-of2 .ensures ps w) (c .before .before .before .before .before .before .before .position-of3 .ensures ps w)) (c .before .before .before .before .hits2 .ensures)), met-fits (c .before .before .before .before .hits2 .ensures))
 
 same-length-5 : tie.Need-same-length-5
 same-length-5 c = search needs
@@ -85,7 +85,7 @@ same-length-6 : tie.Need-same-length-6
 same-length-6 c = search needs
 
 returns-4 : tie.Need-returns-4
-returns-4 c = ((λ ps w atB. met-as (with-room _ _ _ _ (c .before .before .before .before .before .before .before .before .before .before .before .before .before .before .before .before .before .before .before .pre .0) (c .before .before .before .before .before .before .before .before .before .before .before .before .before .before .before .before .before .before .before .pre .1) ∙ meets-shape ps (support _ _ atB) _ _ _ _ _ _ (told-some (c .before .before .before .before .before .before .before .before .before .sh .given .1) (c .before .before .before .before .before .before .before .before .before .before .before .shape-of .ensures ps w)) (c .before .before .before .before .before .before .before .boundary .ensures)) (c .before .before .before .before .hits3 .ensures)), met-fits (c .before .before .before .before .hits3 .ensures))
+returns-4 c = ((λ ps w atB. met-as (with-room _ _ _ _ (c .before .before .before .before .before .before .before .before .before .before .before .before .before .before .before .before .before .before .before .pre .0) (c .before .before .before .before .before .before .before .before .before .before .before .before .before .before .before .before .before .before .before .pre .1) ∙ meets-shape ps (support _ _ atB) _ _ _ _ _ _ (answered-some (c .before .before .before .before .before .before .before .before .before .sh .given .1) (c .before .before .before .before .before .before .before .before .before .before .before .shape-of .ensures ps w)) (c .before .before .before .before .before .before .before .boundary .ensures)) (c .before .before .before .before .hits3 .ensures)), met-fits (c .before .before .before .before .hits3 .ensures))
 
 pub curve-hits-spec : {M : Type 1} → statement M
 curve-hits-spec =
@@ -98,9 +98,9 @@ curve-hits-spec =
     add-t32
     hits-requires
     enum-known-kind-2
-    point-at-requires
-    point-at-requires-2
-    point-at-requires-3
+    position-of-requires
+    position-of-requires-2
+    position-of-requires-3
     hits-requires-2
     shape-of-requires
     enum-known-sh

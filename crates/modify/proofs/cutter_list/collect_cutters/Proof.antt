@@ -1,5 +1,5 @@
 use lib.ListN.{length-set}
-use Rattle.modify.proofs.CutterLists.{told-none, told-some, gather-end}
+use Rattle.modify.proofs.CutterLists.{answered-none, answered-some, gather-end}
 use Rattle.modify.proofs.CutterLists.{Gathering, gather-start, gather-freeform, gather-target, gather-other}
 use mathlib.Core.Path.{_≡_, refl, sym, ap, _∙_}
 use Prim.Native.Nat.{_-_, _≤_}
@@ -22,75 +22,57 @@ Inv-loop n id ids near xs ys curves list₀ count₀ freeform₀ i₀ list count
 abbrev μ-loop : tie.MeasureT-loop
 μ-loop n id ids near xs ys curves list₀ count₀ freeform₀ i₀ list count freeform i = n - i
 
--- src/cutter_list.rt:54:20
 no-cutters-requires : tie.Need-no-cutters-requires Inv-loop μ-loop
 no-cutters-requires c κs = search needs
 
--- src/cutter_list.rt:58:5
 loop-holds : tie.Need-loop-holds Inv-loop μ-loop
 loop-holds c = ((λ ps w. gather-start ps _ _ _), omega arith, omega arith, c .no-cutters .ensures)
 
--- src/cutter_list.rt:59:17
 mul-c : tie.Need-mul-c Inv-loop μ-loop
 mul-c c = search needs
 
--- src/cutter_list.rt:59:17
 array-copy-out-c : tie.Need-array-copy-out-c Inv-loop μ-loop
 array-copy-out-c c = search needs
 
--- src/cutter_list.rt:61:9
 add-i : tie.Need-add-i Inv-loop μ-loop
 add-i c = search needs
 
--- src/cutter_list.rt:62:15
 shape-of-requires : tie.Need-shape-of-requires Inv-loop μ-loop
 shape-of-requires c κs = search needs
 
--- src/cutter_list.rt:64:17
 enum-told : tie.Need-enum-told Inv-loop μ-loop
 enum-told c = search needs
 
--- src/cutter_list.rt:58:5
 loop-less : tie.Need-loop-less Inv-loop μ-loop
 loop-less c = search needs
 
--- src/cutter_list.rt:58:5
 loop-again : tie.Need-loop-again Inv-loop μ-loop
-loop-again c = ((λ ps w. gather-freeform (c .before .before .before .before .before .loop .inv .0 ps w) (search needs) (told-none (c .enum-told .given .1) (c .before .before .shape-of .ensures ps w))), omega arith, omega arith, c .before .before .before .before .before .loop .inv .3)
+loop-again c = ((λ ps w. gather-freeform (c .before .before .before .before .before .loop .inv .0 ps w) (search needs) (answered-none (c .enum-told .given .1) (c .before .before .shape-of .ensures ps w))), omega arith, omega arith, c .before .before .before .before .before .loop .inv .3)
 
--- src/cutter_list.rt:66:25
 enum-known-sh : tie.Need-enum-known-sh Inv-loop μ-loop
 enum-known-sh c = search needs
 
--- src/cutter_list.rt:67:17
 mul-list : tie.Need-mul-list Inv-loop μ-loop
 mul-list c = search needs
 
--- src/cutter_list.rt:67:17
 array-set-from-list : tie.Need-array-set-from-list Inv-loop μ-loop
 array-set-from-list c = search needs
 
--- src/cutter_list.rt:72:17
 add-count : tie.Need-add-count Inv-loop μ-loop
 add-count c = search needs
 
--- src/cutter_list.rt:58:5
 loop-less-2 : tie.Need-loop-less-2 Inv-loop μ-loop
 loop-less-2 c = search needs
 
--- src/cutter_list.rt:58:5
 loop-again-2 : tie.Need-loop-again-2 Inv-loop μ-loop
-loop-again-2 c = ((λ ps w. gather-other (c .before .before .before .before .before .before .before .before .loop .inv .0 ps w) (search needs) _ (told-some (c .before .before .before .sh .given .1) (c .before .before .before .before .before .shape-of .ensures ps w)) (c .if1 .taken) (omega arith)), omega arith, omega arith, rw length-set (c .before .before .before .before .before .before .before .before .loop .inv .3))
+loop-again-2 c = ((λ ps w. gather-other (c .before .before .before .before .before .before .before .before .loop .inv .0 ps w) (search needs) _ (answered-some (c .before .before .before .sh .given .1) (c .before .before .before .before .before .shape-of .ensures ps w)) (c .if1 .taken) (omega arith)), omega arith, omega arith, rw length-set (c .before .before .before .before .before .before .before .before .loop .inv .3))
 
--- src/cutter_list.rt:58:5
 loop-less-3 : tie.Need-loop-less-3 Inv-loop μ-loop
 loop-less-3 c = search needs
 
--- src/cutter_list.rt:58:5
 loop-again-3 : tie.Need-loop-again-3 Inv-loop μ-loop
-loop-again-3 c = ((λ ps w. gather-target (c .before .before .before .before .before .before .before .before .loop .inv .0 ps w) (search needs) _ (told-some (c .before .before .before .sh .given .1) (c .before .before .before .before .before .shape-of .ensures ps w)) (search needs)), omega arith, omega arith, c .before .before .before .before .before .before .before .before .loop .inv .3)
+loop-again-3 c = ((λ ps w. gather-target (c .before .before .before .before .before .before .before .before .loop .inv .0 ps w) (search needs) _ (answered-some (c .before .before .before .sh .given .1) (c .before .before .before .before .before .shape-of .ensures ps w)) (search needs)), omega arith, omega arith, c .before .before .before .before .before .before .before .before .loop .inv .3)
 
--- src/cutter_list.rt:42:1
 returns : tie.Need-returns Inv-loop μ-loop
 returns c = λ d o. gather-end o (c .before .loop .inv .0 (d .points) (o .points)) (c .before .loop .inv .1) (c .loop-test .left)
 

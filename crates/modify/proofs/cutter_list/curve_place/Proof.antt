@@ -14,35 +14,27 @@ Inv-loop n id curves i₀ i = Seeking curves n id i
 abbrev μ-loop : tie.MeasureT-loop
 μ-loop n id curves i₀ i = n - i
 
--- src/cutter_list.rt:20:5
 loop-holds : tie.Need-loop-holds Inv-loop μ-loop
 loop-holds c = seek-start _ _ _ (search needs)
 
--- src/cutter_list.rt:21:17
 mul-c : tie.Need-mul-c Inv-loop μ-loop
 mul-c c = search needs
 
--- src/cutter_list.rt:21:17
 array-copy-out-c : tie.Need-array-copy-out-c Inv-loop μ-loop
 array-copy-out-c c = search needs
 
--- src/cutter_list.rt:23:13
 returns : tie.Need-returns Inv-loop μ-loop
 returns c = seek-here (c .before .before .before .before .loop .inv) (c .before .before .before .loop-test .taken) (c .if1 .taken)
 
--- src/cutter_list.rt:25:9
 add-i : tie.Need-add-i Inv-loop μ-loop
 add-i c = search needs
 
--- src/cutter_list.rt:20:5
 loop-less : tie.Need-loop-less Inv-loop μ-loop
 loop-less c = search needs
 
--- src/cutter_list.rt:20:5
 loop-again : tie.Need-loop-again Inv-loop μ-loop
 loop-again c = seek-on (c .before .before .before .before .loop .inv) (c .before .before .before .loop-test .taken) (c .if1 .left)
 
--- src/cutter_list.rt:15:1
 returns-2 : tie.Need-returns-2 Inv-loop μ-loop
 returns-2 c = seek-end (c .before .loop .inv) (c .loop-test .left)
 

@@ -10,7 +10,7 @@ use Rattle.sketch_geometry.proofs.Filled.{point-columns}
 use Rattle.modify.specs.Edits.{EditAnswer}
 use Rattle.modify.specs.Contracts.{TargetFound}
 use Rattle.modify.proofs.Refusing.{fault-low}
-use Rattle.modify.proofs.Answers.{turned-fault, answered-refused, extend-is, cut-is, begun-found, begun-answered, edit-turned, edit-suited, edit-applied}
+use Rattle.modify.proofs.Answers.{refused-fault, answered-refused, extend-is, cut-is, begun-found, begun-answered, edit-refused, edit-suited, edit-applied}
 use native.Mathlib.Omega.{arith}
 use borrow.Author.Needs.{needs}
 use Rattle.modify.proofs.edits.edit.Statement.{statement}
@@ -26,7 +26,7 @@ returns : tie.Need-returns
 returns c =
     let a = c .before .before .before .args in
     let n = c .before .before .fault .ensures in
-    answered-refused (a .operation) _ _ _ (λ z. omega (arith, fault-low (a .sk), n)) (c .answer .ensures .0) (c .answer .ensures .1) (c .before .if1 .taken) (turned-fault (a .sk) (a .curve) (a .at) n (c .before .if1 .taken) (a .operation))
+    answered-refused (a .operation) _ _ _ (λ z. omega (arith, fault-low (a .sk), n)) (c .answer .ensures .0) (c .answer .ensures .1) (c .before .if1 .taken) (refused-fault (a .sk) (a .curve) (a .at) n (c .before .if1 .taken) (a .operation))
 
 find-target-requires : tie.Need-find-target-requires
 find-target-requires c κs =
@@ -40,7 +40,7 @@ returns-2 : tie.Need-returns-2
 returns-2 c =
     let a = c .before .before .before .before .before .before .args in
     let w = c .before .before .before .find-target .ensures in
-    answered-refused (a .operation) _ _ _ (λ z. omega (arith, w .1)) (c .answer2 .ensures .0) (c .answer2 .ensures .1) (c .before .if2 .taken) (w .0 .turned (c .before .if2 .taken) (a .operation))
+    answered-refused (a .operation) _ _ _ (λ z. omega (arith, w .1)) (c .answer2 .ensures .0) (c .answer2 .ensures .1) (c .before .if2 .taken) (w .0 .when-refused (c .before .if2 .taken) (a .operation))
 
 slice-aggregate-fill-point-columns : tie.Need-slice-aggregate-fill-point-columns
 slice-aggregate-fill-point-columns c = search needs
@@ -138,15 +138,15 @@ array-share-prefix-ids-2 c =
     let y = l .before .before .before .before .fill-point-columns .ensures (omega arith) (omega arith) (omega arith) (omega arith) in
     omega (arith, y .ids-long)
 
-slice-aggregate-plan-edit : tie.Need-slice-aggregate-plan-edit
-slice-aggregate-plan-edit c =
+slice-aggregate-plan-on-curve : tie.Need-slice-aggregate-plan-on-curve
+slice-aggregate-plan-on-curve c =
     let l = c .before .before .before .before in
     let z = few l in
     let y = l .before .before .before .before .fill-point-columns .ensures (omega arith) (omega arith) (omega arith) (omega arith) in
     rw length-take (omega (arith, y .ids-long))
 
-slice-aggregate-plan-edit-2 : tie.Need-slice-aggregate-plan-edit-2
-slice-aggregate-plan-edit-2 c = search needs
+slice-aggregate-plan-on-curve-2 : tie.Need-slice-aggregate-plan-on-curve-2
+slice-aggregate-plan-on-curve-2 c = search needs
 
 array-share-prefix-xs : tie.Need-array-share-prefix-xs
 array-share-prefix-xs c =
@@ -155,8 +155,8 @@ array-share-prefix-xs c =
     let y = l .before .before .before .before .fill-point-columns .ensures (omega arith) (omega arith) (omega arith) (omega arith) in
     omega (arith, y .xs-long)
 
-slice-aggregate-plan-edit-3 : tie.Need-slice-aggregate-plan-edit-3
-slice-aggregate-plan-edit-3 c =
+slice-aggregate-plan-on-curve-3 : tie.Need-slice-aggregate-plan-on-curve-3
+slice-aggregate-plan-on-curve-3 c =
     let l = c .before .before .before .before .before .before in
     let z = few l in
     let y = l .before .before .before .before .fill-point-columns .ensures (omega arith) (omega arith) (omega arith) (omega arith) in
@@ -169,15 +169,15 @@ array-share-prefix-ys c =
     let y = l .before .before .before .before .fill-point-columns .ensures (omega arith) (omega arith) (omega arith) (omega arith) in
     omega (arith, y .ys-long)
 
-slice-aggregate-plan-edit-4 : tie.Need-slice-aggregate-plan-edit-4
-slice-aggregate-plan-edit-4 c =
+slice-aggregate-plan-on-curve-4 : tie.Need-slice-aggregate-plan-on-curve-4
+slice-aggregate-plan-on-curve-4 c =
     let l = c .before .before .before .before .before .before .before in
     let z = few l in
     let y = l .before .before .before .before .fill-point-columns .ensures (omega arith) (omega arith) (omega arith) (omega arith) in
     rw length-take (omega (arith, y .ys-long))
 
-plan-edit-requires : tie.Need-plan-edit-requires
-plan-edit-requires c κs =
+plan-on-curve-requires : tie.Need-plan-on-curve-requires
+plan-on-curve-requires c κs =
     let l = c .before .before .before .before .before .before .before in
     let b = started l in
     let w = sketch-valid (l .before .before .before .before .before .before .before .before .before .before .before .before .before .before .before .args .sk) (b .valid) in
@@ -206,9 +206,9 @@ returns-4 c =
     let k = c .before .before .before .before .before .before .before .before .before .before .before .before .before .before .before .before .before .before .before .before .before .before .before .before .find-target .result .place in
     let it = c .before .before .before .before .before .before .before .before .before .is-split .result in
     let op = ap (λ x. cond x Split Trim) (c .before .before .before .before .before .before .before .before .before .is-split .ensures) ∙ cut-is (a .operation) (sym (c .before .before .before .before .before .before .before .before .before .before .before .is-extend .ensures) ∙ c .before .before .before .before .before .before .before .before .before .before .if3 .left) in
-    let chosen = c .before .before .before .before .plan-edit .ensures in
+    let chosen = c .before .before .before .before .plan-on-curve .ensures in
     subst (λ op. EditAnswer op (a .sk) (a .curve) (a .at) (c .answer3 .result)) op
-    (begun-answered b (cond it Split Trim) (edit-turned it (a .sk) k (a .at) (b .valid) (b .place) (b .picked) (begun-found b) chosen (c .before .before .number .given .1) (c .answer3 .ensures .0) (c .answer3 .ensures .1)))
+    (begun-answered b (cond it Split Trim) (edit-refused it (a .sk) k (a .at) (b .valid) (b .place) (b .picked) (begun-found b) chosen (c .before .before .number .given .1) (c .answer3 .ensures .0) (c .answer3 .ensures .1)))
 
 returns-5 : tie.Need-returns-5
 returns-5 c =
@@ -217,7 +217,7 @@ returns-5 c =
     let k = c .before .before .before .before .before .before .before .before .before .before .before .before .before .before .before .before .before .before .before .before .before .before .before .before .find-target .result .place in
     let it = c .before .before .before .before .before .before .before .before .before .is-split .result in
     let op = ap (λ x. cond x Split Trim) (c .before .before .before .before .before .before .before .before .before .is-split .ensures) ∙ cut-is (a .operation) (sym (c .before .before .before .before .before .before .before .before .before .before .before .is-extend .ensures) ∙ c .before .before .before .before .before .before .before .before .before .before .if3 .left) in
-    let chosen = c .before .before .before .before .plan-edit .ensures in
+    let chosen = c .before .before .before .before .plan-on-curve .ensures in
     let plan = c .before .before .plan .given .1 in
     let suited = edit-suited it (a .sk) k (a .at) (b .valid) (b .place) (b .picked) (begun-found b) chosen plan in
     subst (λ op. EditAnswer op (a .sk) (a .curve) (a .at) (c .apply-plan .result)) op
@@ -250,13 +250,13 @@ edit-spec =
     returns-3
     is-split-requires
     array-share-prefix-ids-2
-    slice-aggregate-plan-edit
-    slice-aggregate-plan-edit-2
+    slice-aggregate-plan-on-curve
+    slice-aggregate-plan-on-curve-2
     array-share-prefix-xs
-    slice-aggregate-plan-edit-3
+    slice-aggregate-plan-on-curve-3
     array-share-prefix-ys
-    slice-aggregate-plan-edit-4
-    plan-edit-requires
+    slice-aggregate-plan-on-curve-4
+    plan-on-curve-requires
     enum-known-number
     answer-requires-3
     enum-known-plan

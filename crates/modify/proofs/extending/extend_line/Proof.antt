@@ -9,7 +9,7 @@ use Rattle.geom.specs.declared.Vec2.{Vec2}
 use Rattle.sketch.specs.Drawing.{view, limits}
 use Rattle.sketch.specs.Facts.{Sized, Valid}
 use Rattle.sketch.proofs.Sketches.{sketch-valid}
-use Rattle.relations.proofs.Verdicts.{told-met, told-unmet}
+use Rattle.relations.proofs.Verdicts.{answered-met, answered-unmet}
 use Rattle.relations.specs.Met.{firstUnmet, allMet}
 use Rattle.edit_plan.proofs.Loops.{length-mapped}
 use Rattle.edit_plan.specs.declared.Pin.{Pin}
@@ -17,7 +17,7 @@ use Rattle.modify.specs.declared.EndPlan.{EndPlan}
 use Rattle.modify.specs.declared.EndPlan.the-variants.{Move}
 use Rattle.modify.specs.ExtendContracts.{EndInTable}
 use Rattle.modify.proofs.Shifts.{columns-within}
-use Rattle.modify.proofs.Extends.{unmet-turned, choice-turned, move-place, moved-valid, moved-shown, move-answered}
+use Rattle.modify.proofs.Extends.{unmet-refused, plan-refused, move-place, moved-valid, moved-view, move-answered}
 use Rattle.modify.proofs.extending.extend_line.Statement.{statement}
 use Rattle.modify.proofs.extending.extend_line.Tie as tie
 
@@ -28,7 +28,7 @@ valid : (c : tie.Start) → Sized (c .args .sk) × Valid limits (view (c .args .
 valid c = sketch-valid (c .args .sk) (c .pre .0 .valid)
 
 met : (c : tie.Start) {k : ℕ} → k ≡ firstUnmet (view (c .args .sk) .points) (view (c .args .sk) .curves) (view (c .args .sk) .relations) → c .args .sk .nrelations ≤ k → allMet (view (c .args .sk)) ≡ true
-met c u h = told-met (c .args .sk) (c .pre .0 .valid) (long c .1) u h .1
+met c u h = answered-met (c .args .sk) (c .pre .0 .valid) (long c .1) u h .1
 
 -- the end that moves is within the points, and its entries within the columns
 module _ (c : tie.Start) {y : EndPlan} {atb : Bool} {k : ℕ} {v : Vec2} {q : Pin} (g : y ≡ Move atb k v q) (h : EndInTable (c .args .sk) (c .args .place) y) where
@@ -56,7 +56,7 @@ returns c =
     let r = s .pre in
     let k = s .args .sk in
     let u = c .before .before .first-unmet .ensures (view k .points) (view k .curves) (r .2 .points) (r .2 .curves) in
-    unmet-turned k _ _ (r .0) (r .1) (told-unmet k (r .0 .valid) (long s .1) u (c .before .if1 .taken) .1) (c .answer .ensures .0) (c .answer .ensures .1) (c .answer .ensures .2)
+    unmet-refused k _ _ (r .0) (r .1) (answered-unmet k (r .0 .valid) (long s .1) u (c .before .if1 .taken) .1) (c .answer .ensures .0) (c .answer .ensures .1) (c .answer .ensures .2)
 
 plan-extend-requires : tie.Need-plan-extend-requires
 plan-extend-requires c κs =
@@ -109,7 +109,7 @@ check-met-requires c κs =
     let e = c .before .before .before .before .before .before .plan-extend .ensures in
     let g = c .before .before .before .before .k .given .1 in
     let a = c .before .before .move-end .ensures in
-    (a .1, λ z. (moved-valid k _ _ (r .0) m _ (e .0) g (e .1) (a .0) z, moved-shown k _ _ (r .0) m _ (e .0) g (e .1) (a .0) z (valid s .0) (long s .0) (r .2)))
+    (a .1, λ z. (moved-valid k _ _ (r .0) m _ (e .0) g (e .1) (a .0) z, moved-view k _ _ (r .0) m _ (e .0) g (e .1) (a .0) z (valid s .0) (long s .0) (r .2)))
 
 same-length-3 : tie.Need-same-length-3
 same-length-3 c = search needs
@@ -123,7 +123,7 @@ returns-2 c =
     let r = s .pre in
     let k = s .args .sk in
     let m = met s (c .before .before .before .before .before .before .before .before .first-unmet .ensures (view k .points) (view k .curves) (r .2 .points) (r .2 .curves)) (c .before .before .before .before .before .before .before .if1 .left) in
-    choice-turned k _ _ (r .0) m _ (c .before .before .before .before .plan-extend .ensures .0) (c .before .before .number .given .1) (c .answer2 .ensures .0) (c .answer2 .ensures .1)
+    plan-refused k _ _ (r .0) m _ (c .before .before .before .before .plan-extend .ensures .0) (c .before .before .number .given .1) (c .answer2 .ensures .0) (c .answer2 .ensures .1)
 
 same-length-5 : tie.Need-same-length-5
 same-length-5 c = search needs

@@ -25,11 +25,11 @@ enum-known-kind c = search needs
 returns : tie.Need-returns
 returns c = (not-line _ _ _ _ (c .match .keys2), tt)
 
-point-at-requires : tie.Need-point-at-requires
-point-at-requires c κs = search needs
+position-of-requires : tie.Need-position-of-requires
+position-of-requires c κs = search needs
 
-point-at-requires-2 : tie.Need-point-at-requires-2
-point-at-requires-2 c κs = search needs
+position-of-requires-2 : tie.Need-position-of-requires-2
+position-of-requires-2 c κs = search needs
 
 dist-requires : tie.Need-dist-requires
 dist-requires c κs = search needs
@@ -52,7 +52,7 @@ returns-2 c =
     let two = c .before .moving-end .ensures in
     let atb = le (c .before .before .before .dist .result) (c .before .before .dist2 .result) in
     let r = c .plan-end .ensures (k .next) (k .npoints) (k .nrelations) (k .relations) (st .pre .0 .points) (st .pre .4) (line-end k (a .place) e (st .pre .0) (st .pre .1) (st .pre .2) (long st) atb two) in
-    (line-at (view k) (a .at) (targetOf k (a .place)) e (st .pre .3) (c .before .before .before .before .before .point-at .ensures _ (st .pre .4)) (c .before .before .before .before .point-at2 .ensures _ (st .pre .4)) (c .before .before .before .dist .ensures) (c .before .before .dist2 .ensures) two (r .choice), stands-at k (a .place) e atb two (c .plan-end .result) (r .place))
+    (line-at (view k) (a .at) (targetOf k (a .place)) e (st .pre .3) (c .before .before .before .before .before .position-of .ensures _ (st .pre .4)) (c .before .before .before .before .position-of2 .ensures _ (st .pre .4)) (c .before .before .before .dist .ensures) (c .before .before .dist2 .ensures) two (r .choice), stands-at k (a .place) e atb two (c .plan-end .result) (r .place))
 
 pub plan-extend-spec : {M : Type 1} → statement M
 plan-extend-spec =
@@ -62,8 +62,8 @@ plan-extend-spec =
     array-copy-out-c
     enum-known-kind
     returns
-    point-at-requires
-    point-at-requires-2
+    position-of-requires
+    position-of-requires-2
     dist-requires
     dist-requires-2
     moving-end-requires

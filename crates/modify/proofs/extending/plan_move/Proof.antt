@@ -9,19 +9,15 @@ use Rattle.modify.proofs.extending.plan_move.Reads as reads
 use Rattle.modify.proofs.extending.plan_move.Lts as lts
 use Rattle.modify.proofs.pins.pin_at.Reads as pin-at-reads
 
--- src/extending.rt:56:9
 returns : tie.Need-returns
 returns c = ((λ d o. held-none d _ (c .before .before .before .before .before .before .args .best) (not-true _ (c .if1 .taken))), tt)
 
--- src/extending.rt:59:9
 returns-2 : tie.Need-returns-2
 returns-2 c = ((λ d o. held-tied d _ (c .before .before .before .before .before .before .before .args .best) (not-false _ (c .before .if1 .left)) (c .if2 .taken)), tt)
 
--- src/extending.rt:62:29
 pin-at-requires : tie.Need-pin-at-requires
 pin-at-requires c κs = search needs
 
--- src/extending.rt:41:1
 returns-3 : tie.Need-returns-3
 returns-3 c = ((λ d o. held-moves d _ (c .before .before .before .before .before .before .before .before .before .args .best) (not-false _ (c .before .before .before .if1 .left)) (c .before .before .if2 .left) (c .pin-at .ensures d o)), (refl, refl))
 

@@ -8,7 +8,7 @@ use Rattle.sketch.specs.declared.Relation.{Relation}
 use Rattle.sketch.specs.Blanks.{noPoint}
 use Rattle.sketch.specs.Drawing.{view}
 use Rattle.sketch.proofs.Bools.{joined}
-use Rattle.edit_plan.specs.Changes.{pinned}
+use Rattle.edit_plan.specs.Changes.{pinRelation}
 use Rattle.edit_plan.specs.Tables.{movePoint}
 use Rattle.edit_plan.proofs.Loops.{length-mapped}
 use Rattle.modify.specs.ExtendContracts.{AddedTo}
@@ -67,11 +67,11 @@ returns-3 c =
     let a = s .args in
     let p = getD (a .sk .points) (a .k) noPoint in
     let e = sym (c .before .before .before .is-itself .ensures) ∙ c .before .before .if2 .left in
-    let r = full-is (a .sk) (a .k) (a .v) (s .pre .0) (s .pre .1) (s .pre .2) (long s .0) (pinned (a .pin) (p .id)) (long s .1) (c .answer3 .ensures .1) (c .before .if3 .taken) in
+    let r = full-is (a .sk) (a .k) (a .v) (s .pre .0) (s .pre .1) (s .pre .2) (long s .0) (pinRelation (a .pin) (p .id)) (long s .1) (c .answer3 .ensures .1) (c .before .if3 .taken) in
     (moved-held (view (a .sk)) (p .id) (a .v) (sym (joined (c .before .before .before .before .before .before .before .coordinate-ok .ensures) (c .before .before .before .before .before .before .coordinate-ok2 .ensures)) ∙ not-false _ (c .before .before .before .before .before .if1 .left)) (a .pin) e r, λ z. c .answer3 .ensures .0)
 
-pin-of-requires : tie.Need-pin-of-requires
-pin-of-requires c κs = search needs
+pin-relation-requires : tie.Need-pin-relation-requires
+pin-relation-requires c κs = search needs
 
 mul-t12-2 : tie.Need-mul-t12-2
 mul-t12-2 c = search needs
@@ -91,7 +91,7 @@ returns-4 c =
     let a = s .args in
     let p = getD (a .sk .points) (a .k) noPoint in
     let e = sym (c .before .before .before .before .is-itself .ensures) ∙ c .before .before .before .if2 .left in
-    let h = c .before .pin-of in
+    let h = c .before .pin-relation in
     let r = added-is (a .sk) (a .k) (a .v) (s .pre .0) (s .pre .1) (s .pre .2) (long s .0) (h .result) (long s .1) (c .before .before .if3 .left) (c .answer4 .ensures .0) (c .answer4 .ensures .1) (c .answer4 .ensures .3) in
     (moved-held (view (a .sk)) (p .id) (a .v) (sym (joined (c .before .before .before .before .before .before .before .before .coordinate-ok .ensures) (c .before .before .before .before .before .before .before .coordinate-ok2 .ensures)) ∙ not-false _ (c .before .before .before .before .before .before .if1 .left)) (a .pin) e (subst (λ (x : Relation). AddedTo (movePoint (p .id) (a .v) (view (a .sk))) x (c .answer4 .result)) (h .ensures) r), λ z. absurd (z (c .answer4 .ensures .1)))
 
@@ -112,7 +112,7 @@ move-end-spec =
     returns-2
     answer-requires-3
     returns-3
-    pin-of-requires
+    pin-relation-requires
     mul-t12-2
     element-set-from-t-2
     add-t

@@ -11,43 +11,33 @@ use Rattle.float.proofs.abs.Reads as abs-reads
 use Rattle.geom.proofs.Vec2.dist.Reads as dist-reads
 use Rattle.modify.proofs.nearest_hit.mark_tied.Reads as mark-tied-reads
 
--- src/nearest_hit.rt:62:9
 returns : tie.Need-returns
 returns c = better-first _ _ _ (c .before .before .args .best) (not-true _ (c .if1 .taken))
 
--- src/nearest_hit.rt:65:9
 returns-2 : tie.Need-returns-2
 returns-2 c = better-nearer _ _ _ (c .before .before .before .before .args .best) (not-false _ (c .before .before .if1 .left)) (c .if2 .taken)
 
--- src/nearest_hit.rt:67:10
 abs-requires : tie.Need-abs-requires
 abs-requires c κs = search needs
 
--- src/nearest_hit.rt:68:9
 returns-3 : tie.Need-returns-3
 returns-3 c = better-farther _ _ _ (c .before .before .before .before .before .before .before .args .best) (not-false _ (c .before .before .before .before .before .if1 .left)) (c .before .before .before .if2 .left) (c .before .abs .ensures) (not-true _ (c .if3 .taken))
 
--- src/nearest_hit.rt:71:9
 mark-tied-requires : tie.Need-mark-tied-requires
 mark-tied-requires c κs = search needs
 
--- src/nearest_hit.rt:71:9
 returns-4 : tie.Need-returns-4
 returns-4 c = better-other _ _ _ (c .before .before .before .before .before .before .before .before .before .before .args .best) (not-false _ (c .before .before .before .before .before .before .before .before .if1 .left)) (c .before .before .before .before .before .before .if2 .left) (c .before .before .before .before .abs .ensures) (not-false _ (c .before .before .before .if3 .left)) (c .before .if4 .taken) (record { found = c .mark-tied .ensures .0; gap = c .mark-tied .ensures .1; place = c .mark-tied .ensures .2; by = c .mark-tied .ensures .3; tied = c .mark-tied .ensures .4 })
 
--- src/nearest_hit.rt:74:15
 dist-requires : tie.Need-dist-requires
 dist-requires c κs = search needs
 
--- src/nearest_hit.rt:75:9
 mark-tied-requires-2 : tie.Need-mark-tied-requires-2
 mark-tied-requires-2 c κs = search needs
 
--- src/nearest_hit.rt:75:9
 returns-5 : tie.Need-returns-5
 returns-5 c = better-apart _ _ _ (c .before .before .before .before .before .before .before .before .before .before .before .before .before .args .best) (not-false _ (c .before .before .before .before .before .before .before .before .before .before .before .if1 .left)) (c .before .before .before .before .before .before .before .before .before .if2 .left) (c .before .before .before .before .before .before .before .abs .ensures) (not-false _ (c .before .before .before .before .before .before .if3 .left)) (search needs) (c .before .before .dist .ensures) (c .before .if5 .taken) (record { found = c .mark-tied2 .ensures .0; gap = c .mark-tied2 .ensures .1; place = c .mark-tied2 .ensures .2; by = c .mark-tied2 .ensures .3; tied = c .mark-tied2 .ensures .4 })
 
--- src/nearest_hit.rt:51:1
 returns-6 : tie.Need-returns-6
 returns-6 c = better-same _ _ _ (c .before .before .before .before .before .before .before .before .before .before .before .before .args .best) (not-false _ (c .before .before .before .before .before .before .before .before .before .before .if1 .left)) (c .before .before .before .before .before .before .before .before .if2 .left) (c .before .before .before .before .before .before .abs .ensures) (not-false _ (c .before .before .before .before .before .if3 .left)) (search needs) (c .before .dist .ensures) (c .if5 .left)
 

@@ -9,19 +9,15 @@ use Rattle.modify.proofs.nearest_hit.consider.Lts as lts
 use Rattle.modify.proofs.nearest_hit.better.Reads as better-reads
 use Rattle.modify.proofs.nearest_hit.gap_of.Reads as gap-of-reads
 
--- src/nearest_hit.rt:85:9
 gap-of-requires : tie.Need-gap-of-requires
 gap-of-requires c κs = search needs
 
--- src/nearest_hit.rt:87:9
 better-requires : tie.Need-better-requires
 better-requires c κs = search needs
 
--- src/nearest_hit.rt:87:9
 returns : tie.Need-returns
 returns c = weigh-in _ _ _ (c .before .before .gap-of .ensures) _ (c .before .if1 .taken) (c .better .ensures)
 
--- src/nearest_hit.rt:81:1
 returns-2 : tie.Need-returns-2
 returns-2 c = weigh-out _ _ _ (c .before .gap-of .ensures) _ (c .if1 .left)
 

@@ -9,19 +9,15 @@ use Rattle.modify.proofs.nearest_hit.gap_of.Lts as lts
 use Rattle.shape.proofs.Shape.from_line.Reads as from-line-reads
 use Rattle.shape.proofs.Shape.param.Reads as param-reads
 
--- src/nearest_hit.rt:30:13
 from-line-requires : tie.Need-from-line-requires
 from-line-requires c κs = search needs
 
--- src/nearest_hit.rt:30:9
 param-requires : tie.Need-param-requires
 param-requires c κs = search needs
 
--- src/nearest_hit.rt:32:9
 returns : tie.Need-returns
 returns c = gap-at-b _ _ _ (c .before .before .before .pre) (c .before .before .from-line .ensures) (c .before .param .ensures) (c .if1 .taken)
 
--- src/nearest_hit.rt:26:1
 returns-2 : tie.Need-returns-2
 returns-2 c = gap-at-a _ _ _ (c .before .before .before .pre) (c .before .before .from-line .ensures) (c .before .param .ensures) (c .if1 .left)
 

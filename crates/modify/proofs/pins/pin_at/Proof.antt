@@ -9,47 +9,36 @@ use Rattle.modify.proofs.pins.pin_at.Lts as lts
 use Rattle.modify.proofs.cutter_list.curve_place.Reads as curve-place-reads
 use Rattle.modify.proofs.pins.pin_to.Reads as pin-to-reads
 
--- src/pins.rt:48:9
 curve-place-requires : tie.Need-curve-place-requires
 curve-place-requires c κs = search needs
 
--- src/pins.rt:50:9
 returns : tie.Need-returns
 returns c = λ d o. pin-nowhere o _ _ (c .before .curve-place .ensures .nowhere (c .if1 .taken))
 
--- src/pins.rt:52:13
 mul-c : tie.Need-mul-c
 mul-c c = search needs
 
--- src/pins.rt:52:13
 array-copy-out-c : tie.Need-array-copy-out-c
 array-copy-out-c c = search needs
 
--- src/pins.rt:55:25
 enum-known-kind : tie.Need-enum-known-kind
 enum-known-kind c = search needs
 
--- src/pins.rt:55:34
 pin-to-requires : tie.Need-pin-to-requires
 pin-to-requires c κs = search needs
 
--- src/pins.rt:56:27
 enum-known-kind-2 : tie.Need-enum-known-kind-2
 enum-known-kind-2 c = search needs
 
--- src/pins.rt:56:36
 pin-to-requires-2 : tie.Need-pin-to-requires-2
 pin-to-requires-2 c κs = search needs
 
--- src/pins.rt:35:1
 returns-2 : tie.Need-returns-2
 returns-2 c = λ d o. pin-found o _ _ (c .before .before .before .before .before .before .curve-place .ensures .here (omega arith)) (ends-line (c .before .before .kind .given .1)) (c .pin-to .ensures (d .points) (o .points))
 
--- src/pins.rt:35:1
 returns-3 : tie.Need-returns-3
 returns-3 c = λ d o. pin-found o _ _ (c .before .before .before .before .before .before .curve-place .ensures .here (omega arith)) (ends-arc (c .before .before .kind2 .given .1)) (c .pin-to2 .ensures (d .points) (o .points))
 
--- src/pins.rt:35:1
 returns-4 : tie.Need-returns-4
 returns-4 c = λ d o. pin-found o _ _ (c .before .before .before .curve-place .ensures .here (omega arith)) (ends-none _ (c .match .keys3)) (pin-bare d _ _)
 

@@ -8,15 +8,12 @@ use Rattle.modify.proofs.planning.first_of_one.Reads as reads
 use Rattle.modify.proofs.planning.first_of_one.Lts as lts
 use Rattle.shape.proofs.Shape.is_full.Reads as is-full-reads
 
--- src/planning.rt:68:8
 is-full-requires : tie.Need-is-full-requires
 is-full-requires c κs = search needs
 
--- src/planning.rt:69:9
 returns : tie.Need-returns
 returns c = one-full _ _ _ (sym (c .before .is-full .ensures) ∙ c .if1 .taken)
 
--- src/planning.rt:65:1
 returns-2 : tie.Need-returns-2
 returns-2 c = one-open _ _ _ (sym (c .before .before .is-full .ensures) ∙ c .before .if1 .left)
 

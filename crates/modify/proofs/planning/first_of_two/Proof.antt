@@ -8,15 +8,12 @@ use Rattle.modify.proofs.planning.first_of_two.Reads as reads
 use Rattle.modify.proofs.planning.first_of_two.Lts as lts
 use Rattle.shape.proofs.Shape.is_full.Reads as is-full-reads
 
--- src/planning.rt:78:8
 is-full-requires : tie.Need-is-full-requires
 is-full-requires c κs = search needs
 
--- src/planning.rt:79:9
 returns : tie.Need-returns
 returns c = two-full _ _ _ _ (sym (c .before .before .before .is-full .ensures) ∙ c .before .before .if1 .taken)
 
--- src/planning.rt:75:1
 returns-2 : tie.Need-returns-2
 returns-2 c = two-open _ _ _ _ (sym (c .before .before .before .is-full .ensures) ∙ c .before .before .if1 .left)
 

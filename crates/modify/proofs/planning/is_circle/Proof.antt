@@ -7,15 +7,12 @@ use Rattle.modify.proofs.planning.is_circle.Tie as tie
 use Rattle.modify.proofs.planning.is_circle.Reads as reads
 use Rattle.modify.proofs.planning.is_circle.Lts as lts
 
--- src/planning.rt:38:36
 enum-told : tie.Need-enum-told
 enum-told c = search needs
 
--- src/planning.rt:34:1
 returns : tie.Need-returns
 returns c = is-circle (c .enum-told .given .1)
 
--- src/planning.rt:34:1
 returns-2 : tie.Need-returns-2
 returns-2 c = no-circle _ (c .match .keys2)
 

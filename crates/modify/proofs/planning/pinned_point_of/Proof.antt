@@ -8,15 +8,12 @@ use Rattle.modify.proofs.planning.pinned_point_of.Lts as lts
 use Rattle.modify.proofs.pins.pin_at.Reads as pin-at-reads
 use Rattle.shape.proofs.Shape.point.Reads as point-reads
 
--- src/planning.rt:57:9
 point-requires : tie.Need-point-requires
 point-requires c κs = search needs
 
--- src/planning.rt:60:14
 pin-at-requires : tie.Need-pin-at-requires
 pin-at-requires c κs = search needs
 
--- src/planning.rt:44:1
 returns : tie.Need-returns
 returns c = λ d o. place-is d (c .before .before .before .before .before .before .args .sh) (c .before .before .before .before .before .before .args .k) (c .before .point .ensures) (c .pin-at .ensures d o)
 

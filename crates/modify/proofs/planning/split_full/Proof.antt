@@ -13,35 +13,27 @@ use Rattle.shape.proofs.Shape.param.Reads as param-reads
 use Rattle.shape.proofs.Shape.point.Reads as point-reads
 use Rattle.shape.proofs.Shape.project.Reads as project-reads
 
--- src/planning.rt:147:23
 project-requires : tie.Need-project-requires
 project-requires c κs = search needs
 
--- src/planning.rt:147:9
 param-requires : tie.Need-param-requires
 param-requires c κs = search needs
 
--- src/planning.rt:148:33
 bracket-requires : tie.Need-bracket-requires
 bracket-requires c κs = search needs
 
--- src/planning.rt:148:25
 enum-known-k : tie.Need-enum-known-k
 enum-known-k c = search needs
 
--- src/planning.rt:149:9
 returns : tie.Need-returns
 returns c = full-few _ (c .before .bracket .result) (c .match .keys2) (bracketed _ _ _ _ (c .before .before .param .ensures) (c .before .before .before .project .ensures) (c .before .bracket .ensures))
 
--- src/planning.rt:151:36
 point-requires : tie.Need-point-requires
 point-requires c κs = search needs
 
--- src/planning.rt:151:51
 point-requires-2 : tie.Need-point-requires-2
 point-requires-2 c κs = search needs
 
--- src/planning.rt:144:1
 returns-2 : tie.Need-returns-2
 returns-2 c = full-two _ (c .before .before .before .k .given .1) (bracketed _ _ _ _ (c .before .before .before .before .before .before .param .ensures) (c .before .before .before .before .before .before .before .project .ensures) (c .before .before .before .before .before .bracket .ensures)) (c .before .point .ensures) (c .point2 .ensures)
 

@@ -15,27 +15,21 @@ use Rattle.shape.proofs.Shape.point.Reads as point-reads
 use Rattle.shape.proofs.Shape.project.Reads as project-reads
 use Rattle.shape.proofs.Shape.range.Reads as range-reads
 
--- src/planning.rt:157:22
 project-requires : tie.Need-project-requires
 project-requires c κs = search needs
 
--- src/planning.rt:157:9
 param-requires : tie.Need-param-requires
 param-requires c κs = search needs
 
--- src/planning.rt:158:9
 range-requires : tie.Need-range-requires
 range-requires c κs = search needs
 
--- src/planning.rt:160:9
 returns : tie.Need-returns
 returns c = open-at-an-end _ _ (c .before .before .before .before .param .ensures) (c .before .before .before .before .before .project .ensures) (c .before .before .before .range .ensures) (c .if1 .taken)
 
--- src/planning.rt:162:33
 point-requires : tie.Need-point-requires
 point-requires c κs = search needs
 
--- src/planning.rt:154:1
 returns-2 : tie.Need-returns-2
 returns-2 c = open-inside _ _ (c .before .before .before .before .before .param .ensures) (c .before .before .before .before .before .before .project .ensures) (c .before .before .before .before .range .ensures) (c .before .if1 .left) (c .point .ensures)
 

@@ -13,59 +13,45 @@ use Rattle.modify.proofs.planning.pinned_point_of.Reads as pinned-point
 use Rattle.shape.proofs.Shape.param.Reads as param-reads
 use Rattle.shape.proofs.Shape.project.Reads as project-reads
 
--- src/planning.rt:99:23
 project-requires : tie.Need-project-requires
 project-requires c κs = search needs
 
--- src/planning.rt:99:9
 param-requires : tie.Need-param-requires
 param-requires c κs = search needs
 
--- src/planning.rt:100:11
 bracket-requires : tie.Need-bracket-requires
 bracket-requires c κs = search needs
 
--- src/planning.rt:101:29
 enum-told : tie.Need-enum-told
 enum-told c = search needs
 
--- src/planning.rt:102:25
 enum-known-k : tie.Need-enum-known-k
 enum-known-k c = search needs
 
--- src/planning.rt:103:17
 pinned-point-of-requires : tie.Need-pinned-point-of-requires
 pinned-point-of-requires c κs = search needs
 
--- src/planning.rt:104:26
 first-of-one-requires : tie.Need-first-of-one-requires
 first-of-one-requires c κs = search needs
 
--- src/planning.rt:106:25
 enum-known-k-2 : tie.Need-enum-known-k-2
 enum-known-k-2 c = search needs
 
--- src/planning.rt:107:17
 pinned-point-of-requires-2 : tie.Need-pinned-point-of-requires-2
 pinned-point-of-requires-2 c κs = search needs
 
--- src/planning.rt:108:17
 pinned-point-of-requires-3 : tie.Need-pinned-point-of-requires-3
 pinned-point-of-requires-3 c κs = search needs
 
--- src/planning.rt:109:32
 first-of-two-requires : tie.Need-first-of-two-requires
 first-of-two-requires c κs = search needs
 
--- src/planning.rt:84:1
 returns : tie.Need-returns
 returns c = λ d id o g. plan-whole d id _ _ g (picked _ _ (c .before .before .before .param .ensures) (c .before .before .before .before .project .ensures)) _ (c .before .before .bracket .ensures) (c .enum-told .given .1)
 
--- src/planning.rt:84:1
 returns-2 : tie.Need-returns-2
 returns-2 c = λ d id o g. plan-one d id _ _ g (picked _ _ (c .before .before .before .before .before .before .param .ensures) (c .before .before .before .before .before .before .before .project .ensures)) _ (c .before .before .before .before .before .bracket .ensures) (c .before .before .before .k .given .1) (c .before .pinned-point-of .ensures d o) (c .first-of-one .ensures)
 
--- src/planning.rt:84:1
 returns-3 : tie.Need-returns-3
 returns-3 c = λ d id o g. plan-two d id _ _ g (picked _ _ (c .before .before .before .before .before .before .before .param .ensures) (c .before .before .before .before .before .before .before .before .project .ensures)) _ (c .before .before .before .before .before .before .bracket .ensures) (c .before .before .before .before .k2 .given .1) (c .before .before .pinned-point-of2 .ensures d o) (c .before .pinned-point-of3 .ensures d o) (c .first-of-two .ensures)
 

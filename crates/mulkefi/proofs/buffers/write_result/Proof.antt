@@ -1,5 +1,5 @@
 -- `mulkefi::lent::write_result` meets its contract.
-use Rattle.mulkefi.proofs.WriteResult.{not-shown, is-shown}
+use Rattle.mulkefi.proofs.WriteResult.{not-written, is-written}
 use borrow.Author.Needs.{needs}
 use Rattle.mulkefi.proofs.buffers.write_result.Statement.{statement}
 use Rattle.mulkefi.proofs.buffers.write_result.Tie as tie
@@ -16,7 +16,7 @@ same-length c = search needs
 returns : tie.Need-returns
 returns c =
     let at = c .before .before .before .before .before .before .before in
-    not-shown (at .args .replica) (at .args .removed) (at .pre) (at .args .buffer .now) _ (at .args .answer .now) _ (c .before .before .before .write .ensures) (c .if1 .taken)
+    not-written (at .args .replica) (at .args .removed) (at .pre) (at .args .buffer .now) _ (at .args .answer .now) _ (c .before .before .before .write .ensures) (c .if1 .taken)
 
 write-answer-requires : tie.Need-write-answer-requires
 write-answer-requires c κs = search needs
@@ -27,7 +27,7 @@ same-length-2 c = search needs
 returns-2 : tie.Need-returns-2
 returns-2 c =
     let at = c .before .before .before .before .before .before .before .before .before in
-    is-shown (at .args .replica) (at .args .removed) (at .pre) (at .args .buffer .now) _ (at .args .answer .now) _ (c .before .before .before .before .before .write .ensures) (c .before .before .if1 .left) _ (c .write-answer .ensures)
+    is-written (at .args .replica) (at .args .removed) (at .pre) (at .args .buffer .now) _ (at .args .answer .now) _ (c .before .before .before .before .before .write .ensures) (c .before .before .if1 .left) _ (c .write-answer .ensures)
 
 pub write-result-spec : {M : Type 1} → statement M
 write-result-spec =

@@ -1,5 +1,5 @@
 -- `mulkefi::desk::edit_replica` meets its contract.
-use Rattle.mulkefi.proofs.DeskEdit.{draw-short, draw-declined, draw-numbers, draw-unhoused, draw-done}
+use Rattle.mulkefi.proofs.DeskEdit.{desk-edit-short, desk-edit-refused, draw-numbers, draw-unhoused, draw-done}
 use borrow.Author.Needs.{needs}
 use Rattle.mulkefi.proofs.desk.edit_replica.Statement.{statement}
 use Rattle.mulkefi.proofs.desk.edit_replica.Tie as tie
@@ -7,7 +7,7 @@ use Rattle.mulkefi.proofs.desk.edit_replica.Tie as tie
 returns : tie.Need-returns
 returns c =
     let at = c .before .before .before in
-    draw-short (at .args .replica) _ (at .args .buffer .now) (at .args .message .now) (at .args .answer .now) (c .if1 .taken)
+    desk-edit-short (at .args .replica) _ (at .args .buffer .now) (at .args .message .now) (at .args .answer .now) (c .if1 .taken)
 
 slice-aggregate-desk-edit : tie.Need-slice-aggregate-desk-edit
 slice-aggregate-desk-edit c = search needs
@@ -55,7 +55,7 @@ returns-3 : tie.Need-returns-3
 returns-3 c =
     let u = c .before .before .before .before .before .before in
     let at = u .before .before .before .before .before in
-    draw-declined (at .args .replica) _ (at .args .buffer .now) (at .args .message .now) (at .args .answer .now) (at .pre) (u .before .before .if1 .left) _ _ _ (u .desk-edit .ensures) (search needs) _ _ _ (c .before .before .reply .given .1) (c .refusal .ensures .0) (c .refusal .ensures .1)
+    desk-edit-refused (at .args .replica) _ (at .args .buffer .now) (at .args .message .now) (at .args .answer .now) (at .pre) (u .before .before .if1 .left) _ _ _ (u .desk-edit .ensures) (search needs) _ _ _ (c .before .before .reply .given .1) (c .refusal .ensures .0) (c .refusal .ensures .1)
 
 same-length-2 : tie.Need-same-length-2
 same-length-2 c = search needs

@@ -1,5 +1,5 @@
 -- `mulkefi::wall::deliver_message` meets its contract.
-use Rattle.mulkefi.proofs.WallDelivery.{follow-rejected, follow-old, follow-shown}
+use Rattle.mulkefi.proofs.WallDelivery.{delivery-refused, delivery-old, delivery-updated}
 use borrow.Author.Needs.{needs}
 use Rattle.mulkefi.proofs.wall.deliver_to_replica.Statement.{statement}
 use Rattle.mulkefi.proofs.wall.deliver_to_replica.Tie as tie
@@ -29,13 +29,13 @@ returns : tie.Need-returns
 returns c =
     let u = c .before .before .before .before .before in
     let at = u .before .before .before in
-    follow-rejected (at .args .replica) (at .args .message .now) (at .args .buffer .now) (at .args .answer .now) (at .pre) _ (u .wall-deliver .ensures) _ _ _ (c .before .before .reply .given .1) (c .refusal .ensures .0) (c .refusal .ensures .1)
+    delivery-refused (at .args .replica) (at .args .message .now) (at .args .buffer .now) (at .args .answer .now) (at .pre) _ (u .wall-deliver .ensures) _ _ _ (c .before .before .reply .given .1) (c .refusal .ensures .0) (c .refusal .ensures .1)
 
 returns-2 : tie.Need-returns-2
 returns-2 c =
     let u = c .before .before .before .before .before in
     let at = u .before .before .before in
-    follow-old (at .args .replica) (at .args .message .now) (at .args .buffer .now) (at .args .answer .now) (at .pre) _ (u .wall-deliver .ensures) (c .before .before .enum-told .given .1) _ (c .write-answer .ensures)
+    delivery-old (at .args .replica) (at .args .message .now) (at .args .buffer .now) (at .args .answer .now) (at .pre) _ (u .wall-deliver .ensures) (c .before .before .enum-told .given .1) _ (c .write-answer .ensures)
 
 same-length : tie.Need-same-length
 same-length c = search needs
@@ -44,7 +44,7 @@ returns-3 : tie.Need-returns-3
 returns-3 c =
     let u = c .before .before .before .before .before .before .before .before .before in
     let at = u .before .before .before in
-    follow-shown (at .args .replica) (at .args .message .now) (at .args .buffer .now) (at .args .answer .now) (at .pre) _ (u .wall-deliver .ensures) _ (c .before .before .before .before .before .before .reply2 .given .1) _ _ _ (c .before .before .write-result .ensures)
+    delivery-updated (at .args .replica) (at .args .message .now) (at .args .buffer .now) (at .args .answer .now) (at .pre) _ (u .wall-deliver .ensures) _ (c .before .before .before .before .before .before .reply2 .given .1) _ _ _ (c .before .before .write-result .ensures)
 
 pub deliver-to-replica-spec : {M : Type 1} → statement M
 deliver-to-replica-spec =

@@ -17,7 +17,7 @@ returns : tie.Need-returns
 returns c =
     let r = c .before .before .before .read in
     let at = c .before .before .before .before .before .before in
-    image-refused (at .args .operation) (at .args .bytes .now) (at .args .curve) _ (at .args .out .now) _ (omega arith) (read-number (r .result) (at .args .bytes .now) (r .ensures .told)) (c .before .if1 .taken)
+    image-refused (at .args .operation) (at .args .bytes .now) (at .args .curve) _ (at .args .out .now) _ (omega arith) (read-number (r .result) (at .args .bytes .now) (r .ensures .result-is)) (c .before .if1 .taken)
 
 is-operation-requires : tie.Need-is-operation-requires
 is-operation-requires c κs = search needs
@@ -26,7 +26,7 @@ returns-2 : tie.Need-returns-2
 returns-2 c =
     let r = c .before .before .before .before .read in
     let at = c .before .before .before .before .before .before .before in
-    let i = sym (read-number (r .result) (at .args .bytes .now) (r .ensures .told)) ∙ c .before .before .if1 .left in
+    let i = sym (read-number (r .result) (at .args .bytes .now) (r .ensures .result-is)) ∙ c .before .before .if1 .left in
     no-operation (at .args .operation) (at .args .bytes .now) (at .args .curve) _ (at .args .out .now) i (sym (c .before .is-operation .ensures) ∙ not-true _ (c .if2 .taken))
 
 operation-of-requires : tie.Need-operation-of-requires
@@ -42,8 +42,8 @@ returns-3 : tie.Need-returns-3
 returns-3 c =
     let r = c .before .before .before .before .before .before .before .before .before .before .read in
     let at = c .before .before .before .before .before .before .before .before .before .before .before .before .before in
-    let i = sym (read-number (r .result) (at .args .bytes .now) (r .ensures .told)) ∙ c .before .before .before .before .before .before .before .before .if1 .left in
-    edit-refused (at .args .operation) (at .args .bytes .now) (at .args .curve) _ (at .args .out .now) i (sym (c .before .before .before .before .before .before .before .is-operation .ensures) ∙ not-false _ (c .before .before .before .before .before .before .if2 .left)) _ (read-drawing (r .result) (at .args .bytes .now) (r .ensures .told) (c .before .before .before .before .before .before .before .before .if1 .left)) (r .ensures .sound) _
+    let i = sym (read-number (r .result) (at .args .bytes .now) (r .ensures .result-is)) ∙ c .before .before .before .before .before .before .before .before .if1 .left in
+    edit-refused (at .args .operation) (at .args .bytes .now) (at .args .curve) _ (at .args .out .now) i (sym (c .before .before .before .before .before .before .before .is-operation .ensures) ∙ not-false _ (c .before .before .before .before .before .before .if2 .left)) _ (read-drawing (r .result) (at .args .bytes .now) (r .ensures .result-is) (c .before .before .before .before .before .before .before .before .if1 .left)) (r .ensures .sound) _
     (named (c .before .before .before .before .operation-of .ensures) (c .before .before .before .edit .ensures)) _ (omega arith) (c .before .if3 .taken) (c .with-place .ensures)
 
 write-edited-requires : tie.Need-write-edited-requires
@@ -56,8 +56,8 @@ returns-4 : tie.Need-returns-4
 returns-4 c =
     let r = c .before .before .before .before .before .before .before .before .before .before .before .before .before .before .before .read in
     let at = c .before .before .before .before .before .before .before .before .before .before .before .before .before .before .before .before .before .before in
-    let i = sym (read-number (r .result) (at .args .bytes .now) (r .ensures .told)) ∙ c .before .before .before .before .before .before .before .before .before .before .before .before .before .if1 .left in
-    edit-written (at .args .operation) (at .args .bytes .now) (at .args .curve) _ (at .args .out .now) i (sym (c .before .before .before .before .before .before .before .before .before .before .before .before .is-operation .ensures) ∙ not-false _ (c .before .before .before .before .before .before .before .before .before .before .before .if2 .left)) _ (read-drawing (r .result) (at .args .bytes .now) (r .ensures .told) (c .before .before .before .before .before .before .before .before .before .before .before .before .before .if1 .left)) (r .ensures .sound) _
+    let i = sym (read-number (r .result) (at .args .bytes .now) (r .ensures .result-is)) ∙ c .before .before .before .before .before .before .before .before .before .before .before .before .before .if1 .left in
+    edit-written (at .args .operation) (at .args .bytes .now) (at .args .curve) _ (at .args .out .now) i (sym (c .before .before .before .before .before .before .before .before .before .before .before .before .is-operation .ensures) ∙ not-false _ (c .before .before .before .before .before .before .before .before .before .before .before .if2 .left)) _ (read-drawing (r .result) (at .args .bytes .now) (r .ensures .result-is) (c .before .before .before .before .before .before .before .before .before .before .before .before .before .if1 .left)) (r .ensures .sound) _
     (named (c .before .before .before .before .before .before .before .before .before .operation-of .ensures) (c .before .before .before .before .before .before .before .before .edit .ensures)) (c .before .before .before .before .before .before .if3 .left) _ _ (c .before .before .write-edited .ensures)
 
 pub mulkefi-edit-spec : {M : Type 1} → statement M

@@ -2,7 +2,7 @@ use mathlib.Core.Path.{sym, _∙_}
 use borrow.Author.Tests.{not-true, not-false}
 use borrow.Author.Needs.{needs}
 use Rattle.probe.proofs.EditsMade.{adds-read}
-use Rattle.probe.proofs.Sums.{image-turned, operation-turned, operation-passed}
+use Rattle.probe.proofs.Sums.{image-refused, operation-refused, operation-passed}
 use Rattle.probe.proofs.Answers.{read-number, read-drawing}
 use Rattle.probe.proofs.edits.mulkefi_edit_repeated.Statement.{statement}
 use Rattle.probe.proofs.edits.mulkefi_edit_repeated.Tie as tie
@@ -17,7 +17,7 @@ returns : tie.Need-returns
 returns c =
     let r = c .before .before .before .read in
     let at = c .before .before .before .before .before .args in
-    image-turned (at .bytes .now) _ (read-number (r .result) (at .bytes .now) (r .ensures .told)) (c .before .if1 .taken)
+    image-refused (at .bytes .now) _ (read-number (r .result) (at .bytes .now) (r .ensures .result-is)) (c .before .if1 .taken)
 
 is-operation-requires : tie.Need-is-operation-requires
 is-operation-requires c κs = search needs
@@ -26,8 +26,8 @@ returns-2 : tie.Need-returns-2
 returns-2 c =
     let r = c .before .before .before .before .read in
     let at = c .before .before .before .before .before .before .args in
-    let i = sym (read-number (r .result) (at .bytes .now) (r .ensures .told)) ∙ c .before .before .if1 .left in
-    operation-turned (at .bytes .now) (at .operation) _ i (sym (c .before .is-operation .ensures) ∙ not-true _ (c .if2 .taken))
+    let i = sym (read-number (r .result) (at .bytes .now) (r .ensures .result-is)) ∙ c .before .before .if1 .left in
+    operation-refused (at .bytes .now) (at .operation) _ i (sym (c .before .is-operation .ensures) ∙ not-true _ (c .if2 .taken))
 
 operation-of-requires : tie.Need-operation-of-requires
 operation-of-requires c κs = search needs
@@ -39,9 +39,9 @@ returns-3 : tie.Need-returns-3
 returns-3 c =
     let r = c .before .before .before .before .before .before .before .read in
     let at = c .before .before .before .before .before .before .before .before .before .args in
-    let i = sym (read-number (r .result) (at .bytes .now) (r .ensures .told)) ∙ c .before .before .before .before .before .if1 .left in
+    let i = sym (read-number (r .result) (at .bytes .now) (r .ensures .result-is)) ∙ c .before .before .before .before .before .if1 .left in
     operation-passed (at .bytes .now) (at .operation) _ i (sym (c .before .before .before .before .is-operation .ensures) ∙ not-false _ (c .before .before .before .if2 .left))
-    (adds-read (at .operation) (at .bytes .now) (at .curve) _ (at .times) (read-drawing (r .result) (at .bytes .now) (r .ensures .told) (c .before .before .before .before .before .if1 .left)) (c .before .operation-of .ensures) (c .edits-sum .ensures))
+    (adds-read (at .operation) (at .bytes .now) (at .curve) _ (at .times) (read-drawing (r .result) (at .bytes .now) (r .ensures .result-is) (c .before .before .before .before .before .if1 .left)) (c .before .operation-of .ensures) (c .edits-sum .ensures))
 
 pub mulkefi-edit-repeated-spec : {M : Type 1} → statement M
 mulkefi-edit-repeated-spec =

@@ -1,4 +1,4 @@
-use Rattle.probe.proofs.RootsAnswer.{told-found, told-refused}
+use Rattle.probe.proofs.RootsAnswer.{answered-found, answered-refused}
 use borrow.Author.Needs.{needs}
 use Rattle.probe.proofs.polynomials.mulkefi_roots.Statement.{statement}
 use Rattle.probe.proofs.polynomials.mulkefi_roots.Tie as tie
@@ -31,13 +31,13 @@ same-length : tie.Need-same-length
 same-length c = search needs
 
 returns : tie.Need-returns
-returns c = told-found _ _ _ _ _ (c .before .before .before .before .before .roots .ensures) _ _ (c .before .count .given .1)
+returns c = answered-found _ _ _ _ _ (c .before .before .before .before .before .roots .ensures) _ _ (c .before .count .given .1)
 
 same-length-2 : tie.Need-same-length-2
 same-length-2 c = search needs
 
 returns-2 : tie.Need-returns-2
-returns-2 c = told-refused _ _ _ _ _ (c .before .before .before .before .before .roots .ensures) _ _ (c .before .number .given .1)
+returns-2 c = answered-refused _ _ _ _ _ (c .before .before .before .before .before .roots .ensures) _ _ (c .before .number .given .1)
 
 pub mulkefi-roots-spec : {M : Type 1} → statement M
 mulkefi-roots-spec =

@@ -6,7 +6,7 @@ use Rattle.agreement.specs.Machines.{State, callOutcome}
 use Rattle.replication.specs.Protocol.{Edit, protocol}
 use Rattle.replication.specs.Transitions.{stateOf}
 use Rattle.image.specs.Message.{messageSize}
-use Rattle.probe.proofs.ReplicaSums.{desk-declined, desk-done}
+use Rattle.probe.proofs.ReplicaSums.{desk-refused, desk-done}
 use Rattle.probe.proofs.replicas.desk_adds.Statement.{statement}
 use Rattle.probe.proofs.replicas.desk_adds.Tie as tie
 
@@ -39,7 +39,7 @@ returns : tie.Need-returns
 returns c =
     let at = c .before .before .before .before .before .before in
     let w = c .before .before .before .before .desk-edit .ensures .step (at .pre) in
-    desk-declined (asked at) _ _ (comes at) _ _ (c .before .reply .given .1) (w .reply)
+    desk-refused (asked at) _ _ (comes at) _ _ (c .before .reply .given .1) (w .reply)
 
 returns-2 : tie.Need-returns-2
 returns-2 c =

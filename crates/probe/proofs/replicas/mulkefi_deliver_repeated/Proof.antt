@@ -1,7 +1,7 @@
 use mathlib.Core.Path.{sym, _∙_}
 use borrow.Author.Needs.{needs}
 use Rattle.probe.proofs.ReplicaSums.{wall-read}
-use Rattle.probe.proofs.Sums.{image-turned, image-passed}
+use Rattle.probe.proofs.Sums.{image-refused, image-passed}
 use Rattle.probe.proofs.Answers.{read-number, read-drawing}
 use Rattle.probe.proofs.replicas.mulkefi_deliver_repeated.Statement.{statement}
 use Rattle.probe.proofs.replicas.mulkefi_deliver_repeated.Tie as tie
@@ -16,7 +16,7 @@ returns : tie.Need-returns
 returns c =
     let r = c .before .before .before .read in
     let at = c .before .before .before .before .before .before .args in
-    image-turned (at .bytes .now) _ (read-number (r .result) (at .bytes .now) (r .ensures .told)) (c .before .if1 .taken)
+    image-refused (at .bytes .now) _ (read-number (r .result) (at .bytes .now) (r .ensures .result-is)) (c .before .if1 .taken)
 
 walls-sum-requires : tie.Need-walls-sum-requires
 walls-sum-requires c κs = search needs
@@ -25,9 +25,9 @@ returns-2 : tie.Need-returns-2
 returns-2 c =
     let r = c .before .before .before .before .read in
     let at = c .before .before .before .before .before .before .before .args in
-    let i = sym (read-number (r .result) (at .bytes .now) (r .ensures .told)) ∙ c .before .before .if1 .left in
+    let i = sym (read-number (r .result) (at .bytes .now) (r .ensures .result-is)) ∙ c .before .before .if1 .left in
     image-passed (at .bytes .now) _ i
-    (wall-read (at .bytes .now) (at .count) (at .message .now) (at .times) (read-drawing (r .result) (at .bytes .now) (r .ensures .told) (c .before .before .if1 .left)) (c .walls-sum .ensures))
+    (wall-read (at .bytes .now) (at .count) (at .message .now) (at .times) (read-drawing (r .result) (at .bytes .now) (r .ensures .result-is) (c .before .before .if1 .left)) (c .walls-sum .ensures))
 
 pub mulkefi-deliver-repeated-spec : {M : Type 1} → statement M
 mulkefi-deliver-repeated-spec =

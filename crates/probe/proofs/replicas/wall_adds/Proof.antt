@@ -1,5 +1,5 @@
 use borrow.Author.Needs.{needs}
-use Rattle.probe.proofs.ReplicaSums.{wall-rejected, wall-old, wall-applied}
+use Rattle.probe.proofs.ReplicaSums.{wall-refused, wall-old, wall-applied}
 use Rattle.probe.proofs.replicas.wall_adds.Statement.{statement}
 use Rattle.probe.proofs.replicas.wall_adds.Tie as tie
 
@@ -22,7 +22,7 @@ wrapping-add-u32-requires : tie.Need-wrapping-add-u32-requires
 wrapping-add-u32-requires c κs = search needs
 
 returns : tie.Need-returns
-returns c = let at = c .before .before .before .before .before in wall-rejected _ _ _ _ (c .before .reply .given .1) (c .before .before .before .wall-deliver .ensures .step (at .pre) .reply)
+returns c = let at = c .before .before .before .before .before in wall-refused _ _ _ _ (c .before .reply .given .1) (c .before .before .before .wall-deliver .ensures .step (at .pre) .reply)
 
 returns-2 : tie.Need-returns-2
 returns-2 c = let at = c .before .before .before .before in wall-old _ _ (c .enum-told .given .1) (c .before .before .wall-deliver .ensures .step (at .pre) .reply)

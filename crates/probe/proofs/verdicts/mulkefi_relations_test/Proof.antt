@@ -20,14 +20,14 @@ start u = u .before .before .before .before .before .before
 abbrev held : tie.After-unmet → Sketch
 held u = altered (u .before .before .before .before .read .result .sketch) (start u .args .next) (start u .args .points) (start u .args .curves) (start u .args .relations)
 
--- what a verdict comes to
+-- a verdict as a number
 judged : (u : tie.After-unmet) (v : Verdict) → u .unmet .result ≡ v → {r : ℕ} → r ≡ numbered v
     → RelationsTested (start u .args .bytes .now) (start u .args .next) (start u .args .points) (start u .args .curves) (start u .args .relations) r
 judged u v e f =
     let r = u .before .before .before .before .read in
     let z = u .before .before .if1 .left in
     let s = start u .args .bytes .now in
-    tested (r .result .sketch) v (sym (read-number (r .result) s (r .ensures .told)) ∙ z) (read-drawing (r .result) s (r .ensures .told) z) (subst (UnmetAnswer (held u)) e (u .unmet .ensures)) f
+    tested (r .result .sketch) v (sym (read-number (r .result) s (r .ensures .result-is)) ∙ z) (read-drawing (r .result) s (r .ensures .result-is) z) (subst (UnmetAnswer (held u)) e (u .unmet .ensures)) f
 
 -- a place is small
 below : (c : tie.After-place) → c .place .given .0 .0 < 256
@@ -42,7 +42,7 @@ cast-result c = search needs
 returns : tie.Need-returns
 returns c =
     let r = c .before .before .before .read in
-    let e = read-number (r .result) (c .before .before .before .before .before .args .bytes .now) (r .ensures .told) in
+    let e = read-number (r .result) (c .before .before .before .before .before .args .bytes .now) (r .ensures .result-is) in
     unread (λ z. c .before .if1 .taken (e ∙ z)) e
 
 unmet-requires : tie.Need-unmet-requires

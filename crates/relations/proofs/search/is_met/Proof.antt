@@ -9,11 +9,11 @@ use Rattle.relations.proofs.search.is_met.Tie as tie
 enum-known-relation : tie.Need-enum-known-relation
 enum-known-relation c = search needs
 
-point-at-requires : tie.Need-point-at-requires
-point-at-requires c κs = search needs
+position-of-requires : tie.Need-position-of-requires
+position-of-requires c κs = search needs
 
-point-at-requires-2 : tie.Need-point-at-requires-2
-point-at-requires-2 c κs = search needs
+position-of-requires-2 : tie.Need-position-of-requires-2
+position-of-requires-2 c κs = search needs
 
 close-requires : tie.Need-close-requires
 close-requires c κs = search needs
@@ -24,8 +24,8 @@ enum-known-relation-2 c = search needs
 piece-at-requires : tie.Need-piece-at-requires
 piece-at-requires c κs = search needs
 
-point-at-requires-3 : tie.Need-point-at-requires-3
-point-at-requires-3 c κs = search needs
+position-of-requires-3 : tie.Need-position-of-requires-3
+position-of-requires-3 c κs = search needs
 
 on-requires : tie.Need-on-requires
 on-requires c κs = search needs
@@ -75,11 +75,11 @@ same-requires-2 c κs = search needs
 enum-known-relation-6 : tie.Need-enum-known-relation-6
 enum-known-relation-6 c = search needs
 
-point-at-requires-4 : tie.Need-point-at-requires-4
-point-at-requires-4 c κs = search needs
+position-of-requires-4 : tie.Need-position-of-requires-4
+position-of-requires-4 c κs = search needs
 
-point-at-requires-5 : tie.Need-point-at-requires-5
-point-at-requires-5 c κs = search needs
+position-of-requires-5 : tie.Need-position-of-requires-5
+position-of-requires-5 c κs = search needs
 
 dist-requires : tie.Need-dist-requires
 dist-requires c κs = search needs
@@ -90,8 +90,8 @@ same-requires-3 c κs = search needs
 enum-known-relation-7 : tie.Need-enum-known-relation-7
 enum-known-relation-7 c = search needs
 
-point-at-requires-6 : tie.Need-point-at-requires-6
-point-at-requires-6 c κs = search needs
+position-of-requires-6 : tie.Need-position-of-requires-6
+position-of-requires-6 c κs = search needs
 
 piece-at-requires-7 : tie.Need-piece-at-requires-7
 piece-at-requires-7 c κs = search needs
@@ -108,12 +108,12 @@ enum-told-2 c = search needs
 returns : tie.Need-returns
 returns c =
     let d = c .before .before in
-    λ ps cs p w. c .close .ensures ∙ met-coincident ps cs _ (d .before .before .relation .given .1) (d .point-at .ensures ps p) (c .before .point-at2 .ensures ps p)
+    λ ps cs p w. c .close .ensures ∙ met-coincident ps cs _ (d .before .before .relation .given .1) (d .position-of .ensures ps p) (c .before .position-of2 .ensures ps p)
 
 returns-2 : tie.Need-returns-2
 returns-2 c =
     let d = c .before .before in
-    λ ps cs p w. c .on .ensures ∙ met-on-curve ps cs _ _ (d .before .before .relation2 .given .1) (d .piece-at .ensures _ ps cs p w) (c .before .point-at3 .ensures ps p)
+    λ ps cs p w. c .on .ensures ∙ met-on-curve ps cs _ _ (d .before .before .relation2 .given .1) (d .piece-at .ensures _ ps cs p w) (c .before .position-of3 .ensures ps p)
 
 returns-3 : tie.Need-returns-3
 returns-3 c =
@@ -135,12 +135,12 @@ returns-6 : tie.Need-returns-6
 returns-6 c =
     let d = c .before .before .before in
     λ ps cs p w. c .same3 .ensures ∙ rw (c .before .dist .ensures)
-    (met-distance ps cs _ (d .before .before .relation6 .given .1) (d .point-at4 .ensures ps p) (c .before .before .point-at5 .ensures ps p))
+    (met-distance ps cs _ (d .before .before .relation6 .given .1) (d .position-of4 .ensures ps p) (c .before .before .position-of5 .ensures ps p))
 
 returns-7 : tie.Need-returns-7
 returns-7 c =
     let d = c .before .before in
-    λ ps cs p w. c .is-midpoint .ensures ∙ met-midpoint ps cs _ _ (d .before .before .relation7 .given .1) (d .point-at6 .ensures ps p) (c .before .piece-at7 .ensures _ ps cs p w)
+    λ ps cs p w. c .is-midpoint .ensures ∙ met-midpoint ps cs _ _ (d .before .before .relation7 .given .1) (d .position-of6 .ensures ps p) (c .before .piece-at7 .ensures _ ps cs p w)
 
 returns-8 : tie.Need-returns-8
 returns-8 c = λ ps cs p w. met-arc-length ps cs _ (c .enum-told .given .1)
@@ -153,12 +153,12 @@ is-met-spec =
     tie.close
     (tie.spec
     enum-known-relation
-    point-at-requires
-    point-at-requires-2
+    position-of-requires
+    position-of-requires-2
     close-requires
     enum-known-relation-2
     piece-at-requires
-    point-at-requires-3
+    position-of-requires-3
     on-requires
     enum-known-relation-3
     piece-at-requires-2
@@ -175,12 +175,12 @@ is-met-spec =
     length-or-radius-requires-3
     same-requires-2
     enum-known-relation-6
-    point-at-requires-4
-    point-at-requires-5
+    position-of-requires-4
+    position-of-requires-5
     dist-requires
     same-requires-3
     enum-known-relation-7
-    point-at-requires-6
+    position-of-requires-6
     piece-at-requires-7
     is-midpoint-requires
     enum-told

@@ -10,58 +10,45 @@ use Rattle.replication.proofs.refusals.first_fault.Reads as first-fault
 use Rattle.replication.proofs.refusals.reported_place.Reads as reported-place-reads
 use Rattle.image.proofs.write_message.Reads as write-message-reads
 
--- src/desk.rt:27:38
 first-fault-requires : tie.Need-first-fault-requires
 first-fault-requires c κs = search needs
 
--- src/desk.rt:25:9
 returns : tie.Need-returns
 returns c = desk-short (c .before .before .before .before .args .replica) _ (c .before .before .before .before .args .out .now) (c .before .if1 .taken) _ (c .first-fault .ensures)
 
--- src/desk.rt:33:38
 first-fault-requires-2 : tie.Need-first-fault-requires-2
 first-fault-requires-2 c κs = search needs
 
--- src/desk.rt:31:9
 returns-2 : tie.Need-returns-2
 returns-2 c = desk-full (c .before .before .before .before .before .args .replica) _ (c .before .before .before .before .before .args .out .now) (c .before .before .if1 .left) (c .before .if2 .taken) _ (c .first-fault2 .ensures)
 
--- src/desk.rt:36:9
 edit-requires : tie.Need-edit-requires
 edit-requires c κs = search needs
 
--- src/desk.rt:40:49
 reported-place-requires : tie.Need-reported-place-requires
 reported-place-requires c κs = search needs
 
--- src/desk.rt:38:9
 returns-3 : tie.Need-returns-3
 returns-3 c =
     let at = c .before .before .before .before .before .before .before .before in
     desk-declined (at .args .replica) _ (at .args .out .now) (c .before .before .before .before .before .if1 .left) (c .before .before .before .before .if2 .left) _ (c .before .before .before .edit .ensures)
     (pick-of _ _ (at .good .1 .1 .1 .0 .1) (at .good .1 .1 .1 .1 .0 .1)) (c .before .if3 .taken) _ (c .reported-place .ensures)
 
--- src/desk.rt:43:18
 add-number : tie.Need-add-number
 add-number c = search needs
 
--- src/desk.rt:48:12
 float-to-bits-t24 : tie.Need-float-to-bits-t24
 float-to-bits-t24 c = is-number _ (accepted-place _ _ _ (c .before .before .edit .ensures) (c .if3 .left) .0)
 
--- src/desk.rt:49:12
 float-to-bits-t25 : tie.Need-float-to-bits-t25
 float-to-bits-t25 c = is-number _ (accepted-place _ _ _ (c .before .before .edit .ensures) (c .if3 .left) .1)
 
--- src/desk.rt:51:5
 write-message-requires : tie.Need-write-message-requires
 write-message-requires c κs = search needs
 
--- src/desk.rt:19:1
 same-length : tie.Need-same-length
 same-length c = search needs
 
--- src/desk.rt:19:1
 returns-4 : tie.Need-returns-4
 returns-4 c =
     let at = c .before .before .before .before .before .before .before .before .before .before .before .before .before in

@@ -6,15 +6,12 @@ use Rattle.replication.proofs.refusals.first_fault.Reads as reads
 use Rattle.replication.proofs.refusals.first_fault.Lts as lts
 use Rattle.sketch.proofs.fault.Reads as fault-reads
 
--- src/refusals.rt:24:9
 fault-requires : tie.Need-fault-requires
 fault-requires c κs = search needs
 
--- src/refusals.rt:26:9
 returns : tie.Need-returns
 returns c = first-if (c .before .before .args .sk) (c .before .before .args .number) (c .before .fault .ensures) (c .if1 .taken)
 
--- src/refusals.rt:21:1
 returns-2 : tie.Need-returns-2
 returns-2 c = first-else (c .before .before .args .sk) (c .before .before .args .number) (c .before .fault .ensures) (c .if1 .left)
 

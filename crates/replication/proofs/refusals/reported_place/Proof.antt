@@ -6,15 +6,12 @@ use Rattle.replication.proofs.refusals.reported_place.Tie as tie
 use Rattle.replication.proofs.refusals.reported_place.Reads as reads
 use Rattle.replication.proofs.refusals.reported_place.Lts as lts
 
--- src/refusals.rt:32:1
 returns : tie.Need-returns
 returns c = sym (ap (λ k. reportedPlace k (c .before .args .place)) (c .match .keys1))
 
--- src/refusals.rt:32:1
 returns-2 : tie.Need-returns-2
 returns-2 c = sym (ap (λ k. reportedPlace k (c .before .args .place)) (c .match .keys2))
 
--- src/refusals.rt:32:1
 returns-3 : tie.Need-returns-3
 returns-3 c = simp (ne-eqb _ 13 (c .match .rest .0 .1), ne-eqb _ 19 (c .match .rest .1))
 

@@ -17,35 +17,27 @@ Inv-loop order n j₀ j = (j ≤ length order) × Tested n order j
 abbrev μ-loop : tie.MeasureT-loop
 μ-loop order n j₀ j = length order - j
 
--- src/run_lists.rt:109:5
 loop-holds : tie.Need-loop-holds Inv-loop μ-loop
 loop-holds c = (omega arith, refl)
 
--- src/run_lists.rt:110:17
 mul-if1 : tie.Need-mul-if1 Inv-loop μ-loop
 mul-if1 c = search needs
 
--- src/run_lists.rt:110:17
 shared-slice-read-if1 : tie.Need-shared-slice-read-if1 Inv-loop μ-loop
 shared-slice-read-if1 c = search needs
 
--- src/run_lists.rt:111:13
 returns : tie.Need-returns Inv-loop μ-loop
 returns c = below-not _ (c .before .before .before .before .args .order .now) (c .before .before .before .loop .j) (omega arith) (c .if1 .taken) (c .before .before .before .loop .inv .1)
 
--- src/run_lists.rt:113:9
 add-j : tie.Need-add-j Inv-loop μ-loop
 add-j c = search needs
 
--- src/run_lists.rt:109:5
 loop-less : tie.Need-loop-less Inv-loop μ-loop
 loop-less c = omega arith
 
--- src/run_lists.rt:109:5
 loop-again : tie.Need-loop-again Inv-loop μ-loop
 loop-again c = (omega arith, rw add-one (below-more _ (c .before .before .before .before .args .order .now) (c .before .before .before .loop .j) (omega arith) (c .if1 .left) (c .before .before .before .loop .inv .1)))
 
--- src/run_lists.rt:105:1
 returns-2 : tie.Need-returns-2 Inv-loop μ-loop
 returns-2 c = below-all _ (c .before .before .args .order .now) (c .before .loop .j) (omega arith) (c .before .loop .inv .1)
 

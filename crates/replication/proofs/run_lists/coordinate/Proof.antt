@@ -9,19 +9,15 @@ use Rattle.replication.proofs.run_lists.coordinate.Reads as reads
 use Rattle.replication.proofs.run_lists.coordinate.Lts as lts
 use Rattle.replication.proofs.wall.is_number.Reads as is-number-reads
 
--- src/run_lists.rt:44:9
 is-number-requires : tie.Need-is-number-requires
 is-number-requires c κs = search needs
 
--- src/run_lists.rt:45:9
 returns : tie.Need-returns
 returns c = nan-computed (c .before .before .args .bits) (sym (c .before .is-number .ensures) ∙ not-true _ (c .if1 .taken))
 
--- src/run_lists.rt:47:5
 float-from-bits-result : tie.Need-float-from-bits-result
 float-from-bits-result c = subst T (sym (sym (c .before .is-number .ensures) ∙ not-false _ (c .if1 .left))) tt
 
--- src/run_lists.rt:41:1
 returns-2 : tie.Need-returns-2
 returns-2 c = search needs
 

@@ -14,55 +14,42 @@ use Rattle.replication.proofs.desk.desk_edit.Reads as desk-edit-reads
 use Rattle.replication.proofs.run_lists.coordinate.Reads as coordinate-reads
 use Rattle.image.proofs.operation_of.Reads as operation-of-reads
 
--- src/run_lists.rt:55:34
 get1-requires : tie.Need-get1-requires
 get1-requires c κs = search needs
 
--- src/run_lists.rt:55:9
 operation-of-requires : tie.Need-operation-of-requires
 operation-of-requires c κs = search needs
 
--- src/run_lists.rt:56:38
 add-get8 : tie.Need-add-get8
 add-get8 c = search needs
 
--- src/run_lists.rt:56:24
 get8-requires : tie.Need-get8-requires
 get8-requires c κs = search needs
 
--- src/run_lists.rt:56:9
 coordinate-requires : tie.Need-coordinate-requires
 coordinate-requires c κs = search needs
 
--- src/run_lists.rt:57:38
 add-get8-2 : tie.Need-add-get8-2
 add-get8-2 c = search needs
 
--- src/run_lists.rt:57:24
 get8-requires-2 : tie.Need-get8-requires-2
 get8-requires-2 c κs = search needs
 
--- src/run_lists.rt:57:9
 coordinate-requires-2 : tie.Need-coordinate-requires-2
 coordinate-requires-2 c κs = search needs
 
--- src/run_lists.rt:58:48
 add-get4 : tie.Need-add-get4
 add-get4 c = search needs
 
--- src/run_lists.rt:58:34
 get4-requires : tie.Need-get4-requires
 get4-requires c κs = search needs
 
--- src/run_lists.rt:58:5
 desk-edit-requires : tie.Need-desk-edit-requires
 desk-edit-requires c κs = search needs
 
--- src/run_lists.rt:51:1
 same-length : tie.Need-same-length
 same-length c = search needs
 
--- src/run_lists.rt:51:1
 returns : tie.Need-returns
 returns c =
     same-edit (c .before .before .before .before .before .before .before .before .before .before .before .before .before .args .replica) _ _ _ _ _

@@ -4,11 +4,9 @@ use Rattle.replication.proofs.run_lists.has_room.Tie as tie
 use Rattle.replication.proofs.run_lists.has_room.Reads as reads
 use Rattle.replication.proofs.run_lists.has_room.Lts as lts
 
--- src/run_lists.rt:100:9
 returns : tie.Need-returns
 returns c = room-short _ _ (c .if1 .taken)
 
--- src/run_lists.rt:96:1
 returns-2 : tie.Need-returns-2
 returns-2 c = room-enough _ _ (c .if1 .left)
 

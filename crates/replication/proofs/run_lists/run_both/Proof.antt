@@ -13,51 +13,39 @@ use Rattle.replication.proofs.run_lists.run_desk.Reads as run-desk-read
 use Rattle.replication.proofs.run_lists.run_wall.Reads as run-wall-reads
 use Rattle.replication.proofs.starting.start.Reads as start-reads
 
--- src/run_lists.rt:123:9
 start-requires : tie.Need-start-requires
 start-requires c κs = search needs
 
--- src/run_lists.rt:126:9
 returns : tie.Need-returns
 returns c = not-started (c .before .before .before .before .before .before .before .before .args .image .now) (c .before .before .before .before .before .before .before .before .args .entries .now) (c .before .before .before .before .before .before .before .before .args .order .now) (length (c .before .before .before .before .before .before .before .before .args .log .now)) _ (c .before .before .before .start .ensures) (c .if1 .taken)
 
--- src/run_lists.rt:132:9
 has-room-requires : tie.Need-has-room-requires
 has-room-requires c κs = search needs
 
--- src/run_lists.rt:133:9
 returns-2 : tie.Need-returns-2
 returns-2 c = no-room (c .before .before .before .before .before .before .before .before .before .before .args .image .now) (c .before .before .before .before .before .before .before .before .before .before .args .entries .now) (c .before .before .before .before .before .before .before .before .before .before .args .order .now) (length (c .before .before .before .before .before .before .before .before .before .before .args .log .now)) _ (c .before .before .before .before .before .start .ensures) (c .before .before .if1 .left) (sym (c .before .has-room .ensures) ∙ not-true _ (c .if2 .taken))
 
--- src/run_lists.rt:139:9
 run-desk-requires : tie.Need-run-desk-requires
 run-desk-requires c κs = (c .before .before .before .before .before .before .start .ensures .valid, c .before .before .before .before .before .before .start .ensures .zero-count, room-is _ _ (sym (c .before .before .has-room .ensures) ∙ not-false _ (c .before .if2 .left)))
 
--- src/run_lists.rt:140:26
 cast-all-below : tie.Need-cast-all-below
 cast-all-below c = search needs
 
--- src/run_lists.rt:140:9
 all-below-requires : tie.Need-all-below-requires
 all-below-requires c κs = search needs
 
--- src/run_lists.rt:141:9
 same-length : tie.Need-same-length
 same-length c = search needs
 
--- src/run_lists.rt:141:9
 returns-3 : tie.Need-returns-3
 returns-3 c = beyond (c .before .before .before .before .before .before .before .before .before .before .before .before .before .before .before .before .before .args .image .now) (c .before .before .before .before .before .before .before .before .before .before .before .before .before .before .before .before .before .args .entries .now) (c .before .before .before .before .before .before .before .before .before .before .before .before .before .before .before .before .before .args .order .now) (length (c .before .before .before .before .before .before .before .before .before .before .before .before .before .before .before .before .before .args .log .now)) _ (c .before .before .before .before .before .before .before .before .before .before .before .before .start .ensures) (c .before .before .before .before .before .before .before .before .before .if1 .left) (sym (c .before .before .before .before .before .before .before .before .has-room .ensures) ∙ not-false _ (c .before .before .before .before .before .before .before .if2 .left)) _ _ (c .before .before .before .before .before .run-desk .ensures .0) (sym (c .before .all-below .ensures) ∙ not-true _ (c .if3 .taken))
 
--- src/run_lists.rt:147:9
 run-wall-requires : tie.Need-run-wall-requires
 run-wall-requires c κs = (c .before .before .before .before .before .before .before .before .before .before .before .before .before .start .ensures .valid, within-log (c .before .before .before .before .before .before .run-desk .result .count) (c .before .before .before .before .before .before .run-desk .last .1 .1 .0) (c .before .before .before .before .before .before .before .before .before .before .before .before .before .before .before .before .before .before .args .order .now) (sym (c .before .before .all-below .ensures) ∙ not-false _ (c .before .if3 .left)) (c .before .before .before .before .before .before .run-desk .ensures .0 .fits))
 
--- src/run_lists.rt:120:1
 same-length-2 : tie.Need-same-length-2
 same-length-2 c = search needs
 
--- src/run_lists.rt:120:1
 returns-4 : tie.Need-returns-4
 returns-4 c = both-ran (c .before .before .before .before .before .before .before .before .before .before .before .before .before .before .before .before .before .before .before .args .image .now) (c .before .before .before .before .before .before .before .before .before .before .before .before .before .before .before .before .before .before .before .args .entries .now) (c .before .before .before .before .before .before .before .before .before .before .before .before .before .before .before .before .before .before .before .args .order .now) (length (c .before .before .before .before .before .before .before .before .before .before .before .before .before .before .before .before .before .before .before .args .log .now)) _ (c .before .before .before .before .before .before .before .before .before .before .before .before .before .before .start .ensures) (c .before .before .before .before .before .before .before .before .before .before .before .if1 .left) (sym (c .before .before .before .before .before .before .before .before .before .before .has-room .ensures) ∙ not-false _ (c .before .before .before .before .before .before .before .before .before .if2 .left)) _ _ (c .before .before .before .before .before .before .before .run-desk .ensures .0) (sym (c .before .before .before .all-below .ensures) ∙ not-false _ (c .before .before .if3 .left)) _ (c .run-wall .ensures)
 

@@ -1,6 +1,6 @@
 use Prim.Native.Nat.{_≤_, _+_, _-_, _/_, _*_}
 use Rattle.image.specs.Message.{messageSize}
-use Rattle.replication.proofs.Runs.{drew-start, drew-next, drew-all}
+use Rattle.replication.proofs.Runs.{desk-ran-start, desk-ran-next, desk-ran-all}
 use Rattle.replication.specs.RunBoth.{callAt, DeskRan, callSize}
 use Rattle.cuts.proofs.Rows.{rows-length}
 use Rattle.cuts.specs.Columns.{rows}
@@ -24,85 +24,67 @@ Inv-loop entries log₀ last₀ i₀ log last i = (i ≤ length entries / callSi
 abbrev μ-loop : tie.MeasureT-loop
 μ-loop entries log₀ last₀ i₀ log last i = length entries / callSize - i
 
--- src/run_lists.rt:68:5
 loop-holds : tie.Need-loop-holds Inv-loop μ-loop
-loop-holds c = (omega arith, refl, drew-start _ _ _ (c .before .before .pre .0) (c .before .before .pre .1))
+loop-holds c = (omega arith, refl, desk-ran-start _ _ _ (c .before .before .pre .0) (c .before .before .pre .1))
 
--- src/run_lists.rt:69:20
 cast-from : tie.Need-cast-from Inv-loop μ-loop
 cast-from c = search needs
 
--- src/run_lists.rt:69:20
 mul-from : tie.Need-mul-from Inv-loop μ-loop
 mul-from c = let few = c .before .before .loop .inv .2 .few in let many = rows-length (c .before .before .loop .i) (callAt (c .before .before .before .before .before .args .entries .now)) in let room = c .before .before .before .before .before .pre .2 in omega arith
 
--- src/run_lists.rt:70:39
 mul-get1 : tie.Need-mul-get1 Inv-loop μ-loop
 mul-get1 c = search needs
 
--- src/run_lists.rt:70:39
 add-get1 : tie.Need-add-get1 Inv-loop μ-loop
 add-get1 c = search needs
 
--- src/run_lists.rt:70:25
 get1-requires : tie.Need-get1-requires Inv-loop μ-loop
 get1-requires c κs = search needs
 
--- src/run_lists.rt:70:25
 cast-to : tie.Need-cast-to Inv-loop μ-loop
 cast-to c = search needs
 
--- src/run_lists.rt:70:18
 add-to : tie.Need-add-to Inv-loop μ-loop
 add-to c = let few = c .before .before .before .loop .inv .2 .few in let many = rows-length (c .before .before .before .loop .i) (callAt (c .before .before .before .before .before .before .args .entries .now)) in let room = c .before .before .before .before .before .before .pre .2 in omega arith
 
--- src/run_lists.rt:71:45
 mul-desk-edit-at : tie.Need-mul-desk-edit-at Inv-loop μ-loop
 mul-desk-edit-at c = search needs
 
--- src/run_lists.rt:71:55
 sub-desk-edit-at : tie.Need-sub-desk-edit-at Inv-loop μ-loop
 sub-desk-edit-at c = let few = c .before .before .before .loop .inv .2 .few in let many = rows-length (c .before .before .before .loop .i) (callAt (c .before .before .before .before .before .before .args .entries .now)) in let room = c .before .before .before .before .before .before .pre .2 in omega arith
 
--- src/run_lists.rt:71:55
 part-desk-edit-at-start : tie.Need-part-desk-edit-at-start Inv-loop μ-loop
 part-desk-edit-at-start c = let few = c .before .before .before .loop .inv .2 .few in let many = rows-length (c .before .before .before .loop .i) (callAt (c .before .before .before .before .before .before .args .entries .now)) in let room = c .before .before .before .before .before .before .pre .2 in omega arith
 
--- src/run_lists.rt:71:55
 part-desk-edit-at-end : tie.Need-part-desk-edit-at-end Inv-loop μ-loop
 part-desk-edit-at-end c = let few = c .before .before .before .loop .inv .2 .few in let many = rows-length (c .before .before .before .loop .i) (callAt (c .before .before .before .before .before .before .args .entries .now)) in let room = c .before .before .before .before .before .before .pre .2 in omega arith
 
--- src/run_lists.rt:71:13
 desk-edit-at-requires : tie.Need-desk-edit-at-requires Inv-loop μ-loop
 desk-edit-at-requires c κs = omega arith
 
--- src/run_lists.rt:73:9
 add-i : tie.Need-add-i Inv-loop μ-loop
 add-i c = search needs
 
--- src/run_lists.rt:68:5
 loop-less : tie.Need-loop-less Inv-loop μ-loop
 loop-less c = omega arith
 
--- src/run_lists.rt:68:5
 loop-again : tie.Need-loop-again Inv-loop μ-loop
 loop-again c =
     let at = c .before .before .before .before .before .before .before .before .loop in
     let room = c .before .before .before .before .before .before .before .before .before .before .before .pre .2 in
     let m =
-    drew-next _ (c .before .before .before .before .before .before .before .before .before .before .before .args .entries .now) (at .log) (at .i) (at .last) (omega arith) (omega arith) (at .inv .2)
+    desk-ran-next _ (c .before .before .before .before .before .before .before .before .before .before .before .args .entries .now) (at .log) (at .i) (at .last) (omega arith) (omega arith) (at .inv .2)
     (at .last .count * messageSize) (at .last .count * messageSize + c .before .before .before .before .before .get1 .result - at .last .count * messageSize) (omega arith) (omega (arith, c .before .before .before .before .before .get1 .ensures)) (omega arith)
     _ _ (c .before .before .before .desk-edit-at .ensures)
     in
     (omega arith, m .1 ∙ at .inv .1, rw add-one (m .0))
 
--- src/run_lists.rt:62:1
 same-length : tie.Need-same-length Inv-loop μ-loop
 same-length c = search needs
 
--- src/run_lists.rt:62:1
 returns : tie.Need-returns Inv-loop μ-loop
-returns c = (drew-all _ (c .before .before .before .before .args .entries .now) _ (c .before .loop .i) _ (omega arith) (c .before .loop .inv .2), c .before .loop .inv .1)
+returns c = (desk-ran-all _ (c .before .before .before .before .args .entries .now) _ (c .before .loop .i) _ (omega arith) (c .before .loop .inv .2), c .before .loop .inv .1)
 
 pub run-desk-spec : {M : Type 1} → statement M
 run-desk-spec =

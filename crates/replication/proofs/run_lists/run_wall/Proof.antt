@@ -19,57 +19,44 @@ Inv-loop log order last₀ j₀ last j = (j ≤ length order) × WallRan last₀
 abbrev μ-loop : tie.MeasureT-loop
 μ-loop log order last₀ j₀ last j = length order - j
 
--- src/run_lists.rt:85:5
 loop-holds : tie.Need-loop-holds Inv-loop μ-loop
 loop-holds c = (omega arith, ran-none _ (c .before .before .pre .0))
 
--- src/run_lists.rt:86:20
 mul-from : tie.Need-mul-from Inv-loop μ-loop
 mul-from c = search needs
 
--- src/run_lists.rt:86:20
 shared-slice-read-from : tie.Need-shared-slice-read-from Inv-loop μ-loop
 shared-slice-read-from c = search needs
 
--- src/run_lists.rt:86:20
 mul-from-2 : tie.Need-mul-from-2 Inv-loop μ-loop
 mul-from-2 c = let p = c .before .before .before .before .before .pre .1 (c .before .before .loop .j) (omega arith) in omega arith
 
--- src/run_lists.rt:87:18
 add-to : tie.Need-add-to Inv-loop μ-loop
 add-to c = let p = c .before .before .before .before .before .pre .1 (c .before .before .loop .j) (omega arith) in omega arith
 
--- src/run_lists.rt:88:41
 sub-wall-deliver : tie.Need-sub-wall-deliver Inv-loop μ-loop
 sub-wall-deliver c = omega arith
 
--- src/run_lists.rt:88:41
 part-wall-deliver-start : tie.Need-part-wall-deliver-start Inv-loop μ-loop
 part-wall-deliver-start c = omega arith
 
--- src/run_lists.rt:88:41
 part-wall-deliver-end : tie.Need-part-wall-deliver-end Inv-loop μ-loop
 part-wall-deliver-end c = let p = c .before .before .before .before .before .pre .1 (c .before .before .loop .j) (omega arith) in omega arith
 
--- src/run_lists.rt:88:13
 wall-deliver-requires : tie.Need-wall-deliver-requires Inv-loop μ-loop
 wall-deliver-requires c κs = search needs
 
--- src/run_lists.rt:90:9
 add-j : tie.Need-add-j Inv-loop μ-loop
 add-j c = search needs
 
--- src/run_lists.rt:85:5
 loop-less : tie.Need-loop-less Inv-loop μ-loop
 loop-less c = omega arith
 
--- src/run_lists.rt:85:5
 loop-again : tie.Need-loop-again Inv-loop μ-loop
 loop-again c =
     let at = c .before .before .before .before .before .loop in
     (omega arith, rw add-one (ran-more _ (at .last) (c .before .before .before .before .before .before .before .before .args .log .now) (c .before .before .before .before .before .before .before .before .args .order .now) (at .j) _ _ (omega arith) refl (at .inv .1) (c .before .wall-deliver .ensures)))
 
--- src/run_lists.rt:79:1
 returns : tie.Need-returns Inv-loop μ-loop
 returns c = ran-all _ _ (c .before .before .before .before .args .log .now) (c .before .before .before .before .args .order .now) (c .before .loop .j) (omega arith) (c .before .loop .inv .1)
 

@@ -13,67 +13,51 @@ use Rattle.replication.proofs.refusals.first_fault.Reads as first-fault
 use Rattle.replication.proofs.refusals.reported_place.Reads as reported-place-reads
 use Rattle.sketch.proofs.fault.Reads as fault-reads
 
--- src/wall.rt:30:13
 fault-requires : tie.Need-fault-requires
 fault-requires c κs = search needs
 
--- src/wall.rt:32:13
 returns : tie.Need-returns
 returns c = λ bytes is. wall-fault (c .before .before .before .before .before .args .replica) bytes (c .before .before .before .before .before .args .m) is _ (c .before .fault .ensures) (c .if2 .taken)
 
--- src/wall.rt:37:9
 returns-2 : tie.Need-returns-2
 returns-2 c = λ bytes is. wall-old (c .before .before .before .before .before .args .replica) bytes (c .before .before .before .before .before .args .m) is (c .before .before .if1 .taken) _ (c .before .fault .ensures) (c .if2 .left)
 
--- src/wall.rt:42:8
 sub-if3 : tie.Need-sub-if3
 sub-if3 c = search needs
 
--- src/wall.rt:45:38
 first-fault-requires : tie.Need-first-fault-requires
 first-fault-requires c κs = search needs
 
--- src/wall.rt:43:9
 returns-3 : tie.Need-returns-3
 returns-3 c = λ bytes is. wall-ahead (c .before .before .before .before .before .before .args .replica) bytes (c .before .before .before .before .before .before .args .m) is (c .before .before .before .if1 .left) (λ h. c .before .if3 .taken (omega arith)) _ (c .first-fault .ensures)
 
--- src/wall.rt:48:10
 is-number-requires : tie.Need-is-number-requires
 is-number-requires c κs = search needs
 
--- src/wall.rt:48:27
 is-number-requires-2 : tie.Need-is-number-requires-2
 is-number-requires-2 c κs = search needs
 
--- src/wall.rt:51:38
 first-fault-requires-2 : tie.Need-first-fault-requires-2
 first-fault-requires-2 c κs = search needs
 
--- src/wall.rt:49:9
 returns-4 : tie.Need-returns-4
 returns-4 c = λ bytes is. wall-nan (c .before .before .before .before .before .before .before .before .before .args .replica) bytes (c .before .before .before .before .before .before .before .before .before .args .m) is (c .before .before .before .before .before .before .if1 .left) (omega arith) (both-numbers (c .before .before .before .before .before .before .before .before .before .args .m .x) (c .before .before .before .before .before .before .before .before .before .args .m .y) (c .before .before .before .is-number .ensures) (c .before .before .is-number2 .ensures) (not-true _ (c .before .if4 .taken))) _ (c .first-fault2 .ensures)
 
--- src/wall.rt:56:12
 float-from-bits-t24 : tie.Need-float-from-bits-t24
 float-from-bits-t24 c = may-float (c .before .before .before .before .before .before .before .before .before .args .m .x) (c .before .before .before .before .before .before .before .before .before .args .m .y) (both-numbers (c .before .before .before .before .before .before .before .before .before .args .m .x) (c .before .before .before .before .before .before .before .before .before .args .m .y) (c .before .before .before .is-number .ensures) (c .before .before .is-number2 .ensures) (not-false _ (c .before .if4 .left))) .0
 
--- src/wall.rt:57:12
 float-from-bits-t25 : tie.Need-float-from-bits-t25
 float-from-bits-t25 c = may-float (c .before .before .before .before .before .before .before .before .before .before .args .m .x) (c .before .before .before .before .before .before .before .before .before .before .args .m .y) (both-numbers (c .before .before .before .before .before .before .before .before .before .before .args .m .x) (c .before .before .before .before .before .before .before .before .before .before .args .m .y) (c .before .before .before .before .is-number .ensures) (c .before .before .before .is-number2 .ensures) (not-false _ (c .before .before .if4 .left))) .1
 
--- src/wall.rt:59:9
 edit-requires : tie.Need-edit-requires
 edit-requires c κs = search needs
 
--- src/wall.rt:63:49
 reported-place-requires : tie.Need-reported-place-requires
 reported-place-requires c κs = search needs
 
--- src/wall.rt:61:9
 returns-5 : tie.Need-returns-5
 returns-5 c = λ bytes is. wall-declined (c .before .before .before .before .before .before .before .before .before .before .before .before .before .before .args .replica) bytes (c .before .before .before .before .before .before .before .before .before .before .before .before .before .before .args .m) is (c .before .before .before .before .before .before .before .before .before .before .before .if1 .left) (omega arith) _ (c .before .before .before .edit .ensures) (c .before .if5 .taken) _ (c .reported-place .ensures)
 
--- src/wall.rt:24:1
 returns-6 : tie.Need-returns-6
 returns-6 c = λ bytes is. wall-applied (c .before .before .before .before .before .before .before .before .before .before .before .before .before .before .before .args .replica) bytes (c .before .before .before .before .before .before .before .before .before .before .before .before .before .before .before .args .m) is (c .before .before .before .before .before .before .before .before .before .before .before .before .if1 .left) (omega arith) _ (c .before .before .before .before .edit .ensures) (c .before .before .if5 .left)
 

@@ -4,7 +4,6 @@ use Rattle.replication.proofs.wall.is_number.Tie as tie
 use Rattle.replication.proofs.wall.is_number.Reads as reads
 use Rattle.replication.proofs.wall.is_number.Lts as lts
 
--- src/wall.rt:17:1
 returns : tie.Need-returns
 returns c = number-test (c .args .bits)
 

@@ -9,31 +9,24 @@ use Rattle.replication.proofs.wall.deliver_message.Reads as deliver-mes
 use Rattle.replication.proofs.refusals.first_fault.Reads as first-fault-reads
 use Rattle.image.proofs.read_message.Reads as read-message-reads
 
--- src/wall.rt:83:11
 read-message-requires : tie.Need-read-message-requires
 read-message-requires c κs = search needs
 
--- src/wall.rt:84:30
 enum-known-number : tie.Need-enum-known-number
 enum-known-number c = search needs
 
--- src/wall.rt:85:43
 first-fault-requires : tie.Need-first-fault-requires
 first-fault-requires c κs = search needs
 
--- src/wall.rt:88:31
 enum-known-m : tie.Need-enum-known-m
 enum-known-m c = search needs
 
--- src/wall.rt:88:37
 deliver-message-requires : tie.Need-deliver-message-requires
 deliver-message-requires c κs = search needs
 
--- src/wall.rt:79:1
 returns : tie.Need-returns
 returns c = wall-unread (c .before .before .before .before .before .before .before .args .replica) (c .before .before .before .before .before .before .before .args .bytes .now) _ (sym (c .before .before .before .before .read-message .ensures) ∙ c .before .before .number .given .1) _ (c .first-fault .ensures)
 
--- src/wall.rt:79:1
 returns-2 : tie.Need-returns-2
 returns-2 c = c .deliver-message .ensures (c .before .before .before .before .before .before .before .args .bytes .now) (sym (c .before .before .before .before .read-message .ensures) ∙ c .before .before .m .given .1)
 

@@ -4,11 +4,9 @@ use Rattle.replication.proofs.wall_program.min.Tie as tie
 use Rattle.replication.proofs.wall_program.min.Reads as reads
 use Rattle.replication.proofs.wall_program.min.Lts as lts
 
--- src/wall_program.rt:19:1
 returns : tie.Need-returns
 returns c = least-first _ _ (c .if1 .taken)
 
--- src/wall_program.rt:19:1
 returns-2 : tie.Need-returns-2
 returns-2 c = least-second _ _ (c .if1 .left)
 

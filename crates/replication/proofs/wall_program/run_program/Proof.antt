@@ -1,6 +1,6 @@
 use lib.Seq.{length-take-le}
 use lib.ListN.{length}
-use Rattle.replication.proofs.Program.{end-is, played-refused, played-shown}
+use Rattle.replication.proofs.Program.{end-is, played-refused, program-outcome}
 use mathlib.Core.Path.{sym}
 use native.Mathlib.Omega.{arith}
 use borrow.Author.Needs.{needs}
@@ -15,69 +15,53 @@ use Rattle.replication.proofs.wall_program.write_refusal.Reads as write
 use Rattle.replication.proofs.wall_program.write_sketch.Reads as write-sketch-reads
 use Rattle.replication.proofs.starting.start.Reads as start-reads
 
--- src/wall_program.rt:75:25
 get4-requires : tie.Need-get4-requires
 get4-requires c κs = search needs
 
--- src/wall_program.rt:75:25
 cast-min : tie.Need-cast-min
 cast-min c = search needs
 
--- src/wall_program.rt:75:21
 add-min : tie.Need-add-min
 add-min c = search needs
 
--- src/wall_program.rt:75:9
 min-requires : tie.Need-min-requires
 min-requires c κs = search needs
 
--- src/wall_program.rt:76:25
 slice-aggregate-start : tie.Need-slice-aggregate-start
 slice-aggregate-start c = sym (length-take-le _ (c .before .before .before .before .before .args .input .now) (c .before .min .ensures .2))
 
--- src/wall_program.rt:76:9
 start-requires : tie.Need-start-requires
 start-requires c κs = search needs
 
--- src/wall_program.rt:78:9
 write-refusal-requires : tie.Need-write-refusal-requires
 write-refusal-requires c κs = search needs
 
--- src/wall_program.rt:78:9
 same-length : tie.Need-same-length
 same-length c = search needs
 
--- src/wall_program.rt:78:9
 returns : tie.Need-returns
 returns c = played-refused (c .before .before .before .before .before .before .before .before .before .before .before .before .args .input .now) _ (end-is (length (c .before .before .before .before .before .before .before .before .before .before .before .before .args .input .now)) (c .before .before .before .before .before .before .before .before .before .get4 .ensures) (c .before .before .before .before .before .before .before .before .min .ensures .0)) _ (c .before .before .before .before .before .before .start .ensures) (c .before .before .before .before .if1 .taken) _ _ _ (c .before .before .write-refusal .ensures)
 
--- src/wall_program.rt:81:35
 sub-deliver-all : tie.Need-sub-deliver-all
 sub-deliver-all c = omega arith
 
--- src/wall_program.rt:81:35
 part-deliver-all-start : tie.Need-part-deliver-all-start
 part-deliver-all-start c = omega arith
 
--- src/wall_program.rt:81:35
 part-deliver-all-end : tie.Need-part-deliver-all-end
 part-deliver-all-end c = search needs
 
--- src/wall_program.rt:81:9
 deliver-all-requires : tie.Need-deliver-all-requires
 deliver-all-requires c κs = c .before .before .before .before .start .ensures .valid
 
--- src/wall_program.rt:83:5
 write-sketch-requires : tie.Need-write-sketch-requires
 write-sketch-requires c κs = search needs
 
--- src/wall_program.rt:72:1
 same-length-2 : tie.Need-same-length-2
 same-length-2 c = search needs
 
--- src/wall_program.rt:72:1
 returns-2 : tie.Need-returns-2
-returns-2 c = played-shown (c .before .before .before .before .before .before .before .before .before .before .before .before .before .before .before .before .args .input .now) _ (end-is (length (c .before .before .before .before .before .before .before .before .before .before .before .before .before .before .before .before .args .input .now)) (c .before .before .before .before .before .before .before .before .before .before .before .before .before .get4 .ensures) (c .before .before .before .before .before .before .before .before .before .before .before .before .min .ensures .0)) _ (c .before .before .before .before .before .before .before .before .before .before .start .ensures) (c .before .before .before .before .before .before .before .before .if1 .left) _ (c .before .before .before .before .before .deliver-all .ensures) _ _ _ (c .before .before .write-sketch .ensures)
+returns-2 c = program-outcome (c .before .before .before .before .before .before .before .before .before .before .before .before .before .before .before .before .args .input .now) _ (end-is (length (c .before .before .before .before .before .before .before .before .before .before .before .before .before .before .before .before .args .input .now)) (c .before .before .before .before .before .before .before .before .before .before .before .before .before .get4 .ensures) (c .before .before .before .before .before .before .before .before .before .before .before .before .min .ensures .0)) _ (c .before .before .before .before .before .before .before .before .before .before .start .ensures) (c .before .before .before .before .before .before .before .before .if1 .left) _ (c .before .before .before .before .before .deliver-all .ensures) _ _ _ (c .before .before .write-sketch .ensures)
 
 pub run-program-spec : {M : Type 1} → statement M
 run-program-spec =

@@ -7,39 +7,30 @@ use Rattle.replication.proofs.wall_program.write_refusal.Tie as tie
 use Rattle.replication.proofs.wall_program.write_refusal.Reads as reads
 use Rattle.replication.proofs.wall_program.write_refusal.Lts as lts
 
--- src/wall_program.rt:46:9
 returns : tie.Need-returns
 returns c = refusal-short _ _ (c .if1 .taken)
 
--- src/wall_program.rt:48:5
 slice-write-out : tie.Need-slice-write-out
 slice-write-out c = search needs
 
--- src/wall_program.rt:49:5
 slice-write-out-2 : tie.Need-slice-write-out-2
 slice-write-out-2 c = simp length-set (omega arith)
 
--- src/wall_program.rt:50:5
 slice-write-out-3 : tie.Need-slice-write-out-3
 slice-write-out-3 c = simp length-set (omega arith)
 
--- src/wall_program.rt:51:5
 slice-write-out-4 : tie.Need-slice-write-out-4
 slice-write-out-4 c = simp length-set (omega arith)
 
--- src/wall_program.rt:52:5
 slice-write-out-5 : tie.Need-slice-write-out-5
 slice-write-out-5 c = simp length-set (omega arith)
 
--- src/wall_program.rt:53:5
 slice-write-out-6 : tie.Need-slice-write-out-6
 slice-write-out-6 c = simp length-set (omega arith)
 
--- src/wall_program.rt:42:1
 same-length : tie.Need-same-length
 same-length c = search needs
 
--- src/wall_program.rt:42:1
 returns-2 : tie.Need-returns-2
 returns-2 c = refusal-written _ _ (c .if1 .left)
 

@@ -10,47 +10,36 @@ use Rattle.replication.proofs.wall_program.write_sketch.Reads as reads
 use Rattle.replication.proofs.wall_program.write_sketch.Lts as lts
 use Rattle.image.proofs.write.Reads as write-reads
 
--- src/wall_program.rt:61:8
 write-requires : tie.Need-write-requires
 write-requires c κs = search needs
 
--- src/wall_program.rt:62:9
 same-length : tie.Need-same-length
 same-length c = search needs
 
--- src/wall_program.rt:62:9
 returns : tie.Need-returns
 returns c = sketch-short (c .before .before .before .before .before .before .args .sk) (c .before .before .before .before .before .before .pre) _ _ _ (c .before .before .before .write .ensures) (c .if1 .taken)
 
--- src/wall_program.rt:67:10
 mul-result : tie.Need-mul-result
 mul-result c = let w = sketch-valid (c .before .before .before .before .before .before .args .sk) (c .before .before .before .before .before .before .pre) .0 in omega (arith, w .points, w .curves, w .relations)
 
--- src/wall_program.rt:67:5
 add-result : tie.Need-add-result
 add-result c = let w = sketch-valid (c .before .before .before .before .before .before .args .sk) (c .before .before .before .before .before .before .pre) .0 in omega (arith, w .points, w .curves, w .relations)
 
--- src/wall_program.rt:67:20
 mul-result-2 : tie.Need-mul-result-2
 mul-result-2 c = let w = sketch-valid (c .before .before .before .before .before .before .args .sk) (c .before .before .before .before .before .before .pre) .0 in omega (arith, w .points, w .curves, w .relations)
 
--- src/wall_program.rt:67:5
 add-result-2 : tie.Need-add-result-2
 add-result-2 c = let w = sketch-valid (c .before .before .before .before .before .before .args .sk) (c .before .before .before .before .before .before .pre) .0 in omega (arith, w .points, w .curves, w .relations)
 
--- src/wall_program.rt:67:30
 mul-result-3 : tie.Need-mul-result-3
 mul-result-3 c = let w = sketch-valid (c .before .before .before .before .before .before .args .sk) (c .before .before .before .before .before .before .pre) .0 in omega (arith, w .points, w .curves, w .relations)
 
--- src/wall_program.rt:67:5
 add-result-3 : tie.Need-add-result-3
 add-result-3 c = let w = sketch-valid (c .before .before .before .before .before .before .args .sk) (c .before .before .before .before .before .before .pre) .0 in omega (arith, w .points, w .curves, w .relations)
 
--- src/wall_program.rt:57:1
 same-length-2 : tie.Need-same-length-2
 same-length-2 c = search needs
 
--- src/wall_program.rt:57:1
 returns-2 : tie.Need-returns-2
 returns-2 c = sketch-written (c .before .before .before .before .before .before .args .sk) (c .before .before .before .before .before .before .pre) _ _ _ (c .before .before .before .write .ensures) (sym (length-map (c .before .before .before .before .before .before .args .sk .points) _) ∙ c .before .before .before .before .before .before .good .0 .1 .1 .1 .1 .1 .1 .0 .1 .0 .1) (sym (length-map (c .before .before .before .before .before .before .args .sk .curves) _) ∙ c .before .before .before .before .before .before .good .0 .1 .1 .1 .1 .1 .1 .1 .0 .1 .0 .1) (sym (length-map (c .before .before .before .before .before .before .args .sk .relations) _) ∙ c .before .before .before .before .before .before .good .0 .1 .1 .1 .1 .1 .1 .1 .1 .0 .1 .0 .1) (c .if1 .left)
 

@@ -1,4 +1,4 @@
--- `sketch::points_fault` meets its contract. The invariant: the verdict on what is left is the verdict on all, and the column holds the ids that are done.
+-- `sketch::points_fault` meets its contract. The invariant: the walkFault on what is left is the walkFault on all, and the column holds the ids that are done.
 use mathlib.Core.Path.{_≡_, refl, sym, _∙_}
 use mathlib.Core.Bool.{true}
 use Prim.Native.Nat.{_-_}

@@ -1,4 +1,4 @@
--- `sketch::relations_fault` meets its contract. The invariant: the verdict on what is left is the verdict on all.
+-- `sketch::relations_fault` meets its contract. The invariant: the walkFault on what is left is the walkFault on all.
 use mathlib.Core.Path.{_≡_, sym, _∙_}
 use mathlib.Core.Bool.{true}
 use Prim.Native.Nat.{_-_}

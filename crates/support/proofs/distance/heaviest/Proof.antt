@@ -2,14 +2,14 @@ use Prim.Native.Nat.{_-_, _≤_}
 use mathlib.Core.Path.{_≡_, refl, sym, _∙_}
 use lib.ListN.{length, drop}
 use Rattle.float.specs.Numbers.{1f}
-use Rattle.support.specs.Hits.{largest}
+use Rattle.support.specs.Hits.{maxOf}
 use Rattle.support.proofs.Offsets.{heavier, heaviest-so-far}
 use borrow.Author.Needs.{needs}
 use Rattle.support.proofs.distance.heaviest.Statement.{statement}
 use Rattle.support.proofs.distance.heaviest.Tie as tie
 
 abbrev Inv-loop : tie.InvT-loop
-Inv-loop ws m₀ i₀ m i = (i ≤ length ws) × (largest m (drop i ws) ≡ largest 1f ws)
+Inv-loop ws m₀ i₀ m i = (i ≤ length ws) × (maxOf m (drop i ws) ≡ maxOf 1f ws)
 
 abbrev μ-loop : tie.MeasureT-loop
 μ-loop ws m₀ i₀ m i = length ws - i

@@ -41,20 +41,20 @@ returns c = astray _ _ _ _ _ _ _ _ _ _ (c .before .before .before .before .befor
 add-i : tie.Need-add-i Inv-loop μ-loop
 add-i c = search needs
 
-slice-reshare-prefix-near : tie.Need-slice-reshare-prefix-near Inv-loop μ-loop
-slice-reshare-prefix-near c = search needs
+slice-reshare-prefix-has-near-hit : tie.Need-slice-reshare-prefix-has-near-hit Inv-loop μ-loop
+slice-reshare-prefix-has-near-hit c = search needs
 
-slice-aggregate-near : tie.Need-slice-aggregate-near Inv-loop μ-loop
-slice-aggregate-near c = countX _ _ _ _ _ _ _ _ _ _ (c .before .before .before .before .before .before .loop .inv)
+slice-aggregate-has-near-hit : tie.Need-slice-aggregate-has-near-hit Inv-loop μ-loop
+slice-aggregate-has-near-hit c = countX _ _ _ _ _ _ _ _ _ _ (c .before .before .before .before .before .before .loop .inv)
 
-slice-reshare-prefix-near-2 : tie.Need-slice-reshare-prefix-near-2 Inv-loop μ-loop
-slice-reshare-prefix-near-2 c = search needs
+slice-reshare-prefix-has-near-hit-2 : tie.Need-slice-reshare-prefix-has-near-hit-2 Inv-loop μ-loop
+slice-reshare-prefix-has-near-hit-2 c = search needs
 
-slice-aggregate-near-2 : tie.Need-slice-aggregate-near-2 Inv-loop μ-loop
-slice-aggregate-near-2 c = countY _ _ _ _ _ _ _ _ _ _ (c .before .before .before .before .before .before .before .loop .inv)
+slice-aggregate-has-near-hit-2 : tie.Need-slice-aggregate-has-near-hit-2 Inv-loop μ-loop
+slice-aggregate-has-near-hit-2 c = countY _ _ _ _ _ _ _ _ _ _ (c .before .before .before .before .before .before .before .loop .inv)
 
-near-requires : tie.Need-near-requires Inv-loop μ-loop
-near-requires c κs = paired _ _ _ _ _ _ _ _ _ _ (c .before .before .before .before .before .before .before .loop .inv)
+has-near-hit-requires : tie.Need-has-near-hit-requires Inv-loop μ-loop
+has-near-hit-requires c κs = paired _ _ _ _ _ _ _ _ _ _ (c .before .before .before .before .before .before .before .loop .inv)
 
 mul-qx : tie.Need-mul-qx Inv-loop μ-loop
 mul-qx c = search needs
@@ -75,13 +75,13 @@ loop-less : tie.Need-loop-less Inv-loop μ-loop
 loop-less c = search needs
 
 loop-again : tie.Need-loop-again Inv-loop μ-loop
-loop-again c = push _ _ _ _ _ _ _ _ _ _ (c .before .before .before .before .before .before .before .before .before .loop .inv) (c .before .before .before .before .before .before .before .before .loop-test .taken) _ (c .before .before .before .before .before .before .curve-point .ensures) _ (c .before .before .before .before .before .dist2 .ensures) (not-false _ (c .before .before .before .before .if1 .left)) (sym (c .before .near .ensures) ∙ not-true _ (c .if2 .taken))
+loop-again c = push _ _ _ _ _ _ _ _ _ _ (c .before .before .before .before .before .before .before .before .before .loop .inv) (c .before .before .before .before .before .before .before .before .loop-test .taken) _ (c .before .before .before .before .before .before .curve-point .ensures) _ (c .before .before .before .before .before .dist2 .ensures) (not-false _ (c .before .before .before .before .if1 .left)) (sym (c .before .has-near-hit .ensures) ∙ not-true _ (c .if2 .taken))
 
 loop-less-2 : tie.Need-loop-less-2 Inv-loop μ-loop
 loop-less-2 c = search needs
 
 loop-again-2 : tie.Need-loop-again-2 Inv-loop μ-loop
-loop-again-2 c = skip _ _ _ _ _ _ _ _ _ _ (c .before .before .before .before .before .before .before .before .before .loop .inv) (c .before .before .before .before .before .before .before .before .loop-test .taken) _ (c .before .before .before .before .before .before .curve-point .ensures) _ (c .before .before .before .before .before .dist2 .ensures) (not-false _ (c .before .before .before .before .if1 .left)) (sym (c .before .near .ensures) ∙ not-false _ (c .if2 .left))
+loop-again-2 c = skip _ _ _ _ _ _ _ _ _ _ (c .before .before .before .before .before .before .before .before .before .loop .inv) (c .before .before .before .before .before .before .before .before .loop-test .taken) _ (c .before .before .before .before .before .before .curve-point .ensures) _ (c .before .before .before .before .before .dist2 .ensures) (not-false _ (c .before .before .before .before .if1 .left)) (sym (c .before .has-near-hit .ensures) ∙ not-false _ (c .if2 .left))
 
 same-length-3 : tie.Need-same-length-3 Inv-loop μ-loop
 same-length-3 c = search needs
@@ -107,11 +107,11 @@ resolve-spec =
     same-length-2
     returns
     add-i
-    slice-reshare-prefix-near
-    slice-aggregate-near
-    slice-reshare-prefix-near-2
-    slice-aggregate-near-2
-    near-requires
+    slice-reshare-prefix-has-near-hit
+    slice-aggregate-has-near-hit
+    slice-reshare-prefix-has-near-hit-2
+    slice-aggregate-has-near-hit-2
+    has-near-hit-requires
     mul-qx
     slice-write-qx
     mul-qy

@@ -1,4 +1,4 @@
--- `edit_plan::release_extent` meets its contract.
+-- `edit_plan::release_relation` meets its contract.
 use mathlib.Core.Path.{_∙_}
 use borrow.Author.Tests.{eq-eqb, ne-eqb}
 use borrow.Author.Needs.{needs}
@@ -6,8 +6,8 @@ use Rattle.edit_plan.specs.Steps.{releaseRelation, measured}
 use Rattle.edit_plan.specs.Changes.{chord}
 use Rattle.edit_plan.proofs.Leaves.{equal-left}
 use Rattle.edit_plan.proofs.Arms.{not-released}
-use Rattle.edit_plan.proofs.removal.release_extent.Statement.{statement}
-use Rattle.edit_plan.proofs.removal.release_extent.Tie as tie
+use Rattle.edit_plan.proofs.removal.release_relation.Statement.{statement}
+use Rattle.edit_plan.proofs.removal.release_relation.Tie as tie
 
 enum-known-v : tie.Need-enum-known-v
 enum-known-v c = search needs
@@ -68,8 +68,8 @@ returns-7 c = simp (c .drop-if4 .ensures, c .before .before .before .v5 .given .
 returns-8 : tie.Need-returns-8
 returns-8 c = not-released (c .before .args .e .id) (chord (c .before .args .e)) (c .before .args .v) (c .match .keys6)
 
-pub release-extent-spec : {M : Type 1} → statement M
-release-extent-spec =
+pub release-relation-spec : {M : Type 1} → statement M
+release-relation-spec =
     tie.close
     (tie.spec
     enum-known-v

@@ -1,8 +1,8 @@
 use mathlib.Core.Path.{sym, _∙_}
 use Rattle.bernstein.proofs.KnotWalks.{left-zero, right-zero, neither}
 use borrow.Author.Needs.{needs}
-use Rattle.bernstein.proofs.level.no_bracket.Statement.{statement}
-use Rattle.bernstein.proofs.level.no_bracket.Tie as tie
+use Rattle.bernstein.proofs.level.no_sign_change.Statement.{statement}
+use Rattle.bernstein.proofs.level.no_sign_change.Tie as tie
 
 is-zero-requires : tie.Need-is-zero-requires
 is-zero-requires c κs = search needs
@@ -22,7 +22,7 @@ same-sign-requires c κs = search needs
 returns-3 : tie.Need-returns-3
 returns-3 c = c .same-sign .ensures ∙ neither _ _ _ (sym (c .before .before .before .before .is-zero .ensures) ∙ c .before .before .before .if1 .left) (sym (c .before .before .is-zero2 .ensures) ∙ c .before .if2 .left)
 
-pub no-bracket-spec : {M : Type 1} → statement M
-no-bracket-spec =
+pub no-sign-change-spec : {M : Type 1} → statement M
+no-sign-change-spec =
     tie.close
     (tie.spec is-zero-requires returns is-zero-requires-2 returns-2 same-sign-requires returns-3)

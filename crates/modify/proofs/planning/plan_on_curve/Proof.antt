@@ -2,8 +2,8 @@ use mathlib.Core.Path.{refl}
 use Rattle.sketch.specs.Drawing.{view}
 use native.Mathlib.Omega.{arith}
 use borrow.Author.Needs.{needs}
-use Rattle.modify.proofs.planning.plan_edit.Statement.{statement}
-use Rattle.modify.proofs.planning.plan_edit.Tie as tie
+use Rattle.modify.proofs.planning.plan_on_curve.Statement.{statement}
+use Rattle.modify.proofs.planning.plan_on_curve.Tie as tie
 
 mul-c : tie.Need-mul-c
 mul-c c = search needs
@@ -19,5 +19,5 @@ returns c =
     let s = c .before .before .before .before .before .before .before in
     c .plan-from .ensures (view (s .args .sk)) (record { points = s .pre .3; curves = refl })
 
-pub plan-edit-spec : {M : Type 1} → statement M
-plan-edit-spec = tie.close (tie.spec mul-c array-copy-out-c plan-from-requires returns)
+pub plan-on-curve-spec : {M : Type 1} → statement M
+plan-on-curve-spec = tie.close (tie.spec mul-c array-copy-out-c plan-from-requires returns)

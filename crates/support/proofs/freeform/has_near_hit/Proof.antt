@@ -3,8 +3,8 @@ use mathlib.Core.Path.{_≡_, refl, sym, _∙_}
 use lib.ListN.{length}
 use Rattle.support.proofs.Resolving.{nearFrom, near-this, near-next, near-none}
 use borrow.Author.Needs.{needs}
-use Rattle.support.proofs.freeform.near.Statement.{statement}
-use Rattle.support.proofs.freeform.near.Tie as tie
+use Rattle.support.proofs.freeform.has_near_hit.Statement.{statement}
+use Rattle.support.proofs.freeform.has_near_hit.Tie as tie
 
 abbrev Inv-loop : tie.InvT-loop
 Inv-loop q xs ys i₀ i = (i ≤ length xs) × (nearFrom q xs ys i ≡ nearFrom q xs ys 0)
@@ -48,8 +48,8 @@ loop-again c = (search needs, near-next _ _ _ _ (c .before .before .before .befo
 returns-2 : tie.Need-returns-2 Inv-loop μ-loop
 returns-2 c = sym (near-none _ _ _ _ (c .loop-test .left)) ∙ c .before .loop .inv .1
 
-pub near-spec : {M : Type 1} → statement M
-near-spec =
+pub has-near-hit-spec : {M : Type 1} → statement M
+has-near-hit-spec =
     tie.close
     (tie.spec
     Inv-loop
