@@ -143,13 +143,13 @@ over-one l at x h = rw (set-split l at x h, add-one)
 
 -- ---- the same, or nothing
 
-pub placed-fits : (l : List ℕ) (at : ℕ) (b : List ℕ) → at + length b ≤ length l → overIfFits l at b ≡ over l at b
+pub over-fits : (l : List ℕ) (at : ℕ) (b : List ℕ) → at + length b ≤ length l → overIfFits l at b ≡ over l at b
 unfolding overIfFits
-placed-fits l at b h = rw (le-leb _ _ h)
+over-fits l at b h = rw (le-leb _ _ h)
 
-pub placed-not : (l : List ℕ) (at : ℕ) (b : List ℕ) → length l < at + length b → overIfFits l at b ≡ l
+pub over-not : (l : List ℕ) (at : ℕ) (b : List ℕ) → length l < at + length b → overIfFits l at b ≡ l
 unfolding overIfFits
-placed-not l at b h = rw (lt-leb _ _ h)
+over-not l at b h = rw (lt-leb _ _ h)
 
 -- two parts side by side are one
 pub part-join : (s : List ℕ) (at n m : ℕ) → part s at n ++ part s (at + n) m ≡ part s at (n + m)
@@ -164,7 +164,7 @@ pub record Run (l : List ℕ) (at k : ℕ) (b now : List ℕ) : Type 0 where
 pub run-starts : (l : List ℕ) (at n v : ℕ) {then : List ℕ} → at + n ≤ length l → then ≡ overIfFits l at (bytes n v) → Run l at n (bytes n v) then
 run-starts l at n v h f =
     let q : length (bytes n v) ≡ n = length-bytes n v in
-    record { is = f ∙ placed-fits l at (bytes n v) (omega arith); long = q }
+    record { is = f ∙ over-fits l at (bytes n v) (omega arith); long = q }
 
 pub run-over : (l : List ℕ) (at k n : ℕ) (a b : List ℕ) (now then : List ℕ) → at + (k + n) ≤ length l → length b ≡ n → Run l at k a now → then ≡ over now (at + k) b → Run l at (k + n) (a ++ b) then
 run-over l at k n a b now then h e w f =
@@ -176,19 +176,19 @@ run-puts l at k n v a now then h w f =
     let z = w .long in
     let e : length now ≡ length l = rw (w .is) (length-over l at a (omega arith)) in
     let q : length (bytes n v) ≡ n = length-bytes n v in
-    run-over l at k n a (bytes n v) now then h q w (f ∙ placed-fits now (at + k) (bytes n v) (omega arith))
+    run-over l at k n a (bytes n v) now then h q w (f ∙ over-fits now (at + k) (bytes n v) (omega arith))
 
 -- ---- a number written: its low byte, its low bytes, or nothing where they don't fit
 
 pub put-byte : (l : List ℕ) (at v : ℕ) → at < length l → set l at (v % 256) ≡ overIfFits l at (bytes 1 v)
 unfolding bytes
-put-byte l at v h = rw (over-one l at (v % 256) h) (sym (placed-fits l at (v % 256 ∷ []) (omega arith)))
+put-byte l at v h = rw (over-one l at (v % 256) h) (sym (over-fits l at (v % 256 ∷ []) (omega arith)))
 
 pub put-bytes : (l : List ℕ) (at n v : ℕ) {then : List ℕ} → at + n ≤ length l → then ≡ over l at (bytes n v) → then ≡ overIfFits l at (bytes n v)
-put-bytes l at n v h e = e ∙ sym (placed-fits l at (bytes n v) (rw length-bytes h))
+put-bytes l at n v h e = e ∙ sym (over-fits l at (bytes n v) (rw length-bytes h))
 
 pub put-nothing : (l : List ℕ) (at n v : ℕ) → length l < at + n → l ≡ overIfFits l at (bytes n v)
-put-nothing l at n v h = sym (placed-not l at (bytes n v) (rw length-bytes h))
+put-nothing l at n v h = sym (over-not l at (bytes n v) (rw length-bytes h))
 
 -- one half after the other
 pub store-halves : (l : List ℕ) (at h v : ℕ) {now then : List ℕ} → at + (h + h) ≤ length l → now ≡ over l at (bytes h (v / 256 ^ h)) → then ≡ over now (at + h) (bytes h v)

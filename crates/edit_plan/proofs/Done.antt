@@ -83,9 +83,9 @@ module _ (s : Sketch) (z : Sized s) (lp : length (s .points) ≡ 512) (lc : leng
         let e : getD (view s .curves) k noCurve ≡ c = getD-take (s .ncurves) (s .curves) k noCurve below in
         ap (λ (x : Curve). curveIn (view s .curves) (x .id)) (sym e) ∙ look-at noCurve (s .next) 0 (view s .curves) k (v .curves-rise) (omega (arith, count-curves)) ∙ ap some e
 
-    carry-is : (met : Drawing → Bool) (plan : Plan) → applyPlan met limits (view s) (c .id) plan ≡ applyPlanTo met limits (view s) c plan
+    apply-is : (met : Drawing → Bool) (plan : Plan) → applyPlan met limits (view s) (c .id) plan ≡ applyPlanTo met limits (view s) c plan
     unfolding applyPlanAt
-    carry-is met plan = ap (applyPlanAt met limits (view s) plan) found
+    apply-is met plan = ap (applyPlanAt met limits (view s) plan) found
 
     module _ (plan : Plan) (su : Suited (view s) c plan) where
       abbrev e : Extent
@@ -101,7 +101,7 @@ module _ (s : Sketch) (z : Sized s) (lp : length (s .points) ≡ 512) (lc : leng
       made = accepted (finalOf (view s) c h e (orphansOf (view s) c plan)) (h .removed)
 
       decided : (met : Drawing → Bool) → isWhole plan ≡ false → applyPlan met limits (view s) (c .id) plan ≡ unlessRefused (refusalFor s (c .kind) e plan) made
-      decided met q = carry-is met plan ∙ cuts-bridge v c found met k (s .ncurves) plan su q ∙ ap (λ x. unlessRefused x made) (number-is q)
+      decided met q = apply-is met plan ∙ cuts-bridge v c found met k (s .ncurves) plan su q ∙ ap (λ x. unlessRefused x made) (number-is q)
 
       -- ---- refused
 
@@ -140,7 +140,7 @@ module _ (s : Sketch) (z : Sized s) (lp : length (s .points) ≡ 512) (lc : leng
           record {
             outcome =
                 λ met. ap (λ x. accepted x (record { curve = c .id; from = startOf (c .kind); to = endOf (c .kind) })) (f ∙ ap (λ x. restOf (view s) c (extentOf (c .kind) (c .id) x) (orphansOf (view s) c x)) p)
-                ∙ sym (carry-is met plan ∙ ap (applyPlanTo met limits (view s) c) p ∙ whole-bridge v c found met (ap (suits (c .kind)) (sym p) ∙ su .kind));
+                ∙ sym (apply-is met plan ∙ ap (applyPlanTo met limits (view s) c) p ∙ whole-bridge v c found met (ap (suits (c .kind)) (sym p) ∙ su .kind));
             kept = λ ne. absurd (ne refl);
             sized = λ _. y;
           }

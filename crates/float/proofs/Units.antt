@@ -34,9 +34,9 @@ pow-le-back a l h = not-above (λ (g : l < a). lt-irrefl (2 ^ l) (lt-of-lt-of-le
     not-above : {a b : ℕ} → (a < b → ⊥) → b ≤ a
     not-above g = omega arith
 
-placed : (l m : ℕ) (e : ℤ) → down e ≤ 2 ^ l → (j : ℕ) × (m * up e * 2 ^ l ≡ m * 2 ^ j * down e)
-placed l m (pos a) h = (a + l, mul-assoc m (2 ^ a) (2 ^ l) ∙ ap (λ (x : ℕ). m * x) (sym (pow-add 2 a l)) ∙ sym (mul-one (m * 2 ^ (a + l))))
-placed l m (negsuc a) h = (
+scaled-whole : (l m : ℕ) (e : ℤ) → down e ≤ 2 ^ l → (j : ℕ) × (m * up e * 2 ^ l ≡ m * 2 ^ j * down e)
+scaled-whole l m (pos a) h = (a + l, mul-assoc m (2 ^ a) (2 ^ l) ∙ ap (λ (x : ℕ). m * x) (sym (pow-add 2 a l)) ∙ sym (mul-one (m * 2 ^ (a + l))))
+scaled-whole l m (negsuc a) h = (
   l - suc a,
   ap (λ (x : ℕ). x * 2 ^ l) (mul-one m)
       ∙ ap (λ (x : ℕ). m * x) (ap (λ (x : ℕ). 2 ^ x) (sym (back l (suc a) (pow-le-back (suc a) l h))) ∙ pow-add 2 (l - suc a) (suc a))
@@ -55,7 +55,7 @@ in-units f (fin false (suc m) e) h p =
     let B = ltb (suc m) (2 ^ prec f) in
     let C = leb (down e) (2 ^ low f) in
     let D = ltb (suc m * up e) (2 ^ suc (emax f) * down e) in
-    let z = placed (low f) (suc m) e (leb→le (down e) (2 ^ low f) (and-r (A && B) C (and-l (A && B && C) D h))) in
+    let z = scaled-whole (low f) (suc m) e (leb→le (down e) (2 ^ low f) (and-r (A && B) C (and-l (A && B && C) D h))) in
     (suc m * 2 ^ z .0, (refl, z .1), record { digits = suc m; zeros = z .0; is = refl; short = ltb→lt (suc m) (2 ^ prec f) (and-r A B (and-l (A && B) C (and-l (A && B && C) D h))) })
 
 pub in-range : (f : Format) (x : Float) → T (fits f x) → T (plain x) → num x < 2 ^ suc (emax f) * den x

@@ -8,7 +8,7 @@ use lib.ListN.{length, take, getD, set}
 use lib.Seq.{take-all}
 use lib.Dec.{ltb}
 use Rattle.sketch.specs.Valid.{tableFault, listFault}
-use Rattle.sketch.proofs.Walks.{Walk, walk-start, walk-four, walk-five, walk-on, walk-end, walkFault, placed, table-result, list-result, Column, column-start, column-on}
+use Rattle.sketch.proofs.Walks.{Walk, walk-start, walk-four, walk-five, walk-on, walk-end, walkFault, idAndSound, table-result, list-result, Column, column-start, column-on}
 use Rattle.image.specs.Image.{rowId}
 use Rattle.image.specs.Contracts.{RowsTested, SortsFilled, rowSort}
 
@@ -21,7 +21,7 @@ alone x e = and-true x ∙ e
 
 module _ (good sound : List ℕ → Bool) (next : ℕ) where
   abbrev fits : ℕ → List ℕ → Bool
-  fits = placed rowId sound next
+  fits = idAndSound rowId sound next
 
   -- i records are passed, the last of them with the id `last`
   pub record RowsWalk (rows : List (List ℕ)) (before ids : List ℕ) (last i : ℕ) : Type 0 where

@@ -147,9 +147,9 @@ module _ (met : Drawing → Bool) (m : Limits) (d′ : Drawing) (r : Removed) wh
         let ne : eqb b end ≡ false = ne-eqb b end (λ e. never (sym alone ∙ ap (λ (y : ℕ). among y (uses (others t (d .curves)))) (sym e) ∙ h)) in
         grown (Coincident end b) (one-more x (Coincident end b) (sym (ap (λ z. ite z (accepted x (tt {0})) (addRelation m x (Coincident end b)) then (λ y u. checkMet met y)) ne) ∙ q))
 
-    placed : (w : Pin) → PinHolds d t w → guard (okPosition v) 24 (pin m (movePoint end v d) end w then (λ y u. checkMet met y)) ≡ accepted d′ r → Extended d d′ r
+    move-pinned : (w : Pin) → PinHolds d t w → guard (okPosition v) 24 (pin m (movePoint end v d) end w then (λ y u. checkMet met y)) ≡ accepted d′ r → Extended d d′ r
     unfolding guard
-    placed w h q = go (okPosition v) q
+    move-pinned w h q = go (okPosition v) q
       where
         go : (b : Bool) → guard b 24 (pin m (movePoint end v d) end w then (λ y u. checkMet met y)) ≡ accepted d′ r → Extended d d′ r
         go true q = pinned w h q
@@ -166,7 +166,7 @@ module _ (m : Limits) (d : Drawing) (p : Vec2) (d′ : Drawing) (r : Removed) wh
       let w = extend-chosen d c p plan h .1 in
       let e : P.Move (w .at-end) (w .place) (w .pin) ≡ P.Move (l .atB) (g .place) (g .pin) = sym (w .is) ∙ g .is in
       let same : w .pin ≡ g .pin = cc in
-      placed allMet m d′ r d (c .id) (ite (l .atB) (l .j) (l .i)) (g .place) (l .alone) (g .pin) (subst (PinHolds d (c .id)) same (w .held))
+      move-pinned allMet m d′ r d (c .id) (ite (l .atB) (l .j) (l .i)) (g .place) (l .alone) (g .pin) (subst (PinHolds d (c .id)) same (w .held))
       (sym (ap (applyPlanTo allMet m d c) (g .is) ∙ ap (λ (k : CurveKind). moveEnd allMet m d (l .atB) (g .place) (g .pin) (endsOf k)) (l .line)) ∙ q)
 
   pub extend-moves : (t : ℕ) → editOf Extend m d t p ≡ accepted d′ r → Extended d d′ r

@@ -120,8 +120,8 @@ module _ (image entries order : List ℕ) (room : ℕ) (s : Started) (st : Start
     no-room h = record { number = sym (or-second (I.imageFault image) _ fault-none ∙ rw h); held = λ z. absurd (omega arith) }
 
     module _ (enough : hasRoom (length entries) room ≡ true) (log : List ℕ) (w : Replica) (r : DeskRan start (callsIn entries) log w) where
-      ledger-long : length (acceptedLog protocol (initial (I.drawingOf image)) (callsIn entries)) ≡ w .count
-      ledger-long =
+      log-long : length (acceptedLog protocol (initial (I.drawingOf image)) (callsIn entries)) ≡ w .count
+      log-long =
           ap (λ (d : Drawing). length (acceptedLog protocol (initial d) (callsIn entries))) start-is
           ∙ ap (λ (cs : List (Call Edit)). length (acceptedLog protocol (initial start) cs)) (sym (r .fed))
           ∙ sym (length-map (acceptedLog protocol (initial start) (calls (r .steps))) (written protocol))
@@ -132,7 +132,7 @@ module _ (image entries order : List ℕ) (room : ℕ) (s : Started) (st : Start
       unfolding guardNumber
       beyond h =
           record {
-            number = sym (or-second (I.imageFault image) _ fault-none ∙ rw enough (ap (λ (n : ℕ). guardNumber (allBelow n order) 7 0) ledger-long ∙ rw h));
+            number = sym (or-second (I.imageFault image) _ fault-none ∙ rw enough (ap (λ (n : ℕ). guardNumber (allBelow n order) 7 0) log-long ∙ rw h));
             held = λ z. absurd (omega arith);
           }
 
@@ -143,7 +143,7 @@ module _ (image entries order : List ℕ) (room : ℕ) (s : Started) (st : Start
           let fed = a .fed ∙ log-holds start (callsIn entries) log order w r b in
           let run : WallRun protocol (initial start) (a .steps) = subst (λ (u : State Drawing). WallRun protocol u (a .steps)) state-is (a .run) in
           record {
-            number = sym (or-second (I.imageFault image) _ fault-none ∙ rw enough (ap (λ (n : ℕ). guardNumber (allBelow n order) 7 0) ledger-long ∙ rw h));
+            number = sym (or-second (I.imageFault image) _ fault-none ∙ rw enough (ap (λ (n : ℕ). guardNumber (allBelow n order) 7 0) log-long ∙ rw h));
             held = λ z. record {
               start = start;
               image-is = image-is;

@@ -14,7 +14,7 @@ use Rattle.sketch.specs.Lookup.{among, sortAmong}
 use Rattle.sketch.specs.Valid.{okPoint, okCurve, okRelation, sortOf, soundCurve, soundRelation}
 use Rattle.sketch.specs.Columns.{PointsChecked, CurvesChecked, RelationsChecked}
 use Rattle.sketch.specs.Blanks.{noPoint, noCurve, noSlot}
-use Rattle.sketch.proofs.Walks.{Walk, walk-start, walk-four, walk-five, walk-on, walk-end, walkFault, placed, table-result, list-result, Column, column-start, column-on}
+use Rattle.sketch.proofs.Walks.{Walk, walk-start, walk-four, walk-five, walk-on, walk-end, walkFault, idAndSound, table-result, list-result, Column, column-start, column-on}
 
 -- ---- points
 
@@ -22,7 +22,7 @@ abbrev pointId : Point → ℕ
 pointId p = p .id
 
 abbrev pointFits : ℕ → ℕ → Point → Bool
-pointFits next = placed pointId (λ p. true) next
+pointFits next = idAndSound pointId (λ p. true) next
 
 -- i points of n are passed, the last of them with the id `last`
 pub record PointsWalk (next : ℕ) (points : List Point) (n : ℕ) (before ids : List ℕ) (last i : ℕ) : Type 0 where
@@ -79,7 +79,7 @@ abbrev curveSound : List ℕ → Curve → Bool
 curveSound points = soundCurve (λ p. among p points)
 
 abbrev curveFits : ℕ → List ℕ → ℕ → Curve → Bool
-curveFits next points = placed curveId (curveSound points) next
+curveFits next points = idAndSound curveId (curveSound points) next
 
 -- i curves of n are passed, the last of them with the id `last`
 pub record CurvesWalk (next : ℕ) (points : List ℕ) (curves : List Curve) (n : ℕ) (before was ids sorts : List ℕ) (last i : ℕ) : Type 0 where

@@ -66,12 +66,12 @@ module _ {A : Type 0} (ok : A → Bool) (fits : ℕ → A → Bool) (id : A → 
 
 module _ {A : Type 0} where
   -- a record of a table with ids fits where its id is above the last and below the next, and its references are sound
-  abbrev pub placed : (A → ℕ) → (A → Bool) → ℕ → ℕ → A → Bool
-  placed id sound next last a = ltb last (id a) && ltb (id a) next && sound a
+  abbrev pub idAndSound : (A → ℕ) → (A → Bool) → ℕ → ℕ → A → Bool
+  idAndSound id sound next last a = ltb last (id a) && ltb (id a) next && sound a
 
-  pub table-result : (id : A → ℕ) (ok sound : A → Bool) (next last : ℕ) (l : List A) → walkFault ok (placed id sound next) id last l ≡ tableFault id ok sound next last l 0
+  pub table-result : (id : A → ℕ) (ok sound : A → Bool) (next last : ℕ) (l : List A) → walkFault ok (idAndSound id sound next) id last l ≡ tableFault id ok sound next last l 0
   table-result id ok sound next last [] = refl
-  table-result id ok sound next last (a ∷ l) = ap (λ t. guardNumber (ok a) 4 (guardNumber (placed id sound next last a) 5 t)) (table-result id ok sound next (id a) l)
+  table-result id ok sound next last (a ∷ l) = ap (λ t. guardNumber (ok a) 4 (guardNumber (idAndSound id sound next last a) 5 t)) (table-result id ok sound next (id a) l)
 
   -- a table without ids, of which each record stands in a slot
   pub list-result : {B : Type 0} (g : A → B) (ok sound : B → Bool) (l : List A) → walkFault (λ a. ok (g a)) (λ last a. sound (g a)) (λ a. 0) 0 l ≡ listFault ok sound (map g l)

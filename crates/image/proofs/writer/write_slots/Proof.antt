@@ -1,5 +1,5 @@
 use Rattle.sketch.specs.Lists.{concatMap}
-use Rattle.big_endian.specs.Laws.{length-bytes, placed-fits}
+use Rattle.big_endian.specs.Laws.{length-bytes, over-fits}
 use Rattle.big_endian.specs.Fields.{over, bytes}
 use Prim.Native.Nat.{ℕ}
 use lib.Seq.{take-all}
@@ -55,7 +55,7 @@ loop-again c =
     let l = c .before .before .before .before .before .loop in
     let w = l .inv .2 in
     let q = length-bytes 4 (getD (c .before .before .before .before .before .before .before .args .t3) (l .i) 0) in
-    (omega arith, l .inv .1, writing-turns (bytes 4) 4 (λ (l : List ℕ). l) (λ x. x) (λ l x. refl) _ _ _ (l .i) 0 _ _ (omega arith) (omega arith) q (c .before .before .put4 .ensures ∙ placed-fits _ _ _ (omega (arith, w .same-long))) w)
+    (omega arith, l .inv .1, writing-turns (bytes 4) 4 (λ (l : List ℕ). l) (λ x. x) (λ l x. refl) _ _ _ (l .i) 0 _ _ (omega arith) (omega arith) q (c .before .before .put4 .ensures ∙ over-fits _ _ _ (omega (arith, w .same-long))) w)
 
 same-length : tie.Need-same-length Inv-loop μ-loop
 same-length c = c .before .loop .inv .2 .same-long
