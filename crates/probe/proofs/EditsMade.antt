@@ -55,7 +55,7 @@ module _ (op : ℕ) (s : List ℕ) (t : ℕ) (p : Vec2) (before : List ℕ) wher
         buffer = rw f;
         no-place = λ x y. omega arith;
         unmet-before = λ i o k. absurd (n (e ∙ i));
-        unmet-after = λ i o k d′ told q. absurd (n (e ∙ i));
+        unmet-after = λ i o k d′ removed q. absurd (n (e ∙ i));
       }
 
   module _ (i : imageFault s ≡ 0) where
@@ -68,7 +68,7 @@ module _ (op : ℕ) (s : List ℕ) (t : ℕ) (p : Vec2) (before : List ℕ) wher
           buffer = rw (f, o);
           no-place = λ x y. refl;
           unmet-before = λ j o k. absurd (omega arith);
-          unmet-after = λ j o k d′ told q. absurd (omega arith);
+          unmet-after = λ j o k d′ removed q. absurd (omega arith);
         }
 
     -- ---- an edit
@@ -91,24 +91,24 @@ module _ (op : ℕ) (s : List ℕ) (t : ℕ) (p : Vec2) (before : List ℕ) wher
           let k = r .refusal in
           let w = reportedPlace k (r .place) % 65536 in
           let number-is : n % 65536 ≡ k = omega arith in
-          let place-is : n / 65536 ≡ w = omega arith in
+          let place-above : n / 65536 ≡ w = omega arith in
           let q : editImage op s t p ≡ refused k = outcome-is ∙ rw (ne-eqb k 0 z) in
           let u = sketch-valid sk f .1 in
           record {
             number = rw q number-is;
             buffer = rw q;
-            no-place = λ x y. place-is ∙ sym (nothing (λ h. x (number-is ∙ h)) (λ h. y (number-is ∙ h)));
+            no-place = λ x y. place-above ∙ sym (nothing (λ h. x (number-is ∙ h)) (λ h. y (number-is ∙ h)));
             unmet-before = λ j e h.
                 let m = a .unmet-before (extends e) (sym number-is ∙ h) in
                 let l = place-low (view sk) (r .place) u m in
-                subst (λ d. unmetAt d (n / 65536) ≡ true) v (subst (λ (j : ℕ). unmetAt (view sk) j ≡ true) (sym (place-is ∙ place-is k (r .place) (inl (sym number-is ∙ h)) (omega arith))) m);
-            unmet-after = λ j e h d′ told g.
-                let g1 : editUntested Extend limits (view sk) t p ≡ accepted d′ result-is = ap (λ d. editUntested Extend limits d t p) v ∙ g in
-                let g2 : editUntested (operationOf op) limits (view sk) t p ≡ accepted d′ result-is = ap (λ o. editUntested o limits (view sk) t p) (extends e) ∙ g1 in
-                let m = a .unmet-after (extends e) (sym number-is ∙ h) d′ told g2 in
-                let u2 = untested-valid (view sk) t p d′ told u g1 in
+                subst (λ d. unmetAt d (n / 65536) ≡ true) v (subst (λ (j : ℕ). unmetAt (view sk) j ≡ true) (sym (place-above ∙ place-is k (r .place) (inl (sym number-is ∙ h)) (omega arith))) m);
+            unmet-after = λ j e h d′ removed g.
+                let g1 : editUntested Extend limits (view sk) t p ≡ accepted d′ removed = ap (λ d. editUntested Extend limits d t p) v ∙ g in
+                let g2 : editUntested (operationOf op) limits (view sk) t p ≡ accepted d′ removed = ap (λ o. editUntested o limits (view sk) t p) (extends e) ∙ g1 in
+                let m = a .unmet-after (extends e) (sym number-is ∙ h) d′ removed g2 in
+                let u2 = untested-valid (view sk) t p d′ removed u g1 in
                 let l = place-low d′ (r .place) u2 m in
-                subst (λ (j : ℕ). unmetAt d′ j ≡ true) (sym (place-is ∙ place-is k (r .place) (inr (sym number-is ∙ h)) (omega arith))) m;
+                subst (λ (j : ℕ). unmetAt d′ j ≡ true) (sym (place-above ∙ place-is k (r .place) (inr (sym number-is ∙ h)) (omega arith))) m;
           }
         where
           nothing : (r .refusal ≡ 13 → ⊥) → (r .refusal ≡ 19 → ⊥) → 0 ≡ reportedPlace (r .refusal) (r .place) % 65536
@@ -124,7 +124,7 @@ module _ (op : ℕ) (s : List ℕ) (t : ℕ) (p : Vec2) (before : List ℕ) wher
             buffer = rw q (w .buffer);
             no-place = λ x y. above c;
             unmet-before = λ j e h. absurd (not-13 c h);
-            unmet-after = λ j e h d′ told g. absurd (not-19 c h);
+            unmet-after = λ j e h d′ removed g. absurd (not-19 c h);
           }
         where
           number-of : (b : Bool) → n ≡ numberOf (guard b 25 (accepted (view (r .sketch)) (r .removed))) → (n ≡ 0) ⊎ (n ≡ 25)

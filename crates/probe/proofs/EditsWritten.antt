@@ -67,9 +67,9 @@ module _ (sk : Sketch) (gone : Removed) (xs : List ℕ) where
 
     -- the three numbers of the report, one after the other
     module _ (z : n ≡ 0) (l m k : List ℕ) (a : l ≡ overIfFits (take 12 xs ++ (ys ++ drop (length xs - 12) rest)) 0 (bytes 4 (gone .curve))) (b : m ≡ overIfFits l 4 (bytes 4 (gone .from))) (c : k ≡ overIfFits m 8 (bytes 4 (gone .to))) where
-      pub edit-written : Wrote (accepted (view sk) gone) xs k 0
+      pub image-and-report-written : Wrote (accepted (view sk) gone) xs k 0
       unfolding guardNumber guard numberOf leftIn over
-      edit-written = go (leb size (length rest)) refl number-is part-is
+      image-and-report-written = go (leb size (length rest)) refl number-is part-is
         where
           front : List ℕ
           front = take 12 xs ++ (ys ++ drop (length xs - 12) rest)
@@ -81,7 +81,7 @@ module _ (sk : Sketch) (gone : Removed) (xs : List ℕ) where
           enough = omega (arith, length-append (take 12 xs) (ys ++ drop (length xs - 12) rest), twelve)
 
           report-written : Run front 0 12 ((bytes 4 (gone .curve) ++ bytes 4 (gone .from)) ++ bytes 4 (gone .to)) k
-          result-is =
+          report-written =
               run-puts front 0 8 4 (gone .to) (bytes 4 (gone .curve) ++ bytes 4 (gone .from)) m k (omega (arith, enough))
               (run-puts front 0 4 4 (gone .from) (bytes 4 (gone .curve)) l m (omega (arith, enough)) (run-starts front 0 4 (gone .curve) (omega (arith, enough)) a) b) c
 

@@ -1,5 +1,5 @@
 use borrow.Author.Needs.{needs}
-use Rattle.probe.proofs.EditsWritten.{report-short, image-short, edit-written}
+use Rattle.probe.proofs.EditsWritten.{report-short, image-short, image-and-report-written}
 use Rattle.probe.proofs.edits.write_edited.Statement.{statement}
 use Rattle.probe.proofs.edits.write_edited.Tie as tie
 
@@ -49,7 +49,7 @@ same-length-2 : tie.Need-same-length-2
 same-length-2 c = search needs
 
 returns-3 : tie.Need-returns-3
-returns-3 c = let at = c .before .before .before .before .before .before .before .before .before .before .before .before .before .before .before .before .before .before .before .before .before .before in edit-written (at .args .sk) (at .args .removed) (at .args .out .now) (at .pre) (c .before .before .before .before .before .before .before .before .before .before .before .before .before .before .before .before .before .before .before .before .if1 .left) _ _ (c .before .before .before .before .before .before .before .before .before .before .before .before .before .before .before .before .before .before .write .ensures) (c .before .before .before .before .before .before .before .before .before .before .before .before .before .before .before .if2 .left) _ _ _ (c .before .before .before .before .before .before .before .before .before .before .before .before .put4 .ensures) (c .before .before .before .before .before .before .before .put42 .ensures) (c .before .before .put43 .ensures)
+returns-3 c = let at = c .before .before .before .before .before .before .before .before .before .before .before .before .before .before .before .before .before .before .before .before .before .before in image-and-report-written (at .args .sk) (at .args .removed) (at .args .out .now) (at .pre) (c .before .before .before .before .before .before .before .before .before .before .before .before .before .before .before .before .before .before .before .before .if1 .left) _ _ (c .before .before .before .before .before .before .before .before .before .before .before .before .before .before .before .before .before .before .write .ensures) (c .before .before .before .before .before .before .before .before .before .before .before .before .before .before .before .if2 .left) _ _ _ (c .before .before .before .before .before .before .before .before .before .before .before .before .put4 .ensures) (c .before .before .before .before .before .before .before .put42 .ensures) (c .before .before .put43 .ensures)
 
 pub write-edited-spec : {M : Type 1} → statement M
 write-edited-spec =
