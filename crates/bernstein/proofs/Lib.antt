@@ -12,3 +12,4 @@ pub mod SortedLists
 pub mod KeptApart
 pub mod StepsSpent
 pub mod RefusedBy
+pub mod Answers

@@ -56,7 +56,7 @@ pub(crate) fn lies_on(sh: Shape, slack: f64, p: Vec2) -> bool
 }
 
 // Whether p is on the curve, its ends included, but for 1e-6. The slack costs a root, and most points are off.
-pub fn on_bounded(sh: Shape, p: Vec2) -> bool
+pub(crate) fn on_bounded(sh: Shape, p: Vec2) -> bool
     ensures { λ r. ⌜ r ≡ onBounded sh p ⌝ }
 {
     if is_off(sh, p) {

@@ -101,7 +101,7 @@ fn nth(c: Crossings, k: usize) -> Vec2
     ensures { λ r. ⌜ r ≡ crossingAt c k ⌝ }
 {
     match c {
-        Crossings::Zero => Vec2::new(0.0, 0.0),
+        Crossings::Zero => Vec2::ZERO,
         Crossings::One(p) => p,
         Crossings::Two(p, q) => {
             if k == 0 {

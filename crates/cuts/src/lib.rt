@@ -8,7 +8,6 @@ mod brackets;
 mod gather;
 mod nearest;
 
-pub use bounded::on_bounded;
 pub use brackets::bracket;
 
 // A line or round that may cut: its id, whether it is an infinite line, and its shape.

@@ -116,6 +116,8 @@ module _ (s : Sketch) (z : Sized s) (lp : length (s .points) ≡ 512) (lc : leng
       refused-is n r ne =
           record {
             outcome = λ met. rw (ne-eqb n 0 ne) (sym (decided met (cut-if n r ne) ∙ ap (λ x. unlessRefused x made) (sym r) ∙ unless-refused-by n made ne));
+            report = rw (ne-eqb n 0 ne);
+            no-place = refl;
             kept = λ _. refl;
             sized = λ q. absurd (ne q);
           }
@@ -128,6 +130,8 @@ module _ (s : Sketch) (z : Sized s) (lp : length (s .points) ≡ 512) (lc : leng
       accepted-is q zero t f y =
           record {
             outcome = λ met. ap (λ x. accepted x (h .removed)) f ∙ sym (decided met q ∙ ap (λ x. unlessRefused x made) zero ∙ unless-refused-none made);
+            report = refl;
+            no-place = refl;
             kept = λ ne. absurd (ne refl);
             sized = λ _. y;
           }
@@ -141,6 +145,8 @@ module _ (s : Sketch) (z : Sized s) (lp : length (s .points) ≡ 512) (lc : leng
             outcome =
                 λ met. ap (λ x. accepted x (record { curve = c .id; from = startOf (c .kind); to = endOf (c .kind) })) (f ∙ ap (λ x. restOf (view s) c (extentOf (c .kind) (c .id) x) (orphansOf (view s) c x)) p)
                 ∙ sym (apply-is met plan ∙ ap (applyPlanTo met limits (view s) c) p ∙ whole-bridge v c found met (ap (suits (c .kind)) (sym p) ∙ su .kind));
+            report = refl;
+            no-place = refl;
             kept = λ ne. absurd (ne refl);
             sized = λ _. y;
           }

@@ -24,6 +24,7 @@ use Rattle.edit_plan.specs.declared.Edited.{Edited}
 use Rattle.edit_plan.specs.declared.Removed.{Removed}
 use Rattle.edit_plan.specs.Outcome.{Outcome, refused, accepted}
 use Rattle.edit_plan.specs.Tables.{uses, others}
+use Rattle.edit_plan.specs.Steps.{nothing}
 use Rattle.edit_plan.specs.ApplyPlan.{applyPlan}
 
 -- a line or an arc is cut at one place, or at two, between which a piece is removed
@@ -73,12 +74,19 @@ pub record Suited (d : Drawing) (c : Curve) (plan : Plan) : Type 0 where
 abbrev pub outcomeOf : Edited → Outcome Drawing Removed
 outcomeOf r = ite (eqb (r .refusal) 0) (accepted (view (r .sketch)) (r .removed)) (refused (r .refusal))
 
+-- the report says what is removed, and is three zeros on refusal
+abbrev pub reportOf : Outcome Drawing Removed → Removed
+reportOf (refused n) = nothing
+reportOf (accepted d removed) = removed
+
 abbrev pub targetOf : Sketch → ℕ → Curve
 targetOf s k = getD (s .curves) k noCurve
 
--- the outcome, whatever is met; on refusal the sketch is left as it was, and else its counts are within its tables
+-- the answer is the outcome, whatever is met, with its report and no place; on refusal the sketch is left as it was, and else its counts are within its tables
 pub record PlanApplied (s : Sketch) (k : ℕ) (plan : Plan) (r : Edited) : Type 0 where
   pub outcome : (met : Drawing → Bool) → outcomeOf r ≡ applyPlan met limits (view s) (targetOf s k .id) plan
+  pub report : r .removed ≡ reportOf (outcomeOf r)
+  pub no-place : r .place ≡ 0
   pub kept : (r .refusal ≡ 0 → ⊥) → r .sketch ≡ s
   pub sized : r .refusal ≡ 0 → Sized (r .sketch)
 

@@ -22,10 +22,16 @@ fn say(words: &[u8], number: u64) {
 fn roots(words: &[u8], coefficients: &[f64]) {
     let mut found = [0.0; ROOTS];
     io::write_all(STDOUT_FILENO, words);
-    match bernstein::search::roots(coefficients, &mut found, BUDGET) {
-        Roots::Found(n, _) => say(b": found ", n as u64),
-        Roots::Refused(number, _) => say(b": refused by ", number as u64),
-    }
+    let answer = bernstein::search::roots(coefficients, &mut found, BUDGET);
+    let Roots::Found(n, _) = answer else {
+        let Roots::Refused(number, _) = answer else {
+            // This is never reached: what is not found is refused.
+            return;
+        };
+        say(b": refused by ", number as u64);
+        return;
+    };
+    say(b": found ", n as u64);
 }
 
 // An extend of the line 3 in an image.

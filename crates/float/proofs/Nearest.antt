@@ -12,6 +12,7 @@ use lib.Ieee.Fits.{two, two-le-pos, nearest-le}
 use lib.Ieee.Exact.{HasValue, units-val}
 use lib.Ieee.Positive.{num, den, den-pos, positive, value→cross}
 use Rattle.float.specs.Root.{sq, isqrt, root, sqrt, plain, Nearer}
+use Rattle.float.specs.Numbers.{√}
 use Rattle.float.proofs.WholeRoots.{sq-back, sq-mul, isqrt-is}
 use Rattle.float.proofs.Patterns.{root-is, units-fits}
 use Rattle.float.proofs.Around.{choose, no-tie, below, above, around}
@@ -162,3 +163,7 @@ sqrt-nearest f x v hx px hv pv =
             (above p n (den x) q k K P D a ch y (V' .2) (more (num r) (den r) (num v) (den v) (K * 2 ^ k) y (2 ^ l) DD Z cr cv (lt→cross r v rp pv h)));
       },
     ))
+
+-- so of binary64's values √ x is strictly nearest to the root of x: the correctly rounded root
+pub √-nearest : (x v : Float) → T (fits binary64 x) → T (positive x) → T (fits binary64 v) → T (plain v) → T (fits binary64 (√ x)) × T (plain (√ x)) × Nearer x (√ x) v
+√-nearest = sqrt-nearest binary64

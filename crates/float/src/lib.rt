@@ -9,6 +9,5 @@ pub use order::max;
 pub use root::sqrt;
 pub use sign::abs;
 pub use sign::is_finite;
-pub use sign::is_nan;
 pub use sign::is_negative;
 pub use sign::signum;

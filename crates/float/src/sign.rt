@@ -1,16 +1,9 @@
 // Sign, magnitude and finiteness.
 ghost use mathlib.Core.Path.{_≡_};
-ghost use lib.Ieee.{isNan};
 ghost use Rattle.float.specs.Sign as S;
 ghost use Rattle.float.specs.Sign.{isFinite, negative};
 
 const SIGN_BIT: u64 = 0x8000_0000_0000_0000;
-
-pub fn is_nan(x: f64) -> bool
-    ensures { λ r. ⌜ r ≡ isNan x ⌝ }
-{
-    x != x
-}
 
 // Neither a NaN nor an infinity.
 pub fn is_finite(x: f64) -> bool

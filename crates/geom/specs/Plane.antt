@@ -1,8 +1,7 @@
 -- Points and vectors of the plane: each operation on a coordinate is rounded once, from left to right. Definitions only.
-use mathlib.Core.Bool.{Bool, cond, _&&_}
+use mathlib.Core.Bool.{cond}
 use lib.Ieee.{Float, neg, lt}
 use Rattle.float.specs.Numbers.{_⊕_, _⊖_, _⊗_, _⊘_, √, 0f, 1e-12}
-use Rattle.float.specs.Sign.{isFinite}
 use Rattle.geom.specs.declared.Vec2.{Vec2}
 use Rattle.geom.specs.declared.Direction.{Direction}
 use Rattle.geom.specs.declared.Direction.the-variants.{None, Unit}
@@ -16,10 +15,6 @@ vec x y = record { x = x; y = y }
 
 abbrev pub origin : Vec2
 origin = vec 0f 0f
-
--- both coordinates are finite
-abbrev pub finite : Vec2 → Bool
-finite u = isFinite (u .x) && isFinite (u .y)
 
 abbrev pub _+ᵥ_ : Vec2 → Vec2 → Vec2
 u +ᵥ v = vec (u .x ⊕ v .x) (u .y ⊕ v .y)

@@ -30,13 +30,6 @@ impl Vec2 {
         b.sub(a)
     }
 
-    // Whether both coordinates are.
-    pub fn is_finite(self) -> bool
-        ensures { λ r. ⌜ r ≡ P.finite self ⌝ }
-    {
-        float::is_finite(self.x) & float::is_finite(self.y)
-    }
-
     pub fn add(self, v: Vec2) -> Vec2
         ensures { λ r. ⌜ r ≡ self +ᵥ v ⌝ }
     {

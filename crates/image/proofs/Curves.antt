@@ -208,7 +208,7 @@ ok-number c e =
     let line = not (c .infinite) || isLineSort (sortOf (c .kind)) in
     both line (okNumber (c .kind)) (both (line && okNumber (c .kind)) _ e .0) .1
 
-zeros : (l : List ℕ) → every (λ i. eqb i 0) l ≡ true → l ≡ replicate (length l) 0
+pub zeros : (l : List ℕ) → every (λ i. eqb i 0) l ≡ true → l ≡ replicate (length l) 0
 zeros [] h = refl
 zeros (i ∷ l) h =
     let k = both (eqb i 0) _ h in

@@ -1,4 +1,5 @@
 pub mod Tables
+pub mod Typed
 pub mod Floats
 pub mod Points
 pub mod Curves
@@ -6,6 +7,8 @@ pub mod Relations
 pub mod Plain
 pub mod Headers
 pub mod RoundTrips
+pub mod ReadBack
+pub mod Sizes
 pub mod RecordChecks
 pub mod RelationChecks
 pub mod Walked

@@ -174,12 +174,21 @@ module _ (s : List ℕ) (d : Drawing) (w : Stored d)
         and-true (leb 1 (d .next)),
       )
 
+pub length-encode : (d : Drawing) → Stored d → length (encode d) ≡ drawingSize d
+unfolding encode
+length-encode d w = length-image (encode d) d w refl
+
 -- the image of a drawing is refused as the drawing is, and gives that drawing where it is not
 pub parse-encode : (d : Drawing) → Stored d → parse (encode d) ≡ resultOf (faultOf limits d) d
 unfolding encode
 parse-encode d w = rw (image-fault (encode d) d w refl, drawing-again (encode d) d w refl)
 
 -- ---- back
+
+pub result-refused : (n : ℕ) (d : Drawing) → (n ≡ 0 → ⊥) → resultOf n d ≡ refused n
+unfolding resultOf
+result-refused zero d h = absurd (h refl)
+result-refused (suc n) d h = refl
 
 pub result-accepted : (n : ℕ) (d₀ d : Drawing) → resultOf n d₀ ≡ accepted d → (n ≡ 0) × (d₀ ≡ d)
 unfolding resultOf

@@ -41,7 +41,7 @@ rows-join size (suc n) s at =
     rw (e, rows-join size n s (at + size)) (part-join s at size (n * size))
 
 -- rows of bytes are bytes, each as long as a record
-bytes-take : (n : ℕ) (l : List ℕ) → Bytes l → Bytes (take n l)
+pub bytes-take : (n : ℕ) (l : List ℕ) → Bytes l → Bytes (take n l)
 bytes-take zero l b k = lit< tt
 bytes-take (suc n) [] b k = lit< tt
 bytes-take (suc n) (a ∷ l) b zero = b 0

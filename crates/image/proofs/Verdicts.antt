@@ -14,10 +14,11 @@ use Rattle.sketch.proofs.Facts.{table-first, table-later, table-ascends, sort-a
 use Rattle.image.specs.declared.ImageRead.{ImageRead}
 use Rattle.image.specs.Records.{pointOf, curveOf, relationOf, curveSize, pointSize}
 use Rattle.image.specs.Image.{nextAt, pointCount, curveCount, headFault, pointRows, curveRows, relationRows, drawingOf, rowId, recordsFault, imageFault, resultOf, parse, headerSize}
-use Rattle.image.specs.Decode.{outcome}
+use Rattle.image.specs.Decode.{outcome, emptyDrawing, drawingIn}
 use Rattle.image.specs.Contracts.{goodPoint, goodCurve, goodRelation, rowSort, PointsTested, CurvesTested, SortsFilled, relationsTested, relationsAfter, shapesAfter}
 use Rattle.image.proofs.Tables.{length-rows}
 use Rattle.image.proofs.Headers.{Head, head-kept, head-passes}
+use Rattle.image.proofs.RoundTrips.{result-refused}
 
 -- ---- the header
 
@@ -114,6 +115,15 @@ refused-by s {n} e h r f = rw (f, ← e) (same n h)
     same : (n : ℕ) → (n ≡ 0 → ⊥) → resultOf n (view (r .sketch)) ≡ resultOf n (drawingOf s)
     same zero h = absurd (h refl)
     same (suc n) h = refl
+
+-- ---- and the drawing in each
+
+pub drawing-refused : (s : List ℕ) (r : ImageRead) → outcome r ≡ parse s → (r .refusal ≡ 0 → ⊥) → view (r .sketch) ≡ emptyDrawing → view (r .sketch) ≡ drawingIn (parse s)
+drawing-refused s r o z v = v ∙ sym (ap drawingIn (sym o ∙ result-refused (r .refusal) (view (r .sketch)) z))
+
+pub drawing-accepted : (s : List ℕ) (r : ImageRead) → outcome r ≡ parse s → r .refusal ≡ 0 → view (r .sketch) ≡ drawingIn (parse s)
+unfolding resultOf
+drawing-accepted s r o z = sym (ap drawingIn (sym o ∙ ap (λ (n : ℕ). resultOf n (view (r .sketch))) z))
 
 pub accepted-as : (s : List ℕ) {n : ℕ} → n ≡ imageFault s → n ≡ 0 → (r : ImageRead) → r .refusal ≡ 0 → view (r .sketch) ≡ drawingOf s → outcome r ≡ parse s
 accepted-as s e h r f v = rw (f, v, ← e, h)

@@ -52,6 +52,10 @@ relationsFrom np nc = curvesFrom np + nc * curveSize
 abbrev pub sizeOf : ℕ → ℕ → ℕ → ℕ
 sizeOf np nc nr = relationsFrom np nc + nr * relationSize
 
+-- the largest image's size, by the tables' limits
+abbrev pub maxImageSize : ℕ
+maxImageSize = sizeOf (limits .points) (limits .curves) (limits .relations)
+
 -- too short for a version, the version, the rest of the length, the counts, the next id; then what the records give
 unfoldable pub headFault : List ℕ → ℕ → ℕ
 headFault s rest =

@@ -4,4 +4,5 @@ pub mod Stored
 pub mod Encode
 pub mod Message
 pub mod Decode
+pub mod RoundTrip
 pub mod Contracts

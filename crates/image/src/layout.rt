@@ -1,7 +1,7 @@
 // Sizes in bytes, and where the fields of images and messages stand.
 pub const ID_SIZE: usize = 4;
 
-pub const EDIT_NUMBER_SIZE: usize = 4;
+const EDIT_NUMBER_SIZE: usize = 4;
 
 // The version follows the length of all that is behind it, in images and messages.
 pub(crate) const VERSION_AT: usize = 4;
@@ -61,6 +61,12 @@ pub(crate) const SECOND_ID_AT: usize = FIRST_ID_AT + ID_SIZE;
 pub(crate) const VALUE_AT: usize = SECOND_ID_AT + ID_SIZE;
 
 pub const RELATION_SIZE: usize = VALUE_AT + 8;
+
+// The largest image, whose tables are full.
+pub const MAX_IMAGE_SIZE: usize = HEADER_SIZE
+    + 512 * POINT_SIZE
+    + 128 * CURVE_SIZE
+    + 256 * RELATION_SIZE;
 
 // A message.
 pub(crate) const EDIT_NUMBER_AT: usize = VERSION_AT + 1;

@@ -5,6 +5,7 @@ mod layout;
 mod messages;
 mod reader;
 mod records;
+mod round_trip;
 mod writer;
 
 ghost use mathlib.Core.Path.{_≡_};
@@ -13,21 +14,24 @@ ghost use Rattle.image.specs.Message as M;
 pub use layout::CURVE_SIZE;
 pub use layout::HEADER_SIZE;
 pub use layout::ID_SIZE;
+pub use layout::MAX_IMAGE_SIZE;
 pub use layout::MESSAGE_SIZE;
 pub use layout::POINT_SIZE;
 pub use layout::RELATION_SIZE;
+pub use messages::is_operation;
 pub use messages::operation_of;
 pub use messages::read_message;
 pub use messages::write_message;
 pub use reader::read;
+pub use round_trip::write_and_read;
 use sketch::Id;
 use sketch::Sketch;
 pub use writer::write;
 
 // The versions of the two formats.
-pub const IMAGE_VERSION: u8 = 1;
+pub(crate) const IMAGE_VERSION: u8 = 1;
 
-pub const MESSAGE_VERSION: u8 = 1;
+pub(crate) const MESSAGE_VERSION: u8 = 1;
 
 // The number of an edit, from 1, and a count of edits.
 pub type EditNumber = u32;

@@ -17,16 +17,23 @@ use big_endian::put1;
 use big_endian::put4;
 use big_endian::put8;
 ghost use mathlib.Core.Path.{_≡_};
-ghost use Rattle.image.specs.Message.{operationOf, operationByte, parse, MessageWritten};
+ghost use Rattle.image.specs.Message.{isOperation, operationOf, operationByte, parse, MessageWritten};
 
 // What a message's length field holds: the bytes behind it.
 const MESSAGE_LENGTH: u32 = MESSAGE_SIZE as u32 - 4;
 
-// The operation that a byte means. Readers turn other bytes away before they ask.
-pub fn operation_of(byte: u8) -> Operation
-    ensures { λ r. ⌜ r ≡ operationOf byte ⌝ }
+// Whether a number means an operation.
+pub fn is_operation(number: u32) -> bool
+    ensures { λ r. ⌜ r ≡ isOperation number ⌝ }
 {
-    match byte {
+    (1 <= number) & (number <= 3)
+}
+
+// The operation that a number means. Readers turn other numbers away before they ask.
+pub fn operation_of(number: u32) -> Operation
+    ensures { λ r. ⌜ r ≡ operationOf number ⌝ }
+{
+    match number {
         1 => Operation::Trim,
         2 => Operation::Split,
         _ => Operation::Extend,
@@ -64,11 +71,8 @@ pub fn read_message(s: &[u8]) -> MessageRead
     if number < 1 {
         return MessageRead::Refused(6);
     }
-    let byte = get1(s, OPERATION_AT);
-    if byte < 1 {
-        return MessageRead::Refused(6);
-    }
-    if 3 < byte {
+    let byte = get1(s, OPERATION_AT) as u32;
+    if !is_operation(byte) {
         return MessageRead::Refused(6);
     }
     let operation = operation_of(byte);

@@ -32,7 +32,7 @@ ghost use Rattle.sketch.specs.Lists.{every};
 ghost use Rattle.sketch.specs.Valid.{sketchFault};
 ghost use Rattle.image.specs.Records.{pointOf, curveOf, relationOf, curveSize, pointSize, relationSize};
 ghost use Rattle.image.specs.Image.{imageFault, rowsAt, drawingOf, headerSize};
-ghost use Rattle.image.specs.Decode.{plainPoint, plainCurve, plainRelation, ReadAnswer};
+ghost use Rattle.image.specs.Decode.{plainPoint, plainCurve, plainRelation, emptyDrawing, ReadAnswer};
 
 fn no_points() -> [Point; 512]
     ensures { λ r. ⌜ length r ≡ 512 ⌝ }
@@ -146,8 +146,8 @@ fn decode_sketch(s: &[u8]) -> Sketch
     }
 }
 
-fn refuse(number: u8) -> ImageRead
-    ensures { λ r. ⌜ (r .refusal ≡ number) × (sketchFault (r .sketch) ≡ 0) ⌝ }
+pub(crate) fn refuse(number: u8) -> ImageRead
+    ensures { λ r. ⌜ (r .refusal ≡ number) × (sketchFault (r .sketch) ≡ 0) × (view (r .sketch) ≡ emptyDrawing) ⌝ }
 {
     let points = no_points();
     let curves = no_curves();

@@ -26,7 +26,8 @@ use Rattle.edit_plan.specs.declared.Plan.the-variants as P
 use Rattle.edit_plan.specs.declared.Edited.{Edited}
 use Rattle.edit_plan.specs.Outcome.{refused, accepted, guard}
 use Rattle.edit_plan.specs.Tables.{okPosition}
-use Rattle.edit_plan.specs.Suited.{Suited, outcomeOf, targetOf, PlanApplied}
+use Rattle.edit_plan.specs.Steps.{nothing}
+use Rattle.edit_plan.specs.Suited.{Suited, outcomeOf, reportOf, targetOf, PlanApplied}
 use Rattle.edit_plan.proofs.Tables.{look-some}
 use Rattle.edit_plan.specs.Changes.{isCircle}
 use Rattle.modify.specs.declared.PlanResult.{PlanResult}
@@ -66,12 +67,14 @@ module _ (s : Sketch) (id : ℕ) (p : Vec2) where
 -- ---- refusals
 
 module _ (op : Operation) (s : Sketch) (t : ℕ) (p : Vec2) where
-  pub answered-refused : {r : Edited} {n : ℕ} → (op ≡ Extend → n ≤ 12) → r .sketch ≡ s → r .refusal ≡ n → (n ≡ 0 → ⊥) → editSketch op s t p ≡ refused n → EditAnswer op s t p r
-  answered-refused {r} {n} low e f h o =
+  pub answered-refused : {r : Edited} {n : ℕ} → (op ≡ Extend → n ≤ 12) → r .sketch ≡ s → r .refusal ≡ n → r .removed ≡ nothing → r .place ≡ 0 → (n ≡ 0 → ⊥) → editSketch op s t p ≡ refused n → EditAnswer op s t p r
+  answered-refused {r} {n} low e f g i h o =
       record {
         outcome = rw f (ap (λ b. ite b (accepted (view (r .sketch)) (r .removed)) (refused n)) (ne-eqb n 0 h)) ∙ sym o;
+        report = g ∙ sym (ap reportOf o);
         kept = λ z. e;
         valid = λ z. absurd (h (sym f ∙ z));
+        no-place = λ z q. i;
         unmet-before = λ z q. absurd (omega (arith, low z, f, q));
         unmet-after = λ z q. absurd (omega (arith, low z, f, q));
       }
@@ -142,11 +145,11 @@ module _ (splits : Bool) (s : Sketch) (k : ℕ) (p : Vec2) (v : sketchFault s �
   unfolding guard guardPlan planOnFound
   sketch-is = rw (v, q, found)
 
-  pub edit-refused : {r : Edited} {n : ℕ} {o : PlanResult} → o ≡ planOnCurve it (view s) p c → o ≡ Refused n → r .sketch ≡ s → r .refusal ≡ n → EditAnswer it s (c .id) p r
+  pub edit-refused : {r : Edited} {n : ℕ} {o : PlanResult} → o ≡ planOnCurve it (view s) p c → o ≡ Refused n → r .sketch ≡ s → r .refusal ≡ n → r .removed ≡ nothing → r .place ≡ 0 → EditAnswer it s (c .id) p r
   unfolding applyPlanned
-  edit-refused {r} {n} {o} e f g h =
+  edit-refused {r} {n} {o} e f g h i j =
       let u : planOnCurve it (view s) p c ≡ Refused n = sym e ∙ f in
-      answered-refused it s (c .id) p (λ z. absurd (not-extend splits z)) g h (curve-number (view s) p c splits n u) (sketch-is ∙ ap (applyPlanned allMet limits (view s) (c .id)) u)
+      answered-refused it s (c .id) p (λ z. absurd (not-extend splits z)) g h i j (curve-number (view s) p c splits n u) (sketch-is ∙ ap (applyPlanned allMet limits (view s) (c .id)) u)
 
   pub edit-suited : {plan : Plan} {o : PlanResult} → o ≡ planOnCurve it (view s) p c → o ≡ Accepted plan → Suited (view s) c plan
   edit-suited {plan} e f = curve-suited (view s) p c splits plan (sym e ∙ f)
@@ -159,11 +162,13 @@ module _ (splits : Bool) (s : Sketch) (k : ℕ) (p : Vec2) (v : sketchFault s �
       let plain : editSketch it s (c .id) p ≡ editOf it limits (view s) (c .id) p = rw v in
       record {
         outcome = out;
+        report = w .report ∙ ap reportOf out;
         kept = w .kept;
         valid = λ z.
             let a : editOf it limits (view s) (c .id) p ≡ accepted (view (r .sketch)) (r .removed) =
             sym plain ∙ sym out ∙ ap (λ b. ite b (accepted (view (r .sketch)) (r .removed)) (refused (r .refusal))) (eq-eqb (r .refusal) 0 z) in
             valid-sketch (r .sketch) (w .sized z) (edit-valid it limits (view s) (c .id) p (view (r .sketch)) (r .removed) (sketch-valid s v .1) a);
+        no-place = λ z q. w .no-place;
         unmet-before = λ z. absurd (not-extend splits z);
         unmet-after = λ z. absurd (not-extend splits z);
       }

@@ -36,7 +36,7 @@ use Rattle.edit_plan.specs.Outcome.{Outcome, refused, accepted, _then_, guard}
 use Rattle.edit_plan.specs.Tables.{okPosition, movePoint, withRelation}
 use Rattle.edit_plan.specs.Steps.{pin, nothing, isLine}
 use Rattle.edit_plan.specs.ApplyPlan.{checkMet, moveEnd, applyPlanTo, applyPlanAt, applyPlan}
-use Rattle.edit_plan.specs.Suited.{Pinned, outcomeOf, targetOf}
+use Rattle.edit_plan.specs.Suited.{Pinned, outcomeOf, reportOf, targetOf}
 use Rattle.edit_plan.proofs.Tables.{look-some}
 use Rattle.chains.proofs.Edits.{plan-valid}
 use Rattle.modify.specs.declared.PlanResult.the-variants.{Refused, Accepted}
@@ -74,16 +74,16 @@ pub not-all : (d : Drawing) (k : ℕ) → unmetAt d k ≡ true → allMet d ≡ 
 not-all d k h = not-every (met (d .points) (d .curves)) (d .relations) k h
 
 module _ {s : Sketch} {e : Edited} where
-  pub settled-out : (e .refusal ≡ 0 → ⊥) → e .sketch ≡ s → MetChecked s e e
-  settled-out h f = record { when-refused = λ q. (refl, f); met = λ q. absurd (h q); unmet = λ q. absurd (h q) }
+  pub settled-out : (e .refusal ≡ 0 → ⊥) → MetChecked s e e
+  settled-out h = record { when-refused = λ q. refl; met = λ q. absurd (h q); unmet = λ q. absurd (h q) }
 
   module _ (z : e .refusal ≡ 0) where
-    pub settled-unmet : {r : Edited} {k : ℕ} → unmetAt (view (e .sketch)) k ≡ true → r .sketch ≡ s → r .refusal ≡ 19 → r .place ≡ k → MetChecked s e r
-    settled-unmet {r} {k} u f g p =
+    pub settled-unmet : {r : Edited} {k : ℕ} → unmetAt (view (e .sketch)) k ≡ true → r .sketch ≡ s → r .refusal ≡ 19 → r .removed ≡ nothing → r .place ≡ k → MetChecked s e r
+    settled-unmet {r} {k} u f g t p =
         record {
           when-refused = λ y. absurd (y z);
           met = λ y a. never (sym (not-all (view (e .sketch)) k u) ∙ a);
-          unmet = λ y a. record { number = g; sketch = f; place = ap (unmetAt (view (e .sketch))) p ∙ u };
+          unmet = λ y a. record { number = g; sketch = f; nothing-gone = t; place = ap (unmetAt (view (e .sketch))) p ∙ u };
         }
 
     pub settled-met : allMet (view (e .sketch)) ≡ true → MetChecked s e e
@@ -119,13 +119,15 @@ pub begun-at : (s : Sketch) (k : ℕ) (p : Vec2) → sketchFault s ≡ 0 → Siz
 begun-at s k p v z w h q g = record { valid = v; picked = q; place = h; found = target-found s k z w h g }
 
 module _ (s : Sketch) (t : ℕ) (p : Vec2) where
-  refused-by : {r : Edited} (n : ℕ) → r .sketch ≡ s → r .refusal ≡ n → F.Told n → editSketch Extend s t p ≡ refused n
+  refused-by : {r : Edited} (n : ℕ) → r .sketch ≡ s → r .refusal ≡ n → r .removed ≡ nothing → r .place ≡ 0 → F.Told n → editSketch Extend s t p ≡ refused n
       → ((d′ : Drawing) (removed : Removed) → n ≡ 19 → editUntested Extend limits (view s) t p ≡ accepted d′ removed → ⊥) → EditAnswer Extend s t p r
-  refused-by {r} n e f h o u =
+  refused-by {r} n e f g i h o u =
       record {
         outcome = ap (λ m. ite (eqb m 0) (accepted (view (r .sketch)) (r .removed)) (refused m)) f ∙ ap (λ b. ite b (accepted (view (r .sketch)) (r .removed)) (refused n)) (ne-eqb n 0 (h .some-number)) ∙ sym o;
+        report = g ∙ sym (ap reportOf o);
         kept = λ z. e;
         valid = λ z. absurd (h .some-number (sym f ∙ z));
+        no-place = λ z q. i;
         unmet-before = λ z q. absurd (h .not-13 (sym f ∙ q));
         unmet-after = λ z q d′ removed a. absurd (u d′ removed (sym f ∙ q) a);
       }
@@ -147,18 +149,20 @@ module _ (s : Sketch) (t : ℕ) (p : Vec2) where
 
     -- ---- a relation is not met
 
-    pub kind-refused : {r : Edited} → OneOf others-than-line (tagOf K.the-type (c .kind)) → r .sketch ≡ s → r .refusal ≡ 10 → EditAnswer Extend s t p r
+    pub kind-refused : {r : Edited} → OneOf others-than-line (tagOf K.the-type (c .kind)) → r .sketch ≡ s → r .refusal ≡ 10 → r .removed ≡ nothing → r .place ≡ 0 → EditAnswer Extend s t p r
     unfolding applyPlanned
-    kind-refused h e f = answered-refused Extend s t p (λ z. omega arith) e f (λ z. omega arith) (sketch-is ∙ ap (applyPlanned allMet limits d t) (sym (not-line d p c (c .kind) h)))
+    kind-refused h e f g i = answered-refused Extend s t p (λ z. omega arith) e f g i (λ z. omega arith) (sketch-is ∙ ap (applyPlanned allMet limits d t) (sym (not-line d p c (c .kind) h)))
 
-    pub unmet-refused : {r : Edited} {k : ℕ} → isLine (c .kind) ≡ true → unmetAt d k ≡ true → r .sketch ≡ s → r .refusal ≡ 13 → r .place ≡ k → EditAnswer Extend s t p r
+    pub unmet-refused : {r : Edited} {k : ℕ} → isLine (c .kind) ≡ true → unmetAt d k ≡ true → r .sketch ≡ s → r .refusal ≡ 13 → r .removed ≡ nothing → r .place ≡ k → EditAnswer Extend s t p r
     unfolding applyPlanned
-    unmet-refused {r} {k} q h e f g =
+    unmet-refused {r} {k} q h e f i g =
         let o : editSketch Extend s t p ≡ refused 13 = sketch-is ∙ ap (applyPlanned allMet limits d t) (sym (unmet-line d p c (c .kind) q (not-all d k h))) in
         record {
           outcome = ap (λ m. ite (eqb m 0) (accepted (view (r .sketch)) (r .removed)) (refused m)) f ∙ sym o;
+          report = i ∙ sym (ap reportOf o);
           kept = λ z. e;
           valid = λ z. absurd (omega arith);
+          no-place = λ z y. absurd (z f);
           unmet-before = λ z y. ap (unmetAt d) g ∙ h;
           unmet-after = λ z y. absurd (omega arith);
         }
@@ -166,11 +170,11 @@ module _ (s : Sketch) (t : ℕ) (p : Vec2) where
     -- ---- all relations are met
 
     module _ (m : allMet d ≡ true) (y : EndPlan) (o : planOf y ≡ extendCurve d p c (c .kind)) where
-      pub plan-refused : {r : Edited} {n : ℕ} → y ≡ N.Refused n → r .sketch ≡ s → r .refusal ≡ n → EditAnswer Extend s t p r
+      pub plan-refused : {r : Edited} {n : ℕ} → y ≡ N.Refused n → r .sketch ≡ s → r .refusal ≡ n → r .removed ≡ nothing → r .place ≡ 0 → EditAnswer Extend s t p r
       unfolding applyPlanned
-      plan-refused {r} {n} q e f =
+      plan-refused {r} {n} q e f g i =
           let u : extendCurve d p c (c .kind) ≡ Refused n = sym o ∙ ap planOf q in
-          refused-by n e f (extend-number d p c (c .kind) n m u) (sketch-is ∙ ap (applyPlanned allMet limits d t) u)
+          refused-by n e f g i (extend-number d p c (c .kind) n m u) (sketch-is ∙ ap (applyPlanned allMet limits d t) u)
           (λ d′ removed z a. let b : refused n ≡ accepted d′ removed = sym (untested-is ∙ ap (applyPlanned (λ x. true) limits d t) u) ∙ a in let y : _≡_ {A = ℕ} 0 1 = cc in omega arith)
 
       module _ {atB : Bool} {k : ℕ} {v : Vec2} {q : Pin} (g : y ≡ N.Move atB k v q) (h : EndInTable s (x .place) y) where
@@ -257,28 +261,34 @@ module _ (s : Sketch) (t : ℕ) (p : Vec2) where
             not-13 : e .refusal ≡ 13 → ⊥
             not-13 = subst (Kept (movePoint end v d)) refused-out kept
 
-          pub move-answered : {r : Edited} → MetChecked s e r → EditAnswer Extend s t p r
+          pub move-answered : {r : Edited} → ((e .refusal ≡ 0 → ⊥) → e .sketch ≡ s) → e .removed ≡ nothing → e .place ≡ 0 → MetChecked s e r → EditAnswer Extend s t p r
           unfolding guard
-          move-answered {r} l = at-zero (eqb (e .refusal) 0) refl
+          move-answered {r} same gone placed l = at-zero (eqb (e .refusal) 0) refl
             where
               moved-on : e .refusal ≡ 0 → (b : Bool) → allMet (view (e .sketch)) ≡ b → EditAnswer Extend s t p r
               moved-on z true j =
                   let i : r ≡ e = l .met z j in
                   let u : r .refusal ≡ 0 = ap (λ (x : Edited). x .refusal) i ∙ z in
+                  let o : editSketch Extend s t p ≡ accepted (view (e .sketch)) (e .removed) = edit-is ∙ judged-is z allMet ∙ ap (λ b. guard b 19 (accepted (view (e .sketch)) (e .removed))) j in
                   record {
-                    outcome = ap outcomeOf i ∙ out z ∙ sym (edit-is ∙ judged-is z allMet ∙ ap (λ b. guard b 19 (accepted (view (e .sketch)) (e .removed))) j);
+                    outcome = ap outcomeOf i ∙ out z ∙ sym o;
+                    report = ap (λ (x : Edited). x .removed) i ∙ sym (ap reportOf o);
                     kept = λ y. absurd (y u);
                     valid = λ y. ap (λ (x : Edited). sketchFault (x .sketch)) i ∙ moved-valid z;
+                    no-place = λ y n. ap (λ (x : Edited). x .place) i ∙ placed;
                     unmet-before = λ y n. absurd (omega arith);
                     unmet-after = λ y n. absurd (omega arith);
                   }
               moved-on z false j =
                   let i = l .unmet z j in
                   let n = i .number in
+                  let o : editSketch Extend s t p ≡ refused 19 = edit-is ∙ judged-is z allMet ∙ ap (λ b. guard b 19 (accepted (view (e .sketch)) (e .removed))) j in
                   record {
-                    outcome = ap (λ m. ite (eqb m 0) (accepted (view (r .sketch)) (r .removed)) (refused m)) n ∙ sym (edit-is ∙ judged-is z allMet ∙ ap (λ b. guard b 19 (accepted (view (e .sketch)) (e .removed))) j);
+                    outcome = ap (λ m. ite (eqb m 0) (accepted (view (r .sketch)) (r .removed)) (refused m)) n ∙ sym o;
+                    report = i .nothing-gone ∙ sym (ap reportOf o);
                     kept = λ y. i .sketch;
                     valid = λ y. absurd (omega arith);
+                    no-place = λ y h. absurd (h n);
                     unmet-before = λ y h. absurd (omega arith);
                     unmet-after = λ y h d′ removed u.
                         let b : accepted (view (e .sketch)) (e .removed) ≡ accepted d′ removed = sym (plain-is ∙ judged-is z (λ x. true)) ∙ u in
@@ -288,8 +298,8 @@ module _ (s : Sketch) (t : ℕ) (p : Vec2) where
 
               moved-out : (e .refusal ≡ 0 → ⊥) → EditAnswer Extend s t p r
               moved-out z =
-                  let i = l .when-refused z in
-                  refused-by (e .refusal) (i .1) (i .0) (record { some-number = z; not-13 = not-13 z }) (edit-is ∙ judged-out z allMet)
+                  let i : r ≡ e = l .when-refused z in
+                  refused-by (e .refusal) (ap (λ (x : Edited). x .sketch) i ∙ same z) (ap (λ (x : Edited). x .refusal) i) (ap (λ (x : Edited). x .removed) i ∙ gone) (ap (λ (x : Edited). x .place) i ∙ placed) (record { some-number = z; not-13 = not-13 z }) (edit-is ∙ judged-out z allMet)
                   (λ d′ removed y u. let b : refused (e .refusal) ≡ accepted d′ removed = sym (plain-is ∙ judged-out z (λ x. true)) ∙ u in let h : _≡_ {A = ℕ} 0 1 = cc in omega arith)
 
               at-zero : (b : Bool) → eqb (e .refusal) 0 ≡ b → EditAnswer Extend s t p r

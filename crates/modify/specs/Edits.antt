@@ -25,7 +25,7 @@ use Rattle.edit_plan.specs.declared.Edited.{Edited}
 use Rattle.edit_plan.specs.Outcome.{Outcome, refused, accepted, guard}
 use Rattle.edit_plan.specs.Tables.{okPosition}
 use Rattle.edit_plan.specs.ApplyPlan.{applyPlan}
-use Rattle.edit_plan.specs.Suited.{outcomeOf}
+use Rattle.edit_plan.specs.Suited.{outcomeOf, reportOf}
 use Rattle.edit_plan.specs.Changes.{isCircle}
 use Rattle.modify.specs.declared.PlanResult.{PlanResult}
 use Rattle.modify.specs.declared.PlanResult.the-variants.{Refused, Accepted}
@@ -90,11 +90,17 @@ editUntested op m d t p = applyPlanned (λ d′. true) m d t (planEdit op d t p)
 abbrev pub editSketch : Operation → Sketch → ℕ → Vec2 → Outcome Drawing Removed
 editSketch op s t p = guard (eqb (sketchFault s) 0) (sketchFault s) (editOf op limits (view s) t p)
 
--- the outcome; on refusal the sketch is left as it was, and after an accepted edit it is one that an image gives
+-- a place comes with 13 and 19 alone
+abbrev pub NoPlace : ℕ → ℕ → Type 0
+NoPlace k place = (k ≡ 13 → ⊥) → (k ≡ 19 → ⊥) → place ≡ 0
+
+-- the answer is the outcome with its report; on refusal the sketch is left as it was, and after an accepted edit it is one that an image gives
 pub record EditAnswer (op : Operation) (s : Sketch) (t : ℕ) (p : Vec2) (r : Edited) : Type 0 where
   pub outcome : outcomeOf r ≡ editSketch op s t p
+  pub report : r .removed ≡ reportOf (editSketch op s t p)
   pub kept : (r .refusal ≡ 0 → ⊥) → r .sketch ≡ s
   pub valid : r .refusal ≡ 0 → sketchFault (r .sketch) ≡ 0
+  pub no-place : NoPlace (r .refusal) (r .place)
   -- an extend's 13 comes with the place of a relation that is not met, and its 19 with that of one that would not be met
   pub unmet-before : op ≡ Extend → r .refusal ≡ 13 → unmetAt (view s) (r .place) ≡ true
   pub unmet-after : op ≡ Extend → r .refusal ≡ 19 → (d′ : Drawing) (removed : Removed) → editUntested op limits (view s) t p ≡ accepted d′ removed → unmetAt d′ (r .place) ≡ true

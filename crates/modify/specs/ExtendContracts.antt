@@ -155,10 +155,11 @@ pub record CurveColumnsOf (d : Drawing) (ids : List ℕ) (xs ys : List Float) (c
 pub record Undone (s : Sketch) (e r : Edited) : Type 0 where
   pub number : r .refusal ≡ 19
   pub sketch : r .sketch ≡ s
+  pub nothing-gone : r .removed ≡ nothing
   pub place : unmetAt (view (e .sketch)) (r .place) ≡ true
 
 -- the sketch s, of which the edit made e
 pub record MetChecked (s : Sketch) (e r : Edited) : Type 0 where
-  pub when-refused : (e .refusal ≡ 0 → ⊥) → (r .refusal ≡ e .refusal) × (r .sketch ≡ s)
+  pub when-refused : (e .refusal ≡ 0 → ⊥) → r ≡ e
   pub met : e .refusal ≡ 0 → allMet (view (e .sketch)) ≡ true → r ≡ e
   pub unmet : e .refusal ≡ 0 → allMet (view (e .sketch)) ≡ false → Undone s e r

@@ -163,7 +163,7 @@ fn check_met<'a>(
     seconds: &'a [u32],
     numbers: &'a [f64],
 ) -> Edited
-    requires { ⌜ ((e .refusal ≡ 0 → ⊥) → e .sketch ≡ sk) × (e .refusal ≡ 0 → (sketchFault (e .sketch) ≡ 0) × CurveColumnsOf (view (e .sketch)) (now ids) (now xs) (now ys) (now curves) (now kinds) (now firsts) (now seconds) (now numbers)) ⌝ }
+    requires { ⌜ (e .refusal ≡ 0 → (sketchFault (e .sketch) ≡ 0) × CurveColumnsOf (view (e .sketch)) (now ids) (now xs) (now ys) (now curves) (now kinds) (now firsts) (now seconds) (now numbers)) ⌝ }
     ensures { λ r. ⌜ MetChecked sk e r ⌝ }
 {
     if e.refusal != 0 {

@@ -48,7 +48,7 @@ fn is_itself(pin: Pin, p: Id) -> bool
 // written here, to one working copy: a function for each way would cost a copy of the sketch each.
 pub(crate) fn move_end(sk: Sketch, k: usize, v: Vec2, pin: Pin) -> Edited
     requires { ⌜ Sized sk × Valid limits (view sk) × (k < sk .npoints) ⌝ }
-    ensures { λ r. ⌜ MovedTo (view sk) (getD (sk .points) k noPoint .id) v pin r × ((r .refusal ≡ 0 → ⊥) → r .sketch ≡ sk) ⌝ }
+    ensures { λ r. ⌜ MovedTo (view sk) (getD (sk .points) k noPoint .id) v pin r × ((r .refusal ≡ 0 → ⊥) → r .sketch ≡ sk) × (r .removed ≡ nothing) × (r .place ≡ 0) ⌝ }
 {
     if !(coordinate_ok(v.x) & coordinate_ok(v.y)) {
         return answer(sk, 24, 0);

@@ -136,12 +136,15 @@ fn search_curve<'a>(
 {
     let mut hx = [0.0; 28];
     let mut hy = [0.0; 28];
-    match curve_hits(a, b, foot, c, left, ids, near, xs, ys, &mut hx, &mut hy) {
-        Hits::Refused(number, _) => SearchStep::Stopped(number),
-        Hits::Found(n, rest) => {
-            SearchStep::Continued(best_of(a, b, atb, c.id, best, n, &hx, &hy), rest)
-        }
-    }
+    let hits = curve_hits(a, b, foot, c, left, ids, near, xs, ys, &mut hx, &mut hy);
+    let Hits::Found(n, rest) = hits else {
+        let Hits::Refused(number, _) = hits else {
+            // This is never reached: what is not found is refused.
+            return SearchStep::Stopped(0);
+        };
+        return SearchStep::Stopped(number);
+    };
+    SearchStep::Continued(best_of(a, b, atb, c.id, best, n, &hx, &hy), rest)
 }
 
 // All of the first n curves but the one with an id, in order, within one budget.

@@ -22,7 +22,7 @@ use Rattle.edit_plan.specs.Outcome.{guard}
 use Rattle.edit_plan.specs.Tables.{okPosition}
 use Rattle.modify.specs.declared.PlanResult.{PlanResult}
 use Rattle.modify.specs.Planning.{guardPlan}
-use Rattle.modify.specs.Edits.{planOnFound, applyPlanned}
+use Rattle.modify.specs.Edits.{planOnFound, applyPlanned, NoPlace}
 use Rattle.agreement.specs.Machines as M
 use Rattle.agreement.specs.Machines.{State, callOutcome, withCount, stateAfter, maxEditNumber}
 use Rattle.replication.specs.declared.Replica.{Replica}
@@ -31,11 +31,11 @@ use Rattle.replication.specs.declared.DeskReply.the-variants as Desk
 use Rattle.replication.specs.declared.DeskTransition.{DeskTransition}
 use Rattle.replication.specs.Protocol.{Edit, messageFor, protocol}
 use Rattle.replication.specs.Transitions as A
-use Rattle.replication.specs.Transitions.{stateOf, UnmetPlace, NoPlace, DeskPlace, DeskNoPlace, DeskEdits}
+use Rattle.replication.specs.Transitions.{stateOf, UnmetPlace, DeskPlace, DeskNoPlace, DeskNumbered, DeskEdits}
 use Rattle.replication.proofs.Decoding.{need-accepted, literal}
 use Rattle.replication.proofs.Outcomes.{is-number}
 use Rattle.mulkefi.specs.Outcomes.{CallOutcome, refused, updated, ifImageFits, deskOutcome}
-use Rattle.mulkefi.specs.Calls.{numberOf, bufferAfter, messageAfter, answerAfter, ResultWritten, deskEditOutcome, DeskEditWritten}
+use Rattle.mulkefi.specs.Calls.{numberOf, bufferAfter, OutcomeSound, messageAfter, answerAfter, ResultWritten, deskEditOutcome, DeskEditWritten}
 use Rattle.mulkefi.proofs.Places.{unmet-whole, unmet-none}
 
 -- ---- the outcome of the machine's call, from its reply
@@ -74,13 +74,14 @@ module _ (s : Replica) (e : Edit) (b m a : List ℕ) where
   verdict = deskEditOutcome s e (length b) (length m)
 
   -- a refusal leaves all
-  call-refused : (k r : ℕ) → verdict ≡ refused k → r % 65536 ≡ k → NoPlace k (r / 65536) → UnmetPlace e (view (s .sketch)) k (r / 65536) → DeskEditWritten s e b b m m a a r
-  call-refused k r h n q u =
+  call-refused : (k r : ℕ) → (k ≡ 0 → ⊥) → verdict ≡ refused k → r % 65536 ≡ k → NoPlace k (r / 65536) → UnmetPlace e (view (s .sketch)) k (r / 65536) → DeskEditWritten s e b b m m a a r
+  call-refused k r o h n q u =
       record {
         served = record {
           number = n ∙ sym (ap numberOf h);
           no-place = subst (λ (v : CallOutcome). NoPlace (numberOf v) (r / 65536)) (sym h) q;
           image = sym (ap (λ (v : CallOutcome). bufferAfter v b) h);
+          sound = subst OutcomeSound (sym h) o;
           numbers = sym (ap (λ (v : CallOutcome). answerAfter v a) h);
         };
         written = sym (ap (λ (v : CallOutcome). messageAfter v e m) h);
@@ -90,7 +91,7 @@ module _ (s : Replica) (e : Edit) (b m a : List ℕ) where
   -- too short for a message
   pub desk-edit-short : length m < messageSize → DeskEditWritten s e b b m m a a 25
   unfolding guard
-  desk-edit-short h = call-refused 25 25 (rw (lt-leb messageSize (length m) h)) refl (λ x y. refl) (unmet-none e (view (s .sketch)) 25 0 (λ z. omega arith) (λ z. omega arith))
+  desk-edit-short h = call-refused 25 25 (λ z. omega arith) (rw (lt-leb messageSize (length m) h)) refl (λ x y. refl) (unmet-none e (view (s .sketch)) 25 0 (λ z. omega arith) (λ z. omega arith))
 
   module _ (v : sketchFault (s .sketch) ≡ 0) (room : messageSize ≤ length m) (d d′ : List ℕ) (x : DeskTransition) (h : DeskEdits s (record { edit = e; before = d; after = d′; answer = x }))
       (long : length d ≡ messageSize) where
@@ -108,7 +109,7 @@ module _ (s : Replica) (e : Edit) (b m a : List ℕ) where
         let o : came ≡ O.refused k = sym came-is ∙ refused-is e k _ (ap (λ (u : DeskReply). A.deskReply u (take messageSize d′)) (sym t) ∙ h .step v .reply) in
         let q : NoPlace k place = subst DeskNoPlace t (h .no-place) in
         let u : UnmetPlace e (view (s .sketch)) k place = subst (λ (u : DeskReply). DeskPlace u e (view (s .sketch))) t (h .place v) in
-        call-refused k r (ap (deskOutcome (length b)) o) n (λ y z. let g = q y z in omega arith)
+        call-refused k r (subst DeskNumbered t (h .numbered)) (ap (deskOutcome (length b)) o) n (λ y z. let g = q y z in omega arith)
         (subst (UnmetPlace e (view (s .sketch)) k) (sym p) (unmet-whole e (view (s .sketch)) k place (sketch-valid (s .sketch) v .1) u))
 
     -- ---- done
@@ -140,7 +141,7 @@ module _ (s : Replica) (e : Edit) (b m a : List ℕ) where
             go : (f : Bool) → verdict ≡ ite f (updated (stateOf (x .replica)) q) (refused 25) → ResultWritten (ite f (updated (stateOf (x .replica)) q) (refused 25)) b b′ a a′ n → DeskEditWritten s e b b′ m m a a′ 25
             go true g w = absurd (z (w .number))
             go false g w =
-                let all = call-refused 25 25 g refl (λ x y. refl) (unmet-none e (view (s .sketch)) 25 0 (λ z. omega arith) (λ z. omega arith)) in
+                let all = call-refused 25 25 (λ z. omega arith) g refl (λ x y. refl) (unmet-none e (view (s .sketch)) 25 0 (λ z. omega arith) (λ z. omega arith)) in
                 subst (λ (b″ : List ℕ). DeskEditWritten s e b b″ m m a a′ 25) (sym (w .image)) (subst (λ (a″ : List ℕ). DeskEditWritten s e b b m m a a″ 25) (sym (w .numbers)) all)
 
         pub draw-done : n ≡ 0 → (m′ : List ℕ) (k : ℕ) → MessageWritten (messageFor (x .replica .count) e) m m′ k → DeskEditWritten s e b b′ m m′ a a′ 0
@@ -158,6 +159,7 @@ module _ (s : Replica) (e : Edit) (b m a : List ℕ) where
                     number = sym (ap numberOf g);
                     no-place = λ x y. refl;
                     image = w .image ∙ sym (ap (λ (v : CallOutcome). bufferAfter v b) g);
+                    sound = subst OutcomeSound (sym g) (w .sound);
                     numbers = w .numbers ∙ sym (ap (λ (v : CallOutcome). answerAfter v a) g);
                   };
                   written = message-is ∙ sym (ap (λ (v : CallOutcome). messageAfter v e m) g);

@@ -2,13 +2,13 @@
 use mathlib.Core.Path.{_≡_, refl, sym, ap, _∙_, subst}
 use mathlib.Core.Bool.{Bool, true, false}
 use mathlib.Core.List.{List}
-use Prim.Native.Nat.{ℕ, zero, suc, _<_, _≤_, _/_, _%_}
+use Prim.Native.Nat.{ℕ, zero, suc, _≤_, _/_, _%_}
 use native.Mathlib.Omega.{arith}
 use lib.ListN.{length, take}
 use lib.Seq.{take-all}
 use lib.Dec.{leb}
 use lib.Ieee.{Float}
-use borrow.Author.Tests.{le-leb, lt-leb, leb-false}
+use borrow.Author.Tests.{leb-false}
 use Rattle.sketch.specs.Lists.{ite}
 use Rattle.sketch.specs.Drawing.{Drawing, view}
 use Rattle.image.specs.declared.ImageRead.{ImageRead}
@@ -20,7 +20,7 @@ use Rattle.replication.specs.declared.Replica.{Replica}
 use Rattle.replication.specs.Protocol.{Edit}
 use Rattle.replication.specs.Transitions.{stateOf, UnmetPlace}
 use Rattle.mulkefi.specs.Outcomes.{CallOutcome, refused, onImage, deskOn, wallOn}
-use Rattle.mulkefi.specs.Calls.{numberOf, bufferAfter, messageAfter, answerAfter, CallWritten, mkEdit, mkEditByNumber, deskCallOutcome, deskEditOutcome, DeskEditWritten, DeskCallWritten, wallCallOutcome, WallDeliveryWritten, WallCallWritten}
+use Rattle.mulkefi.specs.Calls.{numberOf, bufferAfter, OutcomeSound, messageAfter, answerAfter, CallWritten, mkEdit, mkEditByNumber, deskCallOutcome, deskEditOutcome, DeskEditWritten, DeskCallWritten, wallCallOutcome, WallDeliveryWritten, WallCallWritten}
 use Rattle.mulkefi.proofs.Places.{unmet-none}
 
 -- ---- the reader's answer
@@ -44,17 +44,6 @@ result-accepted : (n : ℕ) (d : Drawing) → n ≡ 0 → I.resultOf n d ≡ I.a
 unfolding I.resultOf
 result-accepted zero d h = refl
 result-accepted (suc n) d h = absurd (omega arith)
-
--- ---- the operation's number
-
-pub known-low : (n : ℕ) → n < 1 → isOperation n ≡ false
-known-low n h = rw (lt-leb 1 n h)
-
-pub known-high : (n : ℕ) → 3 < n → isOperation n ≡ false
-known-high n h = let low : 1 ≤ n = omega arith in rw (le-leb 1 n low, lt-leb n 3 h)
-
-pub known-is : (n : ℕ) → 1 ≤ n → n ≤ 3 → isOperation n ≡ true
-known-is n l h = rw (le-leb 1 n l, le-leb n 3 h)
 
 -- ---- the image at the buffer's front
 
@@ -86,6 +75,7 @@ module _ (b : List ℕ) (len size : ℕ) (f : size ≡ ite (leb len (length b)) 
           number = n ∙ sym (ap numberOf g);
           no-place = λ x y. p;
           image = sym (ap (λ (v : CallOutcome). bufferAfter v b) g);
+          sound = subst OutcomeSound (sym g) z;
           numbers = sym (ap (λ (v : CallOutcome). answerAfter v a) g);
         }
 
@@ -125,6 +115,7 @@ module _ (b : List ℕ) (len size : ℕ) (f : size ≡ ite (leb len (length b)) 
               number = sym (ap numberOf g);
               no-place = λ x y. refl;
               image = sym (ap (λ (v : CallOutcome). bufferAfter v b) g);
+              sound = subst OutcomeSound (sym g) (λ h. omega arith);
               numbers = sym (ap (λ (v : CallOutcome). answerAfter v a) g);
             };
             written = sym (ap (λ (v : CallOutcome). messageAfter v e m) g);

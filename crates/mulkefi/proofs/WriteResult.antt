@@ -15,7 +15,7 @@ use Rattle.sketch.specs.Drawing.{view}
 use Rattle.sketch.specs.Valid.{sketchFault}
 use Rattle.sketch.proofs.Sketches.{sketch-valid}
 use Rattle.image.specs.Encode.{encode, drawingSize, ImageWritten}
-use Rattle.image.specs.Image.{headerSize}
+use Rattle.image.specs.Image.{headerSize, accepted, parse}
 use Rattle.image.specs.Records.{curveSize, pointSize, relationSize}
 use Rattle.edit_plan.specs.declared.Removed.{Removed}
 use Rattle.replication.specs.declared.Replica.{Replica}
@@ -58,12 +58,12 @@ module _ (s : Replica) (removed : Removed) (v : sketchFault (s .sketch) ≡ 0) (
     where
       go : (t : Bool) → n ≡ guardNumber t 25 0 → now ≡ ite t image b → ResultWritten (ite t (updated (stateOf s) removed) (refused 25)) b now a a n
       go true e f = absurd (z e)
-      go false e f = record { number = e; image = f; numbers = refl }
+      go false e f = record { number = e; image = f; sound = λ h. omega arith; numbers = refl }
 
-  pub is-written : n ≡ 0 → (a′ : List ℕ) → a′ ≡ answerFor a (stateOf s) removed → ResultWritten (ifImageFits (length b) (stateOf s) removed) b now a a′ 0
+  pub is-written : n ≡ 0 → (length (encode (view (s .sketch))) ≡ drawingSize (view (s .sketch))) × (parse (encode (view (s .sketch))) ≡ accepted (view (s .sketch))) → (a′ : List ℕ) → a′ ≡ answerFor a (stateOf s) removed → ResultWritten (ifImageFits (length b) (stateOf s) removed) b now a a′ 0
   unfolding guardNumber
-  is-written z a′ h = go fits number-is buffer-is
+  is-written z again a′ h = go fits number-is buffer-is
     where
       go : (t : Bool) → n ≡ guardNumber t 25 0 → now ≡ ite t image b → ResultWritten (ite t (updated (stateOf s) removed) (refused 25)) b now a a′ 0
-      go true e f = record { number = refl; image = f; numbers = h }
+      go true e f = record { number = refl; image = f; sound = again; numbers = h }
       go false e f = absurd (omega arith)

@@ -13,10 +13,11 @@ use Rattle.image.specs.Message as M
 use Rattle.image.specs.Message.{operationOf}
 use Rattle.edit_plan.specs.declared.Removed.{Removed}
 use Rattle.edit_plan.specs.Steps.{nothing}
+use Rattle.modify.specs.Edits.{NoPlace}
 use Rattle.agreement.specs.Machines.{State, message, callOutcome}
 use Rattle.replication.specs.declared.Replica.{Replica}
 use Rattle.replication.specs.Protocol.{Edit, messageFor, protocol}
-use Rattle.replication.specs.Transitions.{stateOf, UnmetPlace, NoPlace}
+use Rattle.replication.specs.Transitions.{stateOf, UnmetPlace}
 use Rattle.mulkefi.specs.Outcomes.{CallOutcome, refused, old, updated, onImage, deskOutcome, deskOn, wallOn}
 
 -- the refusal's number, or 0
@@ -30,6 +31,12 @@ abbrev pub bufferAfter : CallOutcome → List ℕ → List ℕ
 bufferAfter (refused k) b = b
 bufferAfter (old s) b = b
 bufferAfter (updated s r) b = over b 0 (E.encode (s .drawing))
+
+-- a refusal has a number above 0, and a new image is as long as it says and is read as the state's drawing
+abbrev pub OutcomeSound : CallOutcome → Type 0
+OutcomeSound (refused k) = k ≡ 0 → ⊥
+OutcomeSound (old s) = Unit {0}
+OutcomeSound (updated s r) = (length (E.encode (s .drawing)) ≡ E.drawingSize (s .drawing)) × (I.parse (E.encode (s .drawing)) ≡ I.accepted (s .drawing))
 
 -- the message of the edit and its number at the front, the rest as it was
 abbrev pub messageAfter : CallOutcome → Edit → List ℕ → List ℕ
@@ -51,6 +58,7 @@ answerAfter (updated s r) a = answerFor a s r
 pub record ResultWritten (v : CallOutcome) (buffer buffer′ answer answer′ : List ℕ) (r : ℕ) : Type 0 where
   pub number : r ≡ numberOf v
   pub image : buffer′ ≡ bufferAfter v buffer
+  pub sound : OutcomeSound v
   pub numbers : answer′ ≡ answerAfter v answer
 
 -- what desk and wall answer alike: the low 16 bits are the number, those above a relation's place, 0 where the number comes with none
@@ -58,6 +66,7 @@ pub record CallWritten (v : CallOutcome) (buffer buffer′ answer answer′ : Li
   pub number : r % 65536 ≡ numberOf v
   pub no-place : NoPlace (numberOf v) (r / 65536)
   pub image : buffer′ ≡ bufferAfter v buffer
+  pub sound : OutcomeSound v
   pub numbers : answer′ ≡ answerAfter v answer
 
 -- ---- the desk

@@ -12,18 +12,7 @@ use replication::Replica;
 use sketch::Id;
 ghost use mathlib.Core.Path.{_≡_};
 ghost use Rattle.sketch.specs.Valid.{sketchFault};
-ghost use Rattle.image.specs.Message.{operationOf};
 ghost use Rattle.mulkefi.specs.Calls.{mkEditByNumber, mkEdit, DeskEditWritten, DeskCallWritten};
-
-fn operation_of(operation: u32) -> Operation
-    ensures { λ r. ⌜ r ≡ operationOf operation ⌝ }
-{
-    match operation {
-        1 => Operation::Trim,
-        2 => Operation::Split,
-        _ => Operation::Extend,
-    }
-}
 
 // Edits a replica. The message is written to a draft first, so that none of the host's memory is written before the last refusal.
 fn edit_replica(
@@ -87,17 +76,14 @@ pub extern "C" fn mulkefi_desk_edit(
     if read.refusal != 0 {
         return refusal(read.refusal, 0);
     }
-    if operation < 1 {
-        return 6;
-    }
-    if 3 < operation {
+    if !image::is_operation(operation) {
         return 6;
     }
     let sketch = read.sketch;
     let replica = Replica { sketch, count };
     edit_replica(
         replica,
-        operation_of(operation),
+        image::operation_of(operation),
         curve,
         x,
         y,

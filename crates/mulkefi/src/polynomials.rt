@@ -15,12 +15,15 @@ pub extern "C" fn mulkefi_roots(
 ) -> u32
     ensures { λ r. ⌜ RootsWritten (searchOf (length (now (found .entry))) (now (c .entry)) budget) (now (found .entry)) (now (found .exit)) (now (answer .entry)) (now (answer .exit)) r ⌝ }
 {
-    match bernstein::search::roots(c, found, budget) {
-        Roots::Found(count, left) => {
-            answer[0] = count as u64;
-            answer[1] = left as u64;
-            0
-        }
-        Roots::Refused(number, _) => number as u32,
-    }
+    let roots = bernstein::search::roots(c, found, budget);
+    let Roots::Found(count, left) = roots else {
+        let Roots::Refused(number, _) = roots else {
+            // This is never reached: what is not found is refused.
+            return 0;
+        };
+        return number as u32;
+    };
+    answer[0] = count as u64;
+    answer[1] = left as u64;
+    0
 }

@@ -23,24 +23,12 @@ use Rattle.edit_plan.specs.declared.Edited.{Edited}
 use Rattle.edit_plan.specs.Outcome.{refused, accepted, guard}
 use Rattle.edit_plan.specs.Suited.{outcomeOf}
 use Rattle.modify.specs.Edits.{editOf, editUntested, EditAnswer}
-use Rattle.replication.specs.Transitions.{reportedPlace}
 use Rattle.probe.specs.Edits.{editImage, numberOf, leftIn, Wrote, EditMade, editAdds, repeated}
 use Rattle.probe.proofs.Places.{place-low, untested-valid}
 
--- ---- the place above the number
-
-pub with-13 : (k p : ℕ) → k ≡ 13 → k + p % 65536 * 65536 ≡ k + reportedPlace k p % 65536 * 65536
-with-13 k p h = rw (eq-eqb k 13 h)
-
-pub with-19 : (k p : ℕ) → k ≡ 19 → k + p % 65536 * 65536 ≡ k + reportedPlace k p % 65536 * 65536
-with-19 k p h = rw (ne-eqb k 13 (λ z. omega arith), eq-eqb k 19 h)
-
-pub with-none : (k p : ℕ) → (k ≡ 13 → ⊥) → (k ≡ 19 → ⊥) → k ≡ k + reportedPlace k p % 65536 * 65536
-with-none k p a b = rw (ne-eqb k 13 a, ne-eqb k 19 b) (omega arith)
-
-place-is : (k p : ℕ) → (k ≡ 13) ⊎ (k ≡ 19) → p < 65536 → reportedPlace k p % 65536 ≡ p
-place-is k p (inl h) l = rw (eq-eqb k 13 h) (omega arith)
-place-is k p (inr h) l = rw (ne-eqb k 13 (λ z. omega arith), eq-eqb k 19 h) (omega arith)
+-- a place below 65536 fits above the number
+place-is : (p : ℕ) → p < 65536 → p % 65536 ≡ p
+place-is p l = omega arith
 
 -- ---- no edit
 
@@ -85,34 +73,30 @@ module _ (op : ℕ) (s : List ℕ) (t : ℕ) (p : Vec2) (before : List ℕ) wher
       unfolding operationOf
       extends e = ap operationOf e
 
-      pub edit-refused : (n : ℕ) → r .refusal < 256 → (r .refusal ≡ 0 → ⊥) → n ≡ r .refusal + reportedPlace (r .refusal) (r .place) % 65536 * 65536 → EditMade op s t p before before n
+      pub edit-refused : (n : ℕ) → r .refusal < 256 → (r .refusal ≡ 0 → ⊥) → n ≡ r .refusal + r .place % 65536 * 65536 → EditMade op s t p before before n
       unfolding numberOf leftIn
       edit-refused n low z is =
           let k = r .refusal in
-          let w = reportedPlace k (r .place) % 65536 in
           let number-is : n % 65536 ≡ k = omega arith in
-          let place-above : n / 65536 ≡ w = omega arith in
+          let place-above : n / 65536 ≡ r .place % 65536 = omega arith in
           let q : editImage op s t p ≡ refused k = outcome-is ∙ rw (ne-eqb k 0 z) in
           let u = sketch-valid sk f .1 in
           record {
             number = rw q number-is;
             buffer = rw q;
-            no-place = λ x y. place-above ∙ sym (nothing (λ h. x (number-is ∙ h)) (λ h. y (number-is ∙ h)));
+            no-place = λ x y. let h = a .no-place (λ h. x (number-is ∙ h)) (λ h. y (number-is ∙ h)) in omega arith;
             unmet-before = λ j e h.
                 let m = a .unmet-before (extends e) (sym number-is ∙ h) in
                 let l = place-low (view sk) (r .place) u m in
-                subst (λ d. unmetAt d (n / 65536) ≡ true) v (subst (λ (j : ℕ). unmetAt (view sk) j ≡ true) (sym (place-above ∙ place-is k (r .place) (inl (sym number-is ∙ h)) (omega arith))) m);
+                subst (λ d. unmetAt d (n / 65536) ≡ true) v (subst (λ (j : ℕ). unmetAt (view sk) j ≡ true) (sym (place-above ∙ place-is (r .place) (omega arith))) m);
             unmet-after = λ j e h d′ removed g.
                 let g1 : editUntested Extend limits (view sk) t p ≡ accepted d′ removed = ap (λ d. editUntested Extend limits d t p) v ∙ g in
                 let g2 : editUntested (operationOf op) limits (view sk) t p ≡ accepted d′ removed = ap (λ o. editUntested o limits (view sk) t p) (extends e) ∙ g1 in
                 let m = a .unmet-after (extends e) (sym number-is ∙ h) d′ removed g2 in
                 let u2 = untested-valid (view sk) t p d′ removed u g1 in
                 let l = place-low d′ (r .place) u2 m in
-                subst (λ (j : ℕ). unmetAt d′ j ≡ true) (sym (place-above ∙ place-is k (r .place) (inr (sym number-is ∙ h)) (omega arith))) m;
+                subst (λ (j : ℕ). unmetAt d′ j ≡ true) (sym (place-above ∙ place-is (r .place) (omega arith))) m;
           }
-        where
-          nothing : (r .refusal ≡ 13 → ⊥) → (r .refusal ≡ 19 → ⊥) → 0 ≡ reportedPlace (r .refusal) (r .place) % 65536
-          nothing x y = rw (ne-eqb (r .refusal) 13 x, ne-eqb (r .refusal) 19 y)
 
       pub edit-written : r .refusal ≡ 0 → (later : List ℕ) (n : ℕ) → Wrote (accepted (view (r .sketch)) (r .removed)) before later n → EditMade op s t p before later n
       unfolding guard numberOf

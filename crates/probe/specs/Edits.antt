@@ -16,7 +16,7 @@ use Rattle.image.specs.declared.Operation.the-variants.{Extend}
 use Rattle.relations.specs.Met.{unmetAt}
 use Rattle.edit_plan.specs.declared.Removed.{Removed}
 use Rattle.edit_plan.specs.Outcome.{Outcome, refused, accepted, _then_, guard}
-use Rattle.modify.specs.Edits.{editOf, editUntested}
+use Rattle.modify.specs.Edits.{editOf, editUntested, NoPlace}
 
 -- ---- one edit
 
@@ -55,7 +55,7 @@ pub record Wrote (o : Outcome Drawing Removed) (before later : List ℕ) (r : �
 pub record EditMade (op : ℕ) (s : List ℕ) (t : ℕ) (p : Vec2) (before later : List ℕ) (r : ℕ) : Type 0 where
   pub number : r % 65536 ≡ numberOf (fitting (length before) (editImage op s t p))
   pub buffer : later ≡ leftIn (fitting (length before) (editImage op s t p)) before
-  pub no-place : (r % 65536 ≡ 13 → ⊥) → (r % 65536 ≡ 19 → ⊥) → r / 65536 ≡ 0
+  pub no-place : NoPlace (r % 65536) (r / 65536)
   pub unmet-before : imageFault s ≡ 0 → op ≡ 3 → r % 65536 ≡ 13 → unmetAt (drawingOf s) (r / 65536) ≡ true
   pub unmet-after : imageFault s ≡ 0 → op ≡ 3 → r % 65536 ≡ 19 → (d′ : Drawing) (removed : Removed) → editUntested Extend limits (drawingOf s) t p ≡ accepted d′ removed → unmetAt d′ (r / 65536) ≡ true
 

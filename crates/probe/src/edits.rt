@@ -3,6 +3,8 @@ use big_endian::put4;
 use edit_plan::Removed;
 use geom::Vec2;
 use image::Operation;
+use image::is_operation;
+use image::operation_of;
 use sketch::Id;
 use sketch::Sketch;
 ghost use mathlib.Core.Path.{_≡_};
@@ -10,41 +12,18 @@ ghost use Prim.Native.Nat.{_+_, _*_, _%_};
 ghost use Rattle.geom.specs.Plane.{vec};
 ghost use Rattle.sketch.specs.Drawing.{view, limits};
 ghost use Rattle.sketch.specs.Valid.{sketchFault};
-ghost use Rattle.image.specs.Message.{operationOf, isOperation};
 ghost use Rattle.edit_plan.specs.Outcome.{accepted};
 ghost use Rattle.modify.specs.Edits.{editOf};
-ghost use Rattle.replication.specs.Transitions.{reportedPlace};
 ghost use Rattle.probe.specs.Edits.{Wrote, EditMade, editAdds, repeated, editsSum};
 
 // A report's size in bytes.
 const REPORT: usize = 12;
 
-pub(crate) fn is_operation(number: u32) -> bool
-    ensures { λ r. ⌜ r ≡ isOperation number ⌝ }
-{
-    (1 <= number) & (number <= 3)
-}
-
-pub(crate) fn operation_of(number: u32) -> Operation
-    ensures { λ r. ⌜ r ≡ operationOf number ⌝ }
-{
-    match number {
-        1 => Operation::Trim,
-        2 => Operation::Split,
-        _ => Operation::Extend,
-    }
-}
-
 // A refusal's number, and above its 16 bits the place that comes with 13 and 19.
 fn with_place(refusal: u8, place: usize) -> u32
-    ensures { λ r. ⌜ r ≡ refusal + reportedPlace refusal place % 65536 * 65536 ⌝ }
+    ensures { λ r. ⌜ r ≡ refusal + place % 65536 * 65536 ⌝ }
 {
-    let number = refusal as u32;
-    match refusal {
-        13 => number + (place % 65536) as u32 * 65536,
-        19 => number + (place % 65536) as u32 * 65536,
-        _ => number,
-    }
+    refusal as u32 + (place % 65536) as u32 * 65536
 }
 
 // The report and then the image to the buffer's front; or 25, and the buffer is left.

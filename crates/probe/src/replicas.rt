@@ -1,9 +1,9 @@
 // Desk and wall: the wall's program as one call, and a desk's edit and a delivery many times over for timing.
-use crate::edits::is_operation;
-use crate::edits::operation_of;
 use image::EditNumber;
 use image::MESSAGE_SIZE;
 use image::Operation;
+use image::is_operation;
+use image::operation_of;
 use replication::DeskReply;
 use replication::Replica;
 use replication::WallReply;

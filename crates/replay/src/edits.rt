@@ -11,7 +11,6 @@ use big_endian::get8;
 use edit_plan::Edited;
 use edit_plan::Removed;
 use geom::Vec2;
-use sketch::Id;
 use sketch::Sketch;
 ghost use Prim.Native.Nat.{_≤_};
 ghost use lib.ListN.{length};
@@ -28,24 +27,6 @@ fn pick(input: &[u8]) -> Vec2 {
     Vec2 {
         x: number(get8(input, 10)),
         y: number(get8(input, 18)),
-    }
-}
-
-// The edit, by the number of its operation.
-fn edited(operation: u32, sk: Sketch, curve: Id, at: Vec2) -> Edited {
-    match operation {
-        1 => modify::trim(sk, curve, at),
-        2 => modify::split(sk, curve, at),
-        _ => modify::extend(sk, curve, at),
-    }
-}
-
-// The place goes with 13 and 19 only.
-fn place_told(refusal: u8, place: usize) -> usize {
-    match refusal {
-        13 => place,
-        19 => place,
-        _ => 0,
     }
 }
 
@@ -95,9 +76,8 @@ fn answers(outcome: u8, e: Edited, input: &[u8], end: usize) -> bool
         return writes(outcome, e, get4(input, 26) as usize, &input[end..]);
     }
     let sk = e.sketch;
-    let place = place_told(e.refusal, e.place);
     (outcome == e.refusal)
-        & (place == get2(input, 0) as usize)
+        & (e.place == get2(input, 0) as usize)
         & (end == input.len())
         & holds_image(sk, &input[HEAD..end])
 }
@@ -114,10 +94,15 @@ pub(crate) fn alike(outcome: u8, input: &[u8]) -> bool {
         return (outcome == read.refusal) & (written == 0);
     }
     let operation = get4(input, 2);
-    if (operation == 0) | (3 < operation) {
+    if !image::is_operation(operation) {
         return (outcome == 6) & (written == 0);
     }
     let sk = read.sketch;
-    let e = edited(operation, sk, get4(input, 6), pick(input));
+    let e = modify::edit(
+        image::operation_of(operation),
+        sk,
+        get4(input, 6),
+        pick(input),
+    );
     answers(outcome, e, input, end)
 }

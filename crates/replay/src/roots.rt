@@ -83,15 +83,15 @@ pub(crate) fn alike(outcome: u8, input: &[u8]) -> bool {
     let left = get8(input, 10) as usize;
     let answer = bernstein::search::roots(&c[..n], &mut found[..lent], budget);
     let start = HEAD + 8 * n;
-    match answer {
-        Roots::Found(count, rest) => {
-            if 28 < count {
-                return false;
-            }
-            (outcome == 0) & (rest == left) & holds_just(&found, input, start, count)
-        }
-        Roots::Refused(number, rest) => {
-            (outcome == number) & (rest == left) & holds_just(&found, input, start, 0)
-        }
+    let Roots::Found(count, rest) = answer else {
+        let Roots::Refused(number, rest) = answer else {
+            // This is never reached: what is not found is refused.
+            return false;
+        };
+        return (outcome == number) & (rest == left) & holds_just(&found, input, start, 0);
+    };
+    if 28 < count {
+        return false;
     }
+    (outcome == 0) & (rest == left) & holds_just(&found, input, start, count)
 }

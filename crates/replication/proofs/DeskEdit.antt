@@ -21,8 +21,8 @@ use Rattle.agreement.specs.Machines.{maxEditNumber, Call, callOutcome, withCoun
 use Rattle.replication.specs.declared.Replica.{Replica}
 use Rattle.replication.specs.declared.DeskReply.the-variants as Desk
 use Rattle.replication.specs.Protocol.{Edit, isPick, messageFor, protocol}
-use Rattle.replication.specs.Transitions.{stateOf, firstFault, reportedPlace, DeskEdits}
-use Rattle.replication.proofs.Outcomes.{first-refused, first-sound, place-none, out-refused, out-accepted, refusal-fault, accepted-sound, edit-is, unmet}
+use Rattle.replication.specs.Transitions.{stateOf, firstFault, DeskEdits}
+use Rattle.replication.proofs.Outcomes.{first-refused, first-sound, first-above, out-refused, out-accepted, refusal-fault, accepted-sound, edit-is, unmet}
 
 module _ (s : Replica) (e : Edit) (b : List ℕ) where
   abbrev call : Call Edit
@@ -30,27 +30,28 @@ module _ (s : Replica) (e : Edit) (b : List ℕ) where
 
   -- refused before the edit is looked at
   desk-refused :
-      (k n : ℕ) → n ≡ firstFault (s .sketch) k → callOutcome protocol (stateOf s) call ≡ refused k → (k ≡ 13 → ⊥) → (k ≡ 19 → ⊥)
+      (k n : ℕ) → n ≡ firstFault (s .sketch) k → callOutcome protocol (stateOf s) call ≡ refused k → (k ≡ 13 → ⊥) → (k ≡ 19 → ⊥) → (k ≡ 0 → ⊥)
       → DeskEdits s (record { edit = e; before = b; after = b; answer = record { replica = s; reply = Desk.Refused n 0 } })
-  desk-refused k n f q t u =
+  desk-refused k n f q t u o =
       record {
         when-refused = λ h. ap M.deskRefused (first-refused (s .sketch) k f h);
         step = λ h. record { state = sym (ap (stateAfter (stateOf s)) q); reply = ap M.deskRefused (first-sound (s .sketch) k f h) ∙ sym (ap (M.replyTo protocol e) q) };
         valid = λ h. h;
         place = λ h. record { before = λ x z. absurd (t (sym (first-sound (s .sketch) k f h) ∙ z)); after = λ x z d′ reply q. absurd (u (sym (first-sound (s .sketch) k f h) ∙ z)) };
         no-place = λ x y. refl;
+        numbered = first-above (s .sketch) k f o;
         kept = refl;
         buffer = refl;
       }
 
   pub desk-short : length b < messageSize → (n : ℕ) → n ≡ firstFault (s .sketch) 25 → DeskEdits s (record { edit = e; before = b; after = b; answer = record { replica = s; reply = Desk.Refused n 0 } })
   unfolding guard
-  desk-short h n f = desk-refused 25 n f (rw (lt-leb messageSize (length b) h)) (λ z. omega arith) (λ z. omega arith)
+  desk-short h n f = desk-refused 25 n f (rw (lt-leb messageSize (length b) h)) (λ z. omega arith) (λ z. omega arith) (λ z. omega arith)
 
   module _ (room : messageSize ≤ length b) where
     pub desk-full : maxEditNumber ≤ s .count → (n : ℕ) → n ≡ firstFault (s .sketch) 23 → DeskEdits s (record { edit = e; before = b; after = b; answer = record { replica = s; reply = Desk.Refused n 0 } })
     unfolding guard
-    desk-full h n f = desk-refused 23 n f (rw (le-leb messageSize (length b) room, le-ltb (s .count) maxEditNumber h)) (λ z. omega arith) (λ z. omega arith)
+    desk-full h n f = desk-refused 23 n f (rw (le-leb messageSize (length b) room, le-ltb (s .count) maxEditNumber h)) (λ z. omega arith) (λ z. omega arith) (λ z. omega arith)
 
     module _ (low : s .count < maxEditNumber) (r : Edited) (a : EditAnswer (e .operation) (s .sketch) (e .curve) (e .at) r) (f : isPick (e .at) ≡ true) where
       came : sketchFault (s .sketch) ≡ 0 → callOutcome protocol (stateOf s) call ≡ withCount (s .count + 1) (outcomeOf r)
@@ -58,17 +59,17 @@ module _ (s : Replica) (e : Edit) (b : List ℕ) where
       came h = rw (le-leb messageSize (length b) room, lt-ltb (s .count) maxEditNumber low) (ap (withCount (s .count + 1)) (edit-is (s .sketch) e r a f h))
 
       pub desk-declined :
-          (r .refusal ≡ 0 → ⊥) → (place : ℕ) → place ≡ reportedPlace (r .refusal) (r .place)
-          → DeskEdits s (record { edit = e; before = b; after = b; answer = record { replica = s; reply = Desk.Refused (r .refusal) place } })
-      desk-declined z place p =
+          (r .refusal ≡ 0 → ⊥) → DeskEdits s (record { edit = e; before = b; after = b; answer = record { replica = s; reply = Desk.Refused (r .refusal) (r .place) } })
+      desk-declined z =
           record {
             when-refused = λ h. ap M.deskRefused (refusal-fault (s .sketch) e r a h z);
             step = λ h.
                 let q = came h ∙ ap (withCount (s .count + 1)) (out-refused (s .sketch) e r a z) in
                 record { state = sym (ap (stateAfter (stateOf s)) q); reply = sym (ap (M.replyTo protocol e) q) };
             valid = λ h. h;
-            place = λ h. unmet (s .sketch) e r a place p;
-            no-place = place-none (r .refusal) (r .place) p;
+            place = λ h. unmet (s .sketch) e r a;
+            no-place = a .no-place;
+            numbered = z;
             kept = refl;
             buffer = refl;
           }
@@ -94,6 +95,7 @@ module _ (s : Replica) (e : Edit) (b : List ℕ) where
             valid = λ g. a .valid z;
             place = λ g. tt;
             no-place = tt;
+            numbered = tt;
             kept = tt;
             buffer = is;
           }

@@ -6,5 +6,7 @@ pub mod Outcomes
 pub mod DeskEdit
 pub mod WallDeliver
 pub mod Program
+pub mod WallCases
+pub mod ProgramWrites
 pub mod Runs
 pub mod RunBoth

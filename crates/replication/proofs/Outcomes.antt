@@ -4,7 +4,7 @@ use mathlib.Core.Bool.{Bool, true, false, not, _&&_}
 use Prim.Native.Nat.{ℕ}
 use native.Mathlib.Omega.{arith}
 use lib.Dec.{T, eqb}
-use borrow.Author.Tests.{eq-eqb, ne-eqb}
+use borrow.Author.Tests.{eq-eqb, ne-eqb, eqb-false}
 use lib.Ieee.{Float, div, nan, inf, fin, ofBits, fits, isNan, nanBits, binary64}
 use lib.Ieee.Bits.{ofBits-fits, nanBits-is}
 use Rattle.sketch.specs.declared.Sketch.{Sketch}
@@ -13,7 +13,7 @@ use Rattle.sketch.specs.Drawing.{Drawing, view, limits, curveIn}
 use Rattle.sketch.specs.Valid.{okCoordinate, sketchFault}
 use Rattle.image.proofs.Floats.{coordinate-rejects, number-float, nan-fails}
 use Rattle.sketch_geometry.proofs.Found.{no-number}
-use Rattle.relations.specs.Met.{allMet, unmetAt}
+use Rattle.relations.specs.Met.{allMet}
 use Rattle.edit_plan.specs.declared.Edited.{Edited}
 use Rattle.edit_plan.specs.declared.Removed.{Removed}
 use Rattle.edit_plan.specs.Outcome.{Outcome, refused, accepted, guard}
@@ -23,7 +23,7 @@ use Rattle.modify.specs.declared.PlanResult.{PlanResult}
 use Rattle.modify.specs.Planning.{guardPlan}
 use Rattle.modify.specs.Edits.{planOnFound, applyPlanned, editOf, EditAnswer}
 use Rattle.replication.specs.Protocol.{Edit, isPick, edit}
-use Rattle.replication.specs.Transitions.{UnmetPlace, NoPlace, reportedPlace, firstFault}
+use Rattle.replication.specs.Transitions.{UnmetPlace, firstFault}
 use Rattle.replication.proofs.Decoding.{need-accepted}
 
 -- ---- the sketch's own number first
@@ -36,6 +36,14 @@ pub first-sound : (s : Sketch) (k : ℕ) {n : ℕ} → n ≡ firstFault s k → 
 unfolding guardNumber
 first-sound s k e h = e ∙ rw (eq-eqb (sketchFault s) 0 h)
 
+pub first-above : (s : Sketch) (k : ℕ) {n : ℕ} → n ≡ firstFault s k → (k ≡ 0 → ⊥) → n ≡ 0 → ⊥
+unfolding guardNumber
+first-above s k e h z = go (eqb (sketchFault s) 0) refl (sym e ∙ z)
+  where
+    go : (b : Bool) → eqb (sketchFault s) 0 ≡ b → guardNumber b (sketchFault s) k ≡ 0 → ⊥
+    go true q i = h i
+    go false q i = eqb-false (sketchFault s) 0 q i
+
 -- and as it is computed
 pub first-if : (s : Sketch) (k : ℕ) {n : ℕ} → n ≡ sketchFault s → (n ≡ 0 → ⊥) → n ≡ firstFault s k
 unfolding guardNumber
@@ -44,17 +52,6 @@ first-if s k {n} e h = e ∙ sym (rw (ne-eqb (sketchFault s) 0 (λ z. h (e ∙ z
 pub first-else : (s : Sketch) (k : ℕ) {n : ℕ} → n ≡ sketchFault s → n ≡ 0 → k ≡ firstFault s k
 unfolding guardNumber
 first-else s k {n} e h = sym (rw (eq-eqb (sketchFault s) 0 (sym e ∙ h)))
-
--- ---- the place
-
-pub place-none : (k p : ℕ) {n : ℕ} → n ≡ reportedPlace k p → NoPlace k n
-place-none k p e a b = e ∙ rw (ne-eqb k 13 a, ne-eqb k 19 b)
-
-place-13 : (k p : ℕ) → k ≡ 13 → reportedPlace k p ≡ p
-place-13 k p h = rw (eq-eqb k 13 h)
-
-place-19 : (k p : ℕ) → k ≡ 19 → reportedPlace k p ≡ p
-place-19 k p h = rw (ne-eqb k 13 (λ z. omega arith), eq-eqb k 19 h)
 
 -- ---- picks
 
@@ -166,9 +163,5 @@ module _ (s : Sketch) (e : Edit) (r : Edited) (a : EditAnswer (e .operation) s (
       let q = need-accepted (eqb (sketchFault s) 0) (sketchFault s) (editOf (e .operation) limits (view s) (e .curve) (e .at)) _ _ (sym (a .outcome) ∙ out-accepted z) .1 in
       both-true _ _ (decided-place (okPosition (e .at)) (planOnFound (e .operation) (view s) (e .at) (curveIn (view s .curves) (e .curve))) (view s) (e .curve) _ _ q)
 
-  pub unmet : (place : ℕ) → place ≡ reportedPlace (r .refusal) (r .place) → UnmetPlace e (view s) (r .refusal) place
-  unmet place is =
-      record {
-        before = λ o k. subst (λ (n : ℕ). unmetAt (view s) n ≡ true) (sym (is ∙ place-13 (r .refusal) (r .place) k)) (a .unmet-before o k);
-        after = λ o k d′ reply q. subst (λ (n : ℕ). unmetAt d′ n ≡ true) (sym (is ∙ place-19 (r .refusal) (r .place) k)) (a .unmet-after o k d′ reply q);
-      }
+  pub unmet : UnmetPlace e (view s) (r .refusal) (r .place)
+  unmet = record { before = a .unmet-before; after = a .unmet-after }

@@ -1,15 +1,18 @@
 -- Runs of desk and wall over whole lists, and the log between them.
 use mathlib.Core.Path.{_≡_, refl, sym, ap, ap₂, _∙_, subst}
+use mathlib.Core.Bool.{Bool, true, false}
 use mathlib.Core.List.{List, [], _∷_, _++_, map, append-nil, append-assoc, List·Memᴰ, List·Memᴰ·head, List·Memᴰ·tail}
 use Prim.Native.Nat.{ℕ, zero, suc, _+_, _*_, _-_, _/_, _≤_, _<_}
 use native.Mathlib.Omega.{arith}
+use native.Mathlib.Nat.{zero-add}
 use lib.ListN.{length, take, drop, getD, length-append, length-take, take-append-drop}
-use lib.Seq.{take-all, take-at, drop-append-add, take-append-le}
-use lib.Dec.{leb}
-use borrow.Author.Tests.{leb-true}
+use lib.Seq.{take-all, take-at, drop-append-add, drop-append-le, drop-append-seam, drop-drop, take-append-le}
+use lib.Dec.{leb, ltb}
+use borrow.Author.Tests.{leb-true, lt-ltb, le-ltb, ltb-true}
 use borrow.Rule.Slice.PartMut.{midOf, putMid, put-same, same-len-mid, mid-len}
 use Rattle.big_endian.specs.Fields.{field, over}
 use Rattle.big_endian.specs.Laws.{length-over}
+use Rattle.sketch.specs.Lists.{ite, concatMap}
 use Rattle.sketch.specs.Drawing.{Drawing, view}
 use Rattle.sketch.specs.Valid.{sketchFault}
 use Rattle.image.specs.Message.{encode, messageSize}
@@ -38,6 +41,10 @@ map-more : {A B : Type 0} (f : A → B) (xs : List A) (x : A) → map f (xs ++ (
 map-more f [] x = refl
 map-more f (u ∷ xs) x = ap (λ r. f u ∷ r) (map-more f xs x)
 
+spread-more : {A B : Type 0} (f : A → List B) (xs : List A) (x : A) → concatMap f (xs ++ (x ∷ [])) ≡ concatMap f xs ++ f x
+spread-more f [] x = append-nil (f x)
+spread-more f (u ∷ xs) x = ap (λ r. f u ++ r) (spread-more f xs x) ∙ sym (append-assoc (f u) (concatMap f xs) (f x))
+
 take-more : (xs : List ℕ) (j : ℕ) → j < length xs → take (suc j) xs ≡ take j xs ++ (getD xs j 0 ∷ [])
 take-more [] j h = absurd (omega arith)
 take-more (x ∷ xs) zero h = refl
@@ -63,29 +70,40 @@ wall-after-more s (u ∷ xs) x = wall-after-more (u .state) xs x
 pub ran-none : (s : Replica) → sketchFault (s .sketch) ≡ 0 → WallRan s [] s
 ran-none s v = record { steps = []; run = tt; fed = refl; ends = refl; valid = v }
 
-pub ran-more :
-    (s t : Replica) (log order : List ℕ) (j from : ℕ) (a : WallTransition) → j < length order → from ≡ getD order j 0 * messageSize → WallRan s (messagesInLog log (take j order)) t
-    → WallDelivers t (wallCall (take (from + messageSize - from) (drop from log)) a) → WallRan s (messagesInLog log (take (suc j) order)) (a .replica)
-ran-more s t log order j from a h f r w =
-    let o = getD order j 0 in
-    let n : from + messageSize - from ≡ messageSize = omega arith in
-    let g : from ≡ messageSize * o = omega arith in
-    let m : take (from + messageSize - from) (drop from log) ≡ take messageSize (drop (messageSize * o) log) = ap₂ (λ (k l : ℕ). take k (drop l log)) n g in
-    let w2 : WallDelivers t (wallCall (take messageSize (drop (messageSize * o) log)) a) = subst (λ (m : List ℕ). WallDelivers t (wallCall m a)) m w in
-    let x = wallStep (wallCall (take messageSize (drop (messageSize * o) log)) a) in
-    record {
-      steps = r .steps ++ (x ∷ []);
-      run = wall-more (stateOf s) (r .steps) x (r .run) (subst (λ (u : State Drawing). WallStepValid protocol u x) (sym (r .ends)) (w2 .step (r .valid)));
-      fed =
-          map-more (λ (x : WallStep Drawing Removed). x .bytes) (r .steps) x
-          ∙ ap (λ (l : List (List ℕ)). l ++ (take messageSize (drop (messageSize * o) log) ∷ [])) (r .fed)
-          ∙ sym (ap (messagesInLog log) (take-more order j h) ∙ map-more (λ (o : ℕ). take messageSize (drop (messageSize * o) log)) (take j order) o);
-      ends = wall-after-more (stateOf s) (r .steps) x;
-      valid = w .valid (r .valid);
-    }
+-- one place more of the log's n
+module _ (s t : Replica) (n : ℕ) (log order : List ℕ) (j : ℕ) (h : j < length order) (r : WallRan s (messagesInLog n log (take j order)) t) where
+  abbrev o : ℕ
+  o = getD order j 0
 
-pub ran-all : (s t : Replica) (log order : List ℕ) (j : ℕ) → length order ≤ j → WallRan s (messagesInLog log (take j order)) t → WallRan s (messagesInLog log order) t
-ran-all s t log order j h r = subst (λ (l : List ℕ). WallRan s (messagesInLog log l) t) (take-all j order h) r
+  abbrev delivery : List ℕ
+  delivery = take messageSize (drop (messageSize * o) log)
+
+  grows : messagesInLog n log (take (suc j) order) ≡ messagesInLog n log (take j order) ++ ite (ltb o n) (delivery ∷ []) []
+  grows = ap (messagesInLog n log) (take-more order j h) ∙ spread-more (λ (o : ℕ). ite (ltb o n) (take messageSize (drop (messageSize * o) log) ∷ []) []) (take j order) o
+
+  pub ran-past : n ≤ o → WallRan s (messagesInLog n log (take (suc j) order)) t
+  ran-past k = subst (λ (l : List (List ℕ)). WallRan s l t) (sym (grows ∙ rw (le-ltb o n k) (append-nil (messagesInLog n log (take j order))))) r
+
+  pub ran-more : o < n → (from : ℕ) (a : WallTransition) → from ≡ o * messageSize → WallDelivers t (wallCall (take (from + messageSize - from) (drop from log)) a) → WallRan s (messagesInLog n log (take (suc j) order)) (a .replica)
+  ran-more k from a f w =
+      let e : from + messageSize - from ≡ messageSize = omega arith in
+      let g : from ≡ messageSize * o = omega arith in
+      let m : take (from + messageSize - from) (drop from log) ≡ delivery = ap₂ (λ (k l : ℕ). take k (drop l log)) e g in
+      let w2 : WallDelivers t (wallCall delivery a) = subst (λ (m : List ℕ). WallDelivers t (wallCall m a)) m w in
+      let x = wallStep (wallCall delivery a) in
+      record {
+        steps = r .steps ++ (x ∷ []);
+        run = wall-more (stateOf s) (r .steps) x (r .run) (subst (λ (u : State Drawing). WallStepValid protocol u x) (sym (r .ends)) (w2 .step (r .valid)));
+        fed =
+            map-more (λ (x : WallStep Drawing Removed). x .bytes) (r .steps) x
+            ∙ ap (λ (l : List (List ℕ)). l ++ (delivery ∷ [])) (r .fed)
+            ∙ sym (grows ∙ rw (lt-ltb o n k));
+        ends = wall-after-more (stateOf s) (r .steps) x;
+        valid = w .valid (r .valid);
+      }
+
+pub ran-all : (s t : Replica) (n : ℕ) (log order : List ℕ) (j : ℕ) → length order ≤ j → WallRan s (messagesInLog n log (take j order)) t → WallRan s (messagesInLog n log order) t
+ran-all s t n log order j h r = subst (λ (l : List ℕ). WallRan s (messagesInLog n log l) t) (take-all j order h) r
 
 -- ---- a run of the desk
 
@@ -113,7 +131,7 @@ thirties-append : (xs ys : List (List ℕ)) → MessageSized xs → MessageSized
 thirties-append [] ys h k = k
 thirties-append (m ∷ xs) ys h k = (h .0, thirties-append xs ys (h .1) k)
 
-desk-ran-none : (s : Replica) (log : List ℕ) → sketchFault (s .sketch) ≡ 0 → s .count ≡ 0 → DeskRan (view (s .sketch)) [] log s
+desk-ran-none : (s : Replica) (log : List ℕ) → sketchFault (s .sketch) ≡ 0 → s .count ≡ 0 → DeskRan (view (s .sketch)) [] log log s
 desk-ran-none s log v z =
     let n : messageSize * s .count ≡ 0 = omega arith in
     record {
@@ -122,6 +140,7 @@ desk-ran-none s log v z =
       fed = refl;
       ends = λ i. record { drawing = view (s .sketch); count = sym z i };
       logged = sym (ap (λ (k : ℕ). take k log) n);
+      rest = refl;
       fits = omega arith;
       many = sym z;
       few = omega arith;
@@ -130,15 +149,16 @@ desk-ran-none s log v z =
     }
 
 -- one more call: its step, and what it left in the log
-module _ (d : Drawing) (cs : List (Call Edit)) (log : List ℕ) (w : Replica) (r : DeskRan d cs log w) (c : DeskCall) (step : DeskEdits w c) where
+module _ (d : Drawing) (cs : List (Call Edit)) (before log : List ℕ) (w : Replica) (r : DeskRan d cs before log w) (c : DeskCall) (step : DeskEdits w c) where
   abbrev reply : List (List ℕ)
   reply = prependMessage (deskStep c .reply) []
 
   made :
-      (l : List ℕ) → concat (messages (r .steps)) ++ concat reply ≡ take (messageSize * c .answer .replica .count) l → messageSize * c .answer .replica .count ≤ length l
+      (l : List ℕ) → concat (messages (r .steps)) ++ concat reply ≡ take (messageSize * c .answer .replica .count) l
+      → drop (messageSize * c .answer .replica .count) l ≡ drop (messageSize * c .answer .replica .count) before → messageSize * c .answer .replica .count ≤ length l
       → length (messages (r .steps)) + length reply ≡ c .answer .replica .count → c .answer .replica .count ≤ length cs + 1 → MessageSized reply
-      → DeskRan d (cs ++ (deskStep c .call ∷ [])) l (c .answer .replica)
-  made l lg ft mn fw tw =
+      → DeskRan d (cs ++ (deskStep c .call ∷ [])) before l (c .answer .replica)
+  made l lg rs ft mn fw tw =
       let mm = messages-more (r .steps) (deskStep c) in
       record {
         steps = r .steps ++ (deskStep c ∷ []);
@@ -146,12 +166,30 @@ module _ (d : Drawing) (cs : List (Call Edit)) (log : List ℕ) (w : Replica) (r
         fed = map-more (λ (x : DeskStep Drawing Edit Removed). x .call) (r .steps) (deskStep c) ∙ ap (λ (l : List (Call Edit)). l ++ (deskStep c .call ∷ [])) (r .fed);
         ends = desk-after-more (initial d) (r .steps) (deskStep c);
         logged = ap concat mm ∙ flat-append (messages (r .steps)) reply ∙ lg;
+        rest = rs;
         fits = ft;
         many = ap length mm ∙ length-append (messages (r .steps)) reply ∙ mn;
         few = omega (arith, length-append cs (deskStep c .call ∷ []));
         sizes = subst MessageSized (sym mm) (thirties-append (messages (r .steps)) reply (r .sizes) tw);
         valid = step .valid (r .valid);
       }
+
+-- a message written over the front of a part leaves what lies behind it
+rest-after :
+    (log msg : List ℕ) (from room : ℕ) (p : List ℕ) → from ≤ length log → length msg ≤ length (midOf from room log) → p ≡ over (midOf from room log) 0 msg
+    → drop (from + length msg) (putMid from room log p) ≡ drop (from + length msg) log
+unfolding over
+rest-after log msg from room p h k e =
+    let part = take room (drop from log) in
+    let behind = drop room (drop from log) in
+    let n : length (take from log) ≡ from = length-take from log ∙ omega arith in
+    let front : drop (from + length msg) (take from log ++ (p ++ behind)) ≡ drop (length msg) (p ++ behind) =
+    ap (λ (m : ℕ). drop (m + length msg) (take from log ++ (p ++ behind))) (sym n) ∙ drop-append-add (take from log) (p ++ behind) (length msg) in
+    let same : drop (length msg) (p ++ behind) ≡ drop (length msg) part ++ behind =
+    ap (λ (l : List ℕ). drop (length msg) (l ++ behind)) (e ∙ ap (λ (k : ℕ). msg ++ drop k part) (zero-add (length msg)))
+    ∙ ap (drop (length msg)) (append-assoc msg (drop (length msg) part) behind)
+    ∙ drop-append-seam msg (drop (length msg) part ++ behind) in
+    front ∙ same ∙ sym (drop-append-le (length msg) part behind k) ∙ ap (drop (length msg)) (take-append-drop room (drop from log)) ∙ drop-drop (length msg) from log
 
 -- what an accepted call needed
 room-of : (s : State Drawing) (c : Call Edit) (t : State Drawing) (q : Removed) → callOutcome protocol s c ≡ accepted t q → (messageSize ≤ c .room) × (t .count ≡ s .count + 1)
@@ -160,7 +198,7 @@ room-of s c t q e =
     (leb-true messageSize (c .room) (need-accepted (leb messageSize (c .room)) 25 _ t q e .0), k .next)
 
 module _
-    (d : Drawing) (cs : List (Call Edit)) (log : List ℕ) (w : Replica) (r : DeskRan d cs log w)
+    (d : Drawing) (cs : List (Call Edit)) (before log : List ℕ) (w : Replica) (r : DeskRan d cs before log w)
     (e : Edit) (room : ℕ) (fits : messageSize * w .count + room ≤ length log)
   where
     abbrev from : ℕ
@@ -176,12 +214,13 @@ module _
         (y : Replica) (t : DeskReply) (p : List ℕ) (step : DeskEdits w (record { edit = e; before = lent; after = p; answer = record { replica = y; reply = t } }))
         → (o : Outcome (State Drawing) Removed) → callOutcome protocol (stateOf w) (record { edit = e; room = length lent }) ≡ o
         → stateOf y ≡ stateAfter (stateOf w) o → deskReply t (take messageSize p) ≡ M.replyTo protocol e o → p ≡ written t (y .count) e lent
-        → DeskRan d (cs ++ (record { edit = e; room = length lent } ∷ [])) (putMid from room log p) y × (length (putMid from room log p) ≡ length log)
+        → DeskRan d (cs ++ (record { edit = e; room = length lent } ∷ [])) before (putMid from room log p) y × (length (putMid from room log p) ≡ length log)
     by-case y (Desk.Refused k place) p step (refused n) v sd td wr =
         let c : y .count ≡ w .count = ap (λ (u : State Drawing). u .count) sd in
         let l : putMid from room log p ≡ log = ap (putMid from room log) wr ∙ put-same from room log in (
-          made d cs log w r _ step (putMid from room log p)
+          made d cs before log w r _ step (putMid from room log p)
               (append-nil (concat (messages (r .steps))) ∙ r .logged ∙ ap (λ (n : ℕ). take (messageSize * n) log) (sym c) ∙ ap (take (messageSize * y .count)) (sym l))
+              (ap (drop (messageSize * y .count)) l ∙ ap (λ (n : ℕ). drop (messageSize * n) log) c ∙ r .rest ∙ sym (ap (λ (n : ℕ). drop (messageSize * n) before) c))
               (omega (arith, ap length l, r .fits)) (omega (arith, r .many)) (omega (arith, r .few)) tt,
           ap length l,
         )
@@ -197,48 +236,51 @@ module _
         let ll : length (putMid from room log p) ≡ length log = same-len-mid from room log p lp in
         let tp : take messageSize (p ++ drop room (drop from log)) ≡ take messageSize p = take-append-le messageSize p (drop room (drop from log)) (omega arith) in
         let t2 : length (take messageSize p) ≡ messageSize = length-take messageSize p ∙ omega arith in
-        let n2 : from + messageSize ≡ messageSize * y .count = omega arith in (
-          made d cs log w r _ step (putMid from room log p)
+        let n2 : from + messageSize ≡ messageSize * y .count = omega arith in
+        let n3 : from + length msg ≡ messageSize * y .count = omega arith in (
+          made d cs before log w r _ step (putMid from room log p)
               (ap (λ (l : List ℕ). l ++ (take messageSize p ++ [])) (r .logged)
               ∙ ap (λ (l : List ℕ). take from log ++ l) (append-nil (take messageSize p) ∙ sym tp)
               ∙ sym (take-past log (p ++ drop room (drop from log)) from messageSize (r .fits))
               ∙ ap (λ (n : ℕ). take n (putMid from room log p)) n2)
+              (ap (λ (n : ℕ). drop n (putMid from room log p)) (sym n3) ∙ rest-after log msg from room p (r .fits) (omega arith) wr
+              ∙ sym (drop-drop (length msg) from log) ∙ ap (drop (length msg)) (r .rest) ∙ drop-drop (length msg) from before ∙ ap (λ (n : ℕ). drop n before) n3)
               (omega (arith, lent-long)) (omega (arith, r .many)) (omega (arith, r .few)) (t2, tt),
           ll,
         )
 
     desk-ran-more :
         (a : DeskTransition) (p : List ℕ) → DeskEdits w (record { edit = e; before = lent; after = p; answer = a })
-        → DeskRan d (cs ++ (record { edit = e; room = room } ∷ [])) (putMid from room log p) (a .replica) × (length (putMid from room log p) ≡ length log)
+        → DeskRan d (cs ++ (record { edit = e; room = room } ∷ [])) before (putMid from room log p) (a .replica) × (length (putMid from room log p) ≡ length log)
     desk-ran-more a p step =
         let h = step .step (r .valid) in
-        subst (λ (n : ℕ). DeskRan d (cs ++ (record { edit = e; room = n } ∷ [])) (putMid from room log p) (a .replica) × (length (putMid from room log p) ≡ length log)) lent-long
+        subst (λ (n : ℕ). DeskRan d (cs ++ (record { edit = e; room = n } ∷ [])) before (putMid from room log p) (a .replica) × (length (putMid from room log p) ≡ length log)) lent-long
         (by-case (a .replica) (a .reply) p step (callOutcome protocol (stateOf w) (record { edit = e; room = length lent })) refl (h .state) (h .reply) (step .buffer))
 
 -- the next call of a list
 pub desk-ran-next :
-    (d : Drawing) (entries log : List ℕ) (i : ℕ) (w : Replica) → i < length entries / callSize → messageSize * (length entries / callSize) + maxRoom ≤ length log
-    → DeskRan d (rows i (callAt entries)) log w → (from k : ℕ) → from ≡ messageSize * w .count → k ≡ field entries (i * callSize + roomAt) 1 → k < 256
+    (d : Drawing) (entries before log : List ℕ) (i : ℕ) (w : Replica) → i < length entries / callSize → messageSize * (length entries / callSize) + maxRoom ≤ length log
+    → DeskRan d (rows i (callAt entries)) before log w → (from k : ℕ) → from ≡ messageSize * w .count → k ≡ field entries (i * callSize + roomAt) 1 → k < 256
     → (a : DeskTransition) (p : List ℕ) → DeskEdits w (record { edit = editAt entries (i * callSize); before = midOf from k log; after = p; answer = a })
-    → DeskRan d (rows (suc i) (callAt entries)) (putMid from k log p) (a .replica) × (length (putMid from k log p) ≡ length log)
+    → DeskRan d (rows (suc i) (callAt entries)) before (putMid from k log p) (a .replica) × (length (putMid from k log p) ≡ length log)
 unfolding rows
-desk-ran-next d entries log i w h room r from k f g small a p =
+desk-ran-next d entries before log i w h room r from k f g small a p =
     let few : w .count ≤ i = omega (arith, r .few, rows-length i (callAt entries)) in
     let fits : messageSize * w .count + field entries (i * callSize + roomAt) 1 ≤ length log = omega arith in
     subst
     (λ (n : ℕ). DeskEdits w (record { edit = editAt entries (i * callSize); before = midOf n k log; after = p; answer = a })
-    → DeskRan d (rows i (callAt entries) ++ (callAt entries i ∷ [])) (putMid n k log p) (a .replica) × (length (putMid n k log p) ≡ length log))
+    → DeskRan d (rows i (callAt entries) ++ (callAt entries i ∷ [])) before (putMid n k log p) (a .replica) × (length (putMid n k log p) ≡ length log))
     (sym f)
     (subst
     (λ (m : ℕ). DeskEdits w (record { edit = editAt entries (i * callSize); before = midOf (messageSize * w .count) m log; after = p; answer = a })
-    → DeskRan d (rows i (callAt entries) ++ (callAt entries i ∷ [])) (putMid (messageSize * w .count) m log p) (a .replica) × (length (putMid (messageSize * w .count) m log p) ≡ length log))
+    → DeskRan d (rows i (callAt entries) ++ (callAt entries i ∷ [])) before (putMid (messageSize * w .count) m log p) (a .replica) × (length (putMid (messageSize * w .count) m log p) ≡ length log))
     (sym g)
-    (desk-ran-more d (rows i (callAt entries)) log w r (editAt entries (i * callSize)) (field entries (i * callSize + roomAt) 1) fits a p))
+    (desk-ran-more d (rows i (callAt entries)) before log w r (editAt entries (i * callSize)) (field entries (i * callSize + roomAt) 1) fits a p))
 
-pub desk-ran-all : (d : Drawing) (entries log : List ℕ) (i : ℕ) (w : Replica) → i ≡ length entries / callSize → DeskRan d (rows i (callAt entries)) log w → DeskRan d (callsIn entries) log w
-desk-ran-all d entries log i w h r = subst (λ (n : ℕ). DeskRan d (rows n (callAt entries)) log w) h r
+pub desk-ran-all : (d : Drawing) (entries before log : List ℕ) (i : ℕ) (w : Replica) → i ≡ length entries / callSize → DeskRan d (rows i (callAt entries)) before log w → DeskRan d (callsIn entries) before log w
+desk-ran-all d entries before log i w h r = subst (λ (n : ℕ). DeskRan d (rows n (callAt entries)) before log w) h r
 
-pub desk-ran-start : (s : Replica) (entries log : List ℕ) → sketchFault (s .sketch) ≡ 0 → s .count ≡ 0 → DeskRan (view (s .sketch)) (rows 0 (callAt entries)) log s
+pub desk-ran-start : (s : Replica) (entries log : List ℕ) → sketchFault (s .sketch) ≡ 0 → s .count ≡ 0 → DeskRan (view (s .sketch)) (rows 0 (callAt entries)) log log s
 unfolding rows
 desk-ran-start s entries log v z = desk-ran-none s log v z
 
@@ -266,28 +308,53 @@ member [] o h = absurd (omega arith)
 member (m ∷ ms) zero h = List·Memᴰ·head refl
 member (m ∷ ms) (suc o) h = List·Memᴰ·tail (member ms o (omega arith))
 
-abbrev pub Below : ℕ → List ℕ → Type 0
-Below n order = (k : ℕ) → k < length order → getD order k 0 < n
+-- each of the messages at some places is one of them
+abbrev AllIn : List (List ℕ) → List (List ℕ) → Type 0
+AllIn ms [] = Unit {0}
+AllIn ms (m ∷ l) = List·Memᴰ m ms × AllIn ms l
 
-pub deliver :
-    (ms : List (List ℕ)) (order : List ℕ) (xs : List (WallStep Drawing Removed)) → Below (length ms) order
-    → map (λ (x : WallStep Drawing Removed). x .bytes) xs ≡ messagesAt ms order → Delivered ms xs
-deliver ms [] [] b e = tt
-deliver ms (o ∷ order) [] b e = tt
-deliver ms [] (x ∷ xs) b e = let z : _≡_ {A = ℕ} 0 1 = cc in absurd (omega arith)
-deliver ms (o ∷ order) (x ∷ xs) b e =
-    let p : x .bytes ≡ getD ms o [] = cc in
-    let q : map (λ (x : WallStep Drawing Removed). x .bytes) xs ≡ messagesAt ms order = cc in
-    (subst (λ (m : List ℕ). List·Memᴰ m ms) (sym p) (member ms o (b 0 (omega arith))), deliver ms order xs (λ k h. b (suc k) (omega arith)) q)
+one-in : (ms l : List (List ℕ)) (o : ℕ) (b : Bool) → ltb o (length ms) ≡ b → AllIn ms l → AllIn ms (ite b (getD ms o [] ∷ []) [] ++ l)
+one-in ms l o true e a = (member ms o (ltb-true o (length ms) e), a)
+one-in ms l o false e a = a
 
-places : (ms : List (List ℕ)) (log order : List ℕ) → Below (length ms) order → ((o : ℕ) → o < length ms → take messageSize (drop (messageSize * o) log) ≡ getD ms o []) → messagesInLog log order ≡ messagesAt ms order
-places ms log [] b h = refl
-places ms log (o ∷ order) b h = ap₂ (λ (m : List ℕ) (l : List (List ℕ)). m ∷ l) (h o (b 0 (omega arith))) (places ms log order (λ k p. b (suc k) (omega arith)) h)
+all-in : (ms : List (List ℕ)) (order : List ℕ) → AllIn ms (messagesAt ms order)
+all-in ms [] = tt
+all-in ms (o ∷ order) = one-in ms (messagesAt ms order) o (ltb o (length ms)) refl (all-in ms order)
 
-pub log-holds : (d : Drawing) (cs : List (Call Edit)) (log order : List ℕ) (w : Replica) (r : DeskRan d cs log w) → Below (w .count) order → messagesInLog log order ≡ messagesAt (messages (r .steps)) order
-log-holds d cs log order w r b =
-    let ms = messages (r .steps) in
-    places ms log order (λ k h. omega (arith, b k h, r .many))
-    (λ o h.
-    ap (λ (l : List ℕ). take messageSize (drop (messageSize * o) l)) (sym (take-append-drop (messageSize * w .count) log) ∙ ap (λ (l : List ℕ). l ++ drop (messageSize * w .count) log) (sym (r .logged)))
-    ∙ nth ms (drop (messageSize * w .count) log) o (r .sizes) h)
+delivered : (ms : List (List ℕ)) (xs : List (WallStep Drawing Removed)) (l : List (List ℕ)) → map (λ (x : WallStep Drawing Removed). x .bytes) xs ≡ l → AllIn ms l → Delivered ms xs
+delivered ms [] l e a = tt
+delivered ms (x ∷ xs) [] e a = let z : _≡_ {A = ℕ} 0 1 = cc in absurd (omega arith)
+delivered ms (x ∷ xs) (m ∷ l) e a =
+    let p : x .bytes ≡ m = cc in
+    let q : map (λ (x : WallStep Drawing Removed). x .bytes) xs ≡ l = cc in
+    (subst (λ (m : List ℕ). List·Memᴰ m ms) (sym p) (a .0), delivered ms xs l q (a .1))
+
+pub deliver : (ms : List (List ℕ)) (order : List ℕ) (xs : List (WallStep Drawing Removed)) → map (λ (x : WallStep Drawing Removed). x .bytes) xs ≡ messagesAt ms order → Delivered ms xs
+deliver ms order xs e = delivered ms xs (messagesAt ms order) e (all-in ms order)
+
+places : (ms : List (List ℕ)) (n : ℕ) (log order : List ℕ) → length ms ≡ n → ((o : ℕ) → o < length ms → take messageSize (drop (messageSize * o) log) ≡ getD ms o []) → messagesInLog n log order ≡ messagesAt ms order
+places ms n log [] e h = refl
+places ms n log (o ∷ order) e h = ap₂ (λ (a b : List (List ℕ)). a ++ b) (go (ltb o (length ms)) refl) (places ms n log order e h)
+  where
+    go : (b : Bool) → ltb o (length ms) ≡ b → ite (ltb o n) (take messageSize (drop (messageSize * o) log) ∷ []) [] ≡ ite b (getD ms o [] ∷ []) []
+    go true q = rw (← e, q) (ap (λ (m : List ℕ). m ∷ []) (h o (ltb-true o (length ms) q)))
+    go false q = rw (← e, q)
+
+module _ (d : Drawing) (cs : List (Call Edit)) (before log : List ℕ) (w : Replica) (r : DeskRan d cs before log w) where
+  abbrev ms : List (List ℕ)
+  ms = messages (r .steps)
+
+  pub log-holds : (order : List ℕ) → messagesInLog (w .count) log order ≡ messagesAt ms order
+  log-holds order =
+      places ms (w .count) log order (r .many)
+      (λ o h.
+      ap (λ (l : List ℕ). take messageSize (drop (messageSize * o) l)) (sym (take-append-drop (messageSize * w .count) log) ∙ ap (λ (l : List ℕ). l ++ drop (messageSize * w .count) log) (sym (r .logged)))
+      ∙ nth ms (drop (messageSize * w .count) log) o (r .sizes) h)
+
+  pub log-after : log ≡ over before 0 (concat ms)
+  unfolding over
+  log-after =
+      let n : length (concat ms) ≡ messageSize * w .count = ap length (r .logged) ∙ length-take (messageSize * w .count) log ∙ omega (arith, r .fits) in
+      sym (take-append-drop (messageSize * w .count) log)
+      ∙ ap₂ (λ (a b : List ℕ). a ++ b) (sym (r .logged)) (r .rest)
+      ∙ ap (λ (k : ℕ). concat ms ++ drop k before) (sym n ∙ sym (zero-add (length (concat ms))))

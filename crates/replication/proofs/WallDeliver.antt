@@ -23,8 +23,8 @@ use Rattle.agreement.specs.Machines.{State, message, wallRefused, wallOld, wall
 use Rattle.replication.specs.declared.Replica.{Replica}
 use Rattle.replication.specs.declared.WallReply.the-variants as Wall
 use Rattle.replication.specs.Protocol.{Edit, edit, editIn, decodedOf, protocol}
-use Rattle.replication.specs.Transitions.{stateOf, firstFault, reportedPlace, UnmetPlace, wallCall, WallDelivers}
-use Rattle.replication.proofs.Outcomes.{first-refused, first-sound, place-none, is-pick, nan-refused, out-refused, out-accepted, refusal-fault, accepted-sound, edit-is, unmet}
+use Rattle.replication.specs.Transitions.{stateOf, firstFault, UnmetPlace, wallCall, WallDelivers}
+use Rattle.replication.proofs.Outcomes.{first-refused, first-sound, first-above, is-pick, nan-refused, out-refused, out-accepted, refusal-fault, accepted-sound, edit-is, unmet}
 
 -- a message is refused by 1, 2 or 6
 small : (b : Bool) (n rest : ℕ) → n ≤ 6 → rest ≤ 6 → guardNumber b n rest ≤ 6
@@ -42,23 +42,25 @@ module _ (s : Replica) (bytes : List ℕ) where
 
   -- refused before the edit is looked at, or by a number that comes with no place
   wall-refused :
-      (k n : ℕ) → n ≡ firstFault (s .sketch) k → heard ≡ (stateOf s, wallRefused k) → (k ≡ 13 → ⊥) → (k ≡ 19 → ⊥)
+      (k n : ℕ) → n ≡ firstFault (s .sketch) k → heard ≡ (stateOf s, wallRefused k) → (k ≡ 13 → ⊥) → (k ≡ 19 → ⊥) → (k ≡ 0 → ⊥)
       → WallDelivers s (wallCall bytes (record { replica = s; reply = Wall.Refused n 0 }))
-  wall-refused k n f q t u =
+  wall-refused k n f q t u o =
       record {
         when-refused = λ h. ap wallRefused (first-refused (s .sketch) k f h);
         step = λ h. record { state = sym (ap (λ (w : State Drawing × M.WallReply Removed). w .0) q); reply = ap wallRefused (first-sound (s .sketch) k f h) ∙ sym (ap (λ (w : State Drawing × M.WallReply Removed). w .1) q) };
         valid = λ h. h;
         place = λ h n e o. record { before = λ x z. absurd (t (sym (first-sound (s .sketch) k f h) ∙ z)); after = λ x z d′ reply q. absurd (u (sym (first-sound (s .sketch) k f h) ∙ z)) };
         no-place = λ x y. refl;
+        numbered = first-above (s .sketch) k f o;
         kept = refl;
       }
 
   pub wall-unread : (k : ℕ) → parse bytes ≡ Refused k → (n : ℕ) → n ≡ firstFault (s .sketch) k → WallDelivers s (wallCall bytes (record { replica = s; reply = Wall.Refused n 0 }))
   unfolding decodedOf
   wall-unread k e n f =
-      let low : k ≤ 6 = omega (arith, result-refused (messageFault bytes) (messageOf bytes) k e .0, fault-small bytes) in
-      wall-refused k n f (ap (wallTransition protocol (stateOf s)) (ap decodedOf e)) (λ z. omega arith) (λ z. omega arith)
+      let w = result-refused (messageFault bytes) (messageOf bytes) k e in
+      let low : k ≤ 6 = omega (arith, w .0, fault-small bytes) in
+      wall-refused k n f (ap (wallTransition protocol (stateOf s)) (ap decodedOf e)) (λ z. omega arith) (λ z. omega arith) (w .1)
 
   module _ (m : Message) (is : parse bytes ≡ Accepted m) where
     reading : protocol .decode bytes ≡ message (m .number) (editIn m)
@@ -73,6 +75,7 @@ module _ (s : Replica) (bytes : List ℕ) where
           valid = λ h. h;
           place = λ h. absurd (z (f ∙ h));
           no-place = λ x y. refl;
+          numbered = z;
           kept = refl;
         }
 
@@ -85,6 +88,7 @@ module _ (s : Replica) (bytes : List ℕ) where
           valid = λ h. h;
           place = λ h. tt;
           no-place = tt;
+          numbered = tt;
           kept = refl;
         }
 
@@ -92,7 +96,7 @@ module _ (s : Replica) (bytes : List ℕ) where
       pub wall-ahead :
           (m .number ≡ s .count + 1 → ⊥) → (n : ℕ) → n ≡ firstFault (s .sketch) 7 → WallDelivers s (wallCall bytes (record { replica = s; reply = Wall.Refused n 0 }))
       wall-ahead h n f =
-          wall-refused 7 n f (ap (wallTransition protocol (stateOf s)) reading ∙ rw (lt-leb (m .number) (s .count) new, ne-eqb (m .number) (s .count + 1) h)) (λ z. omega arith) (λ z. omega arith)
+          wall-refused 7 n f (ap (wallTransition protocol (stateOf s)) reading ∙ rw (lt-leb (m .number) (s .count) new, ne-eqb (m .number) (s .count + 1) h)) (λ z. omega arith) (λ z. omega arith) (λ z. omega arith)
 
       module _ (next : m .number ≡ s .count + 1) where
         came : heard ≡ wallApply protocol (stateOf s) (m .number) (edit (view (s .sketch)) (editIn m))
@@ -102,16 +106,15 @@ module _ (s : Replica) (bytes : List ℕ) where
             (not (nanBits binary64 (m .x)) && not (nanBits binary64 (m .y))) ≡ false → (n : ℕ) → n ≡ firstFault (s .sketch) 9
             → WallDelivers s (wallCall bytes (record { replica = s; reply = Wall.Refused n 0 }))
         wall-nan h n f =
-            wall-refused 9 n f (came ∙ ap (wallApply protocol (stateOf s) (m .number)) (nan-refused (view (s .sketch)) (editIn m) (m .x) (m .y) refl h)) (λ z. omega arith) (λ z. omega arith)
+            wall-refused 9 n f (came ∙ ap (wallApply protocol (stateOf s) (m .number)) (nan-refused (view (s .sketch)) (editIn m) (m .x) (m .y) refl h)) (λ z. omega arith) (λ z. omega arith) (λ z. omega arith)
 
         module _ (r : Edited) (a : EditAnswer (m .operation) (s .sketch) (m .curve) (editIn m .at) r) where
           made : sketchFault (s .sketch) ≡ 0 → (o : Outcome Drawing Removed) → outcomeOf r ≡ o → heard ≡ wallApply protocol (stateOf s) (m .number) o
           made h o q = came ∙ ap (wallApply protocol (stateOf s) (m .number)) (edit-is (s .sketch) (editIn m) r a (is-pick (m .x) (m .y)) h ∙ q)
 
           pub wall-declined :
-              (r .refusal ≡ 0 → ⊥) → (place : ℕ) → place ≡ reportedPlace (r .refusal) (r .place)
-              → WallDelivers s (wallCall bytes (record { replica = s; reply = Wall.Refused (r .refusal) place }))
-          wall-declined z place p =
+              (r .refusal ≡ 0 → ⊥) → WallDelivers s (wallCall bytes (record { replica = s; reply = Wall.Refused (r .refusal) (r .place) }))
+          wall-declined z =
               record {
                 when-refused = λ h. ap wallRefused (refusal-fault (s .sketch) (editIn m) r a h z);
                 step = λ h.
@@ -121,8 +124,9 @@ module _ (s : Replica) (bytes : List ℕ) where
                 place = λ h n e o.
                     let same : message n e ≡ message (m .number) (editIn m) = sym o ∙ reading in
                     let w : editIn m ≡ e = cc in
-                    subst (λ (e : Edit). UnmetPlace e (view (s .sketch)) (r .refusal) place) w (unmet (s .sketch) (editIn m) r a place p);
-                no-place = place-none (r .refusal) (r .place) p;
+                    subst (λ (e : Edit). UnmetPlace e (view (s .sketch)) (r .refusal) (r .place)) w (unmet (s .sketch) (editIn m) r a);
+                no-place = a .no-place;
+                numbered = z;
                 kept = refl;
               }
 
@@ -137,5 +141,6 @@ module _ (s : Replica) (bytes : List ℕ) where
                 valid = λ h. a .valid z;
                 place = λ h. tt;
                 no-place = tt;
+                numbered = tt;
                 kept = tt;
               }

@@ -6,16 +6,17 @@ use mathlib.Core.List.{List, [], _∷_, _++_, map}
 use lib.ListN.{length, take, drop, getD}
 use lib.Dec.{leb, ltb}
 use lib.Ieee.{ofBits, binary64}
-use Rattle.big_endian.specs.Fields.{field}
-use Rattle.sketch.specs.Lists.{every, guardNumber}
+use Rattle.big_endian.specs.Fields.{field, over}
+use Rattle.sketch.specs.Lists.{ite, concatMap, guardNumber}
 use Rattle.sketch.specs.Drawing.{Drawing}
 use Rattle.sketch.specs.Valid.{sketchFault}
 use Rattle.image.specs.Message.{operationOf, messageSize}
 use Rattle.image.specs.Image as I
+use Rattle.image.specs.Decode.{drawingIn}
 use Rattle.image.specs.Records.{idSize}
 use Rattle.cuts.specs.Columns.{rows}
 use Rattle.edit_plan.specs.declared.Removed.{Removed}
-use Rattle.agreement.specs.Machines.{initial, Call, acceptedLog, DeskStep, calls, deskAfter, messages, DeskRun, WallStep, wallAfter, WallRun}
+use Rattle.agreement.specs.Machines.{initial, Call, DeskStep, calls, deskAfter, messages, DeskRun, WallStep, wallAfter, WallRun}
 use Rattle.replication.specs.declared.Replica.{Replica}
 use Rattle.replication.specs.declared.RunResult.{RunResult}
 use Rattle.replication.specs.Protocol.{Edit, protocol}
@@ -54,28 +55,26 @@ callAt s i = record { edit = editAt s (i * callSize); room = field s (i * callSi
 abbrev pub callsIn : List ℕ → List (Call Edit)
 callsIn s = rows (length s / callSize) (callAt s)
 
--- ---- the wall's list: which of the desk's messages, by place
+-- ---- the wall's list: which of the desk's messages, by place; a place without one is passed over
 
 abbrev pub messagesAt : List (List ℕ) → List ℕ → List (List ℕ)
-messagesAt ms order = map (λ o. getD ms o []) order
+messagesAt ms order = concatMap (λ o. ite (ltb o (length ms)) (getD ms o [] ∷ []) []) order
 
--- ---- refusals, in order: the image's; a log that may not hold all messages and the room lent beside them (25); a place at which there is no message (7)
+-- ---- refusals, in order: the image's; a log that may not hold all messages and the room lent beside them (25)
 
 abbrev pub hasRoom : ℕ → ℕ → Bool
 hasRoom size room = leb maxRoom room && leb (size / callSize) ((room - maxRoom) / messageSize)
 
-abbrev pub allBelow : ℕ → List ℕ → Bool
-allBelow n order = every (λ o. ltb o n) order
-
-abbrev pub runBothFault : List ℕ → List ℕ → List ℕ → ℕ → ℕ
-runBothFault image entries order room =
-    firstNonzero (I.imageFault image)
-    (guardNumber (hasRoom (length entries) room) 25
-    (guardNumber (allBelow (length (acceptedLog protocol (initial (I.drawingOf image)) (callsIn entries))) order) 7 0))
+abbrev pub runBothFault : List ℕ → ℕ → ℕ → ℕ
+runBothFault image size room = firstNonzero (I.imageFault image) (guardNumber (hasRoom size room) 25 0)
 
 -- ---- the run: the calls and deliveries as they happened, each list whole, and the claim over both
 
-pub record RunHolds (image entries order : List ℕ) (r : RunResult) : Type 0 where
+abbrev pub concat : List (List ℕ) → List ℕ
+concat [] = []
+concat (m ∷ ms) = m ++ concat ms
+
+pub record RunHolds (image entries order before log : List ℕ) (r : RunResult) : Type 0 where
   pub start : Drawing
   pub image-is : I.parse image ≡ I.accepted start
   pub desk : List (DeskStep Drawing Edit Removed)
@@ -86,38 +85,41 @@ pub record RunHolds (image entries order : List ℕ) (r : RunResult) : Type 0 wh
   pub wall-fed : map (λ (x : WallStep Drawing Removed). x .bytes) wall ≡ messagesAt (messages desk) order
   pub desk-ends : deskAfter (initial start) desk ≡ stateOf (r .desk)
   pub wall-ends : wallAfter (initial start) wall ≡ stateOf (r .wall)
+  -- the desk's messages stand at the log's front, one after the other, and the rest is as it was
+  pub log-is : log ≡ over before 0 (concat (messages desk))
   pub correct : ReplicationCorrect start desk wall
 
-pub record RunsBoth (image entries order : List ℕ) (room : ℕ) (r : RunResult) : Type 0 where
-  pub number : r .refusal ≡ runBothFault image entries order room
-  pub held : r .refusal ≡ 0 → RunHolds image entries order r
+pub record RunsBoth (image entries order before log : List ℕ) (r : RunResult) : Type 0 where
+  pub number : r .refusal ≡ runBothFault image (length entries) (length before)
+  -- a refusal leaves the log, and desk and wall at the start
+  pub desk-start : (r .refusal ≡ 0 → ⊥) → stateOf (r .desk) ≡ initial (drawingIn (I.parse image))
+  pub wall-start : (r .refusal ≡ 0 → ⊥) → stateOf (r .wall) ≡ initial (drawingIn (I.parse image))
+  pub log-kept : (r .refusal ≡ 0 → ⊥) → log ≡ before
+  pub held : r .refusal ≡ 0 → RunHolds image entries order before log r
 
 -- ---- the two halves
-
-abbrev pub concat : List (List ℕ) → List ℕ
-concat [] = []
-concat (m ∷ ms) = m ++ concat ms
 
 abbrev pub MessageSized : List (List ℕ) → Type 0
 MessageSized [] = Unit {0}
 MessageSized (m ∷ ms) = (length m ≡ messageSize) × MessageSized ms
 
--- a run of the desk over some calls, its messages one after the other at the front of the log
-pub record DeskRan (start : Drawing) (cs : List (Call Edit)) (log : List ℕ) (t : Replica) : Type 0 where
+-- a run of the desk over some calls, its messages one after the other at the front of the log, the rest of which is as it was
+pub record DeskRan (start : Drawing) (cs : List (Call Edit)) (before log : List ℕ) (t : Replica) : Type 0 where
   pub steps : List (DeskStep Drawing Edit Removed)
   pub run : DeskRun protocol (initial start) steps
   pub fed : calls steps ≡ cs
   pub ends : deskAfter (initial start) steps ≡ stateOf t
   pub logged : concat (messages steps) ≡ take (messageSize * t .count) log
+  pub rest : drop (messageSize * t .count) log ≡ drop (messageSize * t .count) before
   pub fits : messageSize * t .count ≤ length log
   pub many : length (messages steps) ≡ t .count
   pub few : t .count ≤ length cs
   pub sizes : MessageSized (messages steps)
   pub valid : sketchFault (t .sketch) ≡ 0
 
--- a run of the wall over the messages at some places of a log
-abbrev pub messagesInLog : List ℕ → List ℕ → List (List ℕ)
-messagesInLog log order = map (λ o. take messageSize (drop (messageSize * o) log)) order
+-- a run of the wall over the messages at some places of a log of n
+abbrev pub messagesInLog : ℕ → List ℕ → List ℕ → List (List ℕ)
+messagesInLog n log order = concatMap (λ o. ite (ltb o n) (take messageSize (drop (messageSize * o) log) ∷ []) []) order
 
 pub record WallRan (s : Replica) (ds : List (List ℕ)) (t : Replica) : Type 0 where
   pub steps : List (WallStep Drawing Removed)
@@ -125,7 +127,3 @@ pub record WallRan (s : Replica) (ds : List (List ℕ)) (t : Replica) : Type 0 w
   pub fed : map (λ (x : WallStep Drawing Removed). x .bytes) steps ≡ ds
   pub ends : wallAfter (stateOf s) steps ≡ stateOf t
   pub valid : sketchFault (t .sketch) ≡ 0
-
--- each place's message lies in the log
-abbrev pub InLog : List ℕ → List ℕ → Type 0
-InLog log order = (k : ℕ) → k < length order → messageSize * getD order k 0 + messageSize ≤ length log

@@ -1,13 +1,13 @@
 -- The contracts of desk and wall: each call is a step of the machines of `agreement`. Definitions only.
 use Prim.Native.Nat.{ℕ}
 use mathlib.Core.Path.{_≡_}
-use mathlib.Core.Bool.{true, _||_}
+use mathlib.Core.Bool.{true}
 use mathlib.Core.List.{List, [], _∷_}
 use lib.ListN.{length, take}
 use lib.Dec.{eqb}
 use lib.Ieee.{Float}
 use Rattle.big_endian.specs.Fields.{over}
-use Rattle.sketch.specs.Lists.{ite, guardNumber}
+use Rattle.sketch.specs.Lists.{guardNumber}
 use Rattle.sketch.specs.declared.Sketch.{Sketch}
 use Rattle.sketch.specs.Drawing.{Drawing, view, limits}
 use Rattle.sketch.specs.Valid.{sketchFault}
@@ -17,10 +17,11 @@ use Rattle.image.specs.declared.Message.{Message}
 use Rattle.image.specs.declared.MessageRead.the-variants.{Accepted}
 use Rattle.image.specs.Message.{parse, encode, messageSize}
 use Rattle.image.specs.Image as I
+use Rattle.image.specs.Decode.{drawingIn}
 use Rattle.relations.specs.Met.{unmetAt}
 use Rattle.edit_plan.specs.declared.Removed.{Removed}
 use Rattle.edit_plan.specs.Outcome.{accepted}
-use Rattle.modify.specs.Edits.{editUntested}
+use Rattle.modify.specs.Edits.{editUntested, NoPlace}
 use Rattle.agreement.specs.Machines as M
 use Rattle.agreement.specs.Machines.{State, message, DeskStep, DeskStepValid, WallStep, WallStepValid}
 use Rattle.replication.specs.declared.Replica.{Replica}
@@ -40,6 +41,7 @@ stateOf s = record { drawing = view (s .sketch); count = s .count }
 
 pub record Starts (image : List ℕ) (r : Started) : Type 0 where
   pub reply : I.resultOf (r .refusal) (view (r .replica .sketch)) ≡ I.parse image
+  pub drawing-is : view (r .replica .sketch) ≡ drawingIn (I.parse image)
   pub zero-count : r .replica .count ≡ 0
   pub valid : sketchFault (r .replica .sketch) ≡ 0
 
@@ -48,13 +50,6 @@ pub record Starts (image : List ℕ) (r : Started) : Type 0 where
 pub record UnmetPlace (e : Edit) (d : Drawing) (k place : ℕ) : Type 0 where
   pub before : e .operation ≡ Extend → k ≡ 13 → unmetAt d place ≡ true
   pub after : e .operation ≡ Extend → k ≡ 19 → (d′ : Drawing) (removed : Removed) → editUntested (e .operation) limits d (e .curve) (e .at) ≡ accepted d′ removed → unmetAt d′ place ≡ true
-
--- with every other number comes 0
-abbrev pub NoPlace : ℕ → ℕ → Type 0
-NoPlace k place = (k ≡ 13 → ⊥) → (k ≡ 19 → ⊥) → place ≡ 0
-
-abbrev pub reportedPlace : ℕ → ℕ → ℕ
-reportedPlace k place = ite (eqb k 13 || eqb k 19) place 0
 
 -- the sketch's own number before any other
 abbrev pub firstFault : Sketch → ℕ → ℕ
@@ -102,6 +97,11 @@ abbrev pub DeskNoPlace : DeskReply → Type 0
 DeskNoPlace (Desk.Refused k place) = NoPlace k place
 DeskNoPlace (Desk.Accepted r) = Unit {0}
 
+-- a refusal has a number above 0
+abbrev pub DeskNumbered : DeskReply → Type 0
+DeskNumbered (Desk.Refused k place) = k ≡ 0 → ⊥
+DeskNumbered (Desk.Accepted r) = Unit {0}
+
 -- a sketch that no image gives is refused first; on any other the call is one of the machine's, and leaves another such sketch
 pub record DeskEdits (s : Replica) (c : DeskCall) : Type 0 where
   pub when-refused : (sketchFault (s .sketch) ≡ 0 → ⊥) → deskStep c .reply ≡ M.deskRefused (sketchFault (s .sketch))
@@ -109,6 +109,7 @@ pub record DeskEdits (s : Replica) (c : DeskCall) : Type 0 where
   pub valid : sketchFault (s .sketch) ≡ 0 → sketchFault (c .answer .replica .sketch) ≡ 0
   pub place : sketchFault (s .sketch) ≡ 0 → DeskPlace (c .answer .reply) (c .edit) (view (s .sketch))
   pub no-place : DeskNoPlace (c .answer .reply)
+  pub numbered : DeskNumbered (c .answer .reply)
   pub kept : DeskKept (c .answer .reply) s (c .answer .replica)
   pub buffer : c .after ≡ written (c .answer .reply) (c .answer .replica .count) (c .edit) (c .before)
 
@@ -150,12 +151,18 @@ WallNoPlace (Wall.Refused k place) = NoPlace k place
 WallNoPlace Wall.Old = Unit {0}
 WallNoPlace (Wall.Applied r) = Unit {0}
 
+abbrev pub WallNumbered : WallReply → Type 0
+WallNumbered (Wall.Refused k place) = k ≡ 0 → ⊥
+WallNumbered Wall.Old = Unit {0}
+WallNumbered (Wall.Applied r) = Unit {0}
+
 pub record WallDelivers (s : Replica) (c : WallCall) : Type 0 where
   pub when-refused : (sketchFault (s .sketch) ≡ 0 → ⊥) → wallStep c .reply ≡ M.wallRefused (sketchFault (s .sketch))
   pub step : sketchFault (s .sketch) ≡ 0 → WallStepValid protocol (stateOf s) (wallStep c)
   pub valid : sketchFault (s .sketch) ≡ 0 → sketchFault (c .answer .replica .sketch) ≡ 0
   pub place : sketchFault (s .sketch) ≡ 0 → WallPlace (c .answer .reply) (c .bytes) (view (s .sketch))
   pub no-place : WallNoPlace (c .answer .reply)
+  pub numbered : WallNumbered (c .answer .reply)
   pub kept : WallKept (c .answer .reply) s (c .answer .replica)
 
 abbrev pub WallCalls : Replica → List WallCall → Type 0

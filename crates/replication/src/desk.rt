@@ -3,7 +3,6 @@ use crate::DeskReply;
 use crate::DeskTransition;
 use crate::Replica;
 use crate::refusals::first_fault;
-use crate::refusals::reported_place;
 use geom::Vec2;
 use image::MAX_EDIT_NUMBER;
 use image::MESSAGE_SIZE;
@@ -41,7 +40,7 @@ pub fn desk_edit(
     if e.refusal != 0 {
         return DeskTransition {
             replica,
-            reply: DeskReply::Refused(e.refusal, reported_place(e.refusal, e.place)),
+            reply: DeskReply::Refused(e.refusal, e.place),
         };
     }
     let number = count + 1;

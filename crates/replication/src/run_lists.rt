@@ -19,7 +19,7 @@ ghost use lib.Ieee.{ofBits, binary64};
 ghost use Rattle.sketch.specs.Drawing.{view};
 ghost use Rattle.sketch.specs.Valid.{sketchFault};
 ghost use Rattle.replication.specs.Transitions.{DeskEdits};
-ghost use Rattle.replication.specs.RunBoth.{editAt, callsIn, hasRoom, allBelow, DeskRan, messagesInLog, WallRan, InLog, RunsBoth, callSize, maxRoom};
+ghost use Rattle.replication.specs.RunBoth.{editAt, callsIn, hasRoom, DeskRan, messagesInLog, WallRan, RunsBoth, callSize, maxRoom};
 ghost use Rattle.image.specs.Message.{messageSize};
 
 // Where the parts of a call stand in the desk's list: operation, curve, the pick's x and y, the room, which is one byte.
@@ -50,7 +50,7 @@ fn desk_edit_at(replica: Replica, entries: &[u8], at: usize, out: &mut [u8]) -> 
     requires { ⌜ at + callSize ≤ length (now entries) ⌝ }
     ensures { λ r. ⌜ DeskEdits replica (record { edit = editAt (now (entries .entry)) at; before = now (out .entry); after = now (out .exit); answer = r }) ⌝ }
 {
-    let operation = operation_of(get1(entries, at));
+    let operation = operation_of(get1(entries, at) as u32);
     let x = coordinate(get8(entries, at + X_AT));
     let y = coordinate(get8(entries, at + Y_AT));
     desk_edit(replica, operation, get4(entries, at + CURVE_AT), x, y, out)
@@ -59,7 +59,7 @@ fn desk_edit_at(replica: Replica, entries: &[u8], at: usize, out: &mut [u8]) -> 
 // Runs each call on the replica that the one before left, and writes the messages one after the other to the log.
 fn run_desk(replica: Replica, entries: &[u8], log: &mut [u8]) -> Replica
     requires { ⌜ (sketchFault (replica .sketch) ≡ 0) × (replica .count ≡ 0) × (messageSize * (length (now entries) / callSize) + maxRoom ≤ length (now log)) ⌝ }
-    ensures { λ r. ⌜ DeskRan (view (replica .sketch)) (callsIn (now (entries .entry))) (now (log .exit)) r × (length (now (log .exit)) ≡ length (now (log .entry))) ⌝ }
+    ensures { λ r. ⌜ DeskRan (view (replica .sketch)) (callsIn (now (entries .entry))) (now (log .entry)) (now (log .exit)) r × (length (now (log .exit)) ≡ length (now (log .entry))) ⌝ }
 {
     let mut last = replica;
     let mut i = 0usize;
@@ -73,19 +73,23 @@ fn run_desk(replica: Replica, entries: &[u8], log: &mut [u8]) -> Replica
     last
 }
 
-// Delivers each message of the log that `order` names to the replica that the one before left.
-fn run_wall(replica: Replica, log: &[u8], order: &[usize]) -> Replica
-    requires { ⌜ (sketchFault (replica .sketch) ≡ 0) × InLog (now log) (now order) ⌝ }
-    ensures { λ r. ⌜ WallRan replica (messagesInLog (now (log .entry)) (now (order .entry))) r ⌝ }
+// Delivers each of the log's n messages that `order` names to the replica that the one before left. A place without a message is
+// passed over.
+fn run_wall(replica: Replica, log: &[u8], order: &[usize], n: usize) -> Replica
+    requires { ⌜ (sketchFault (replica .sketch) ≡ 0) × (messageSize * n ≤ length (now log)) ⌝ }
+    ensures { λ r. ⌜ WallRan replica (messagesInLog n (now (log .entry)) (now (order .entry))) r ⌝ }
 {
     let mut last = replica;
     let mut j = 0usize;
     while j < order.len() {
-        let from = order[j] * MESSAGE_SIZE;
-        let to = from + MESSAGE_SIZE;
-        let answer = wall_deliver(last, &log[from..to]);
-        last = answer.replica;
+        let o = order[j];
         j += 1;
+        if o < n {
+            let from = o * MESSAGE_SIZE;
+            let to = from + MESSAGE_SIZE;
+            let answer = wall_deliver(last, &log[from..to]);
+            last = answer.replica;
+        }
     }
     last
 }
@@ -100,23 +104,11 @@ fn has_room(size: usize, room: usize) -> bool
     size / CALL_SIZE <= (room - MAX_ROOM) / MESSAGE_SIZE
 }
 
-fn all_below(order: &[usize], n: usize) -> bool
-    ensures { λ r. ⌜ r ≡ allBelow n (now (order .entry)) ⌝ }
-{
-    let mut j = 0usize;
-    while j < order.len() {
-        if n <= order[j] {
-            return false;
-        }
-        j += 1;
-    }
-    true
-}
-
 // Both lists whole, from one image: the calls in `entries` to the desk, then to the wall the messages at the places in `order`.
-// The log takes the messages. Refused are an image, as ever, a log that is too short (25), and a place without a message (7).
+// The log takes the messages. Refused are an image, as ever, and a log that is too short (25): then neither list is run, and the
+// log is left.
 pub fn run_both(image: &[u8], entries: &[u8], order: &[usize], log: &mut [u8]) -> RunResult
-    ensures { λ r. ⌜ RunsBoth (now (image .entry)) (now (entries .entry)) (now (order .entry)) (length (now (log .entry))) r ⌝ }
+    ensures { λ r. ⌜ RunsBoth (now (image .entry)) (now (entries .entry)) (now (order .entry)) (now (log .entry)) (now (log .exit)) r ⌝ }
 {
     let started = start(image);
     let replica = started.replica;
@@ -135,14 +127,7 @@ pub fn run_both(image: &[u8], entries: &[u8], order: &[usize], log: &mut [u8]) -
         };
     }
     let desk = run_desk(replica, entries, log);
-    if !all_below(order, desk.count as usize) {
-        return RunResult {
-            desk,
-            wall: replica,
-            refusal: 7,
-        };
-    }
-    let wall = run_wall(replica, log, order);
+    let wall = run_wall(replica, log, order, desk.count as usize);
     RunResult {
         desk,
         wall,

@@ -3,7 +3,6 @@ use crate::Replica;
 use crate::WallReply;
 use crate::WallTransition;
 use crate::refusals::first_fault;
-use crate::refusals::reported_place;
 use geom::Vec2;
 use image::Message;
 use image::MessageRead;
@@ -59,7 +58,7 @@ fn deliver_message(replica: Replica, m: Message) -> WallTransition
     if e.refusal != 0 {
         return WallTransition {
             replica,
-            reply: WallReply::Refused(e.refusal, reported_place(e.refusal, e.place)),
+            reply: WallReply::Refused(e.refusal, e.place),
         };
     }
     let sketch = e.sketch;

@@ -39,21 +39,21 @@ pub fn turn(v: Vec2) -> f64
 }
 
 // A parameter, by the turn from a start.
-pub fn forward(t: f64) -> f64
+pub(crate) fn forward(t: f64) -> f64
     ensures { λ r. ⌜ r ≡ T.forward t ⌝ }
 {
     if t < 0.0 { t + 4.0 } else { t }
 }
 
 // A sweep, by the turn from start to end.
-pub fn upward(t: f64) -> f64
+pub(crate) fn upward(t: f64) -> f64
     ensures { λ r. ⌜ r ≡ T.upward t ⌝ }
 {
     if 0.0 < t { t } else { t + 4.0 }
 }
 
 // Within one turn.
-pub fn wrapped(s: f64) -> f64
+pub(crate) fn wrapped(s: f64) -> f64
     ensures { λ r. ⌜ r ≡ T.wrapped s ⌝ }
 {
     if 4.0 <= s { s - 4.0 } else { s }
@@ -68,7 +68,7 @@ fn first_quarter(f: f64) -> Vec2
 }
 
 // The direction that has turned by s.
-pub fn heading(s: f64) -> Vec2
+pub(crate) fn heading(s: f64) -> Vec2
     ensures { λ r. ⌜ r ≡ T.heading s ⌝ }
 {
     if s < 1.0 {

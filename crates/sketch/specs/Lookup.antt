@@ -1,10 +1,10 @@
 -- Look-ups by id in a list of ids.
-use Prim.Native.Nat.{ℕ, _≤_, _<_}
+use Prim.Native.Nat.{ℕ, _%_, _≤_, _<_}
 use mathlib.Core.Path.{_≡_}
 use mathlib.Core.Bool.{Bool, true, false, _||_}
 use mathlib.Core.List.{List, [], _∷_}
-use lib.ListN.{length, getD}
-use lib.Dec.{eqb}
+use lib.ListN.{length, getD, set}
+use lib.Dec.{ltb, eqb}
 use Rattle.sketch.specs.Lists.{ite}
 
 -- whether the id is in the list
@@ -33,3 +33,7 @@ unfoldable pub sortAmong : ℕ → List ℕ → List ℕ → ℕ
 sortAmong i [] ss = 0
 sortAmong i (j ∷ js) [] = 0
 sortAmong i (j ∷ js) (s ∷ ss) = ite (eqb i j) s (sortAmong i js ss)
+
+-- a table of guesses, direct-mapped, with an id's place: ids with one remainder by 1,024 share an entry, and a table too short for it stays
+abbrev pub noted : List ℕ → ℕ → ℕ → List ℕ
+noted near id place = ite (ltb (id % 1024) (length near)) (set near (id % 1024) (place % 65536)) near

@@ -8,7 +8,6 @@ pub use lookup::note;
 pub use lookup::place;
 pub use lookup::place_near;
 pub use lookup::sort_at;
-pub use validity::clear_from;
 pub use validity::fault;
 pub use values::coordinate_ok;
 pub use values::measure_ok;

@@ -2,7 +2,7 @@
 use crate::Id;
 ghost use mathlib.Core.Path.{_≡_};
 ghost use lib.ListN.{length};
-ghost use Rattle.sketch.specs.Lookup.{Found, Ascends, among, sortAmong};
+ghost use Rattle.sketch.specs.Lookup.{Found, Ascends, among, sortAmong, noted};
 
 // The place of an id among ids that rise, by bisection; their number where it is missing.
 pub fn place(ids: &[Id], id: Id) -> usize
@@ -26,9 +26,11 @@ pub fn place(ids: &[Id], id: Id) -> usize
     n
 }
 
-// Notes the place of an id in a direct-mapped table of guesses. Ids that share an entry overwrite each other, and
-// nothing is promised of the table: a guess is tried before it is believed.
-pub fn note(near: &mut [u16], id: Id, place: usize) {
+// Notes the place of an id in a direct-mapped table of guesses. Ids that share an entry overwrite each other: a guess is
+// tried before it is believed.
+pub fn note(near: &mut [u16], id: Id, place: usize)
+    ensures { λ r. ⌜ now (near .exit) ≡ noted (now (near .entry)) id place ⌝ }
+{
     let k = (id % 1024) as usize;
     if k < near.len() {
         near[k] = (place % 65536) as u16;

@@ -57,7 +57,7 @@ fn points_fault<'a>(
 }
 
 // Whether the slots from a place on hold 0.
-pub fn clear_from(slots: [Id; 8], from: usize) -> bool
+fn clear_from(slots: [Id; 8], from: usize) -> bool
     ensures { λ r. ⌜ r ≡ every (λ i. eqb i 0) (drop from slots) ⌝ }
 {
     let mut i: usize = from;

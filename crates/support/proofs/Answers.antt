@@ -22,6 +22,10 @@ use Rattle.support.specs.Hits.{HitsResult, found, refused, guardHits, ov
 use Rattle.support.specs.Pieces.{answerOf, listOf, HitsWritten}
 use Rattle.support.specs.Contracts.{HitsAtFront}
 
+-- a refusal finds nothing
+pub refused-not-found : {A : Type 0} {n b w k : ℕ} → Refused w k ≡ Found n b → A
+refused-not-found e = let z : _≡_ {A = ℕ} 0 1 = cc in absurd (omega arith)
+
 module _ (hx hy : List Float) (b : ℕ) where
   pub met-none : HitsWritten (found [] b) hx hy hx hy (Found 0 b)
   unfolding answerOf listOf

@@ -12,12 +12,10 @@ use Rattle.bernstein.specs.declared.Roots.the-variants as R
 use Rattle.bernstein.specs.Roots as B
 use Rattle.bernstein.specs.Roots.{rootsOf, searchOf, leftIn, Searched}
 use Rattle.bernstein.proofs.Levels.{room-enough}
-use Rattle.support.specs.declared.Hits.{Hits}
-use Rattle.support.specs.declared.Hits.the-variants.{Found, Refused}
+use Rattle.support.specs.declared.Hits.the-variants.{Refused}
 use Rattle.support.specs.Freeform.{Freeform}
 use Rattle.support.specs.Hits.{HitsResult, found, refused, resolved, resolvedAt}
 use Rattle.support.specs.Pieces.{HitsWritten}
-use Rattle.support.specs.Contracts.{hitsOfRoots}
 use Rattle.support.proofs.Answers.{met-refused}
 
 refusal-is : (o : B.RootsResult) (n left : ℕ) → B.answerOf o ≡ R.Refused n left → o ≡ B.refused n left
@@ -45,12 +43,11 @@ module _ (line : Shape) (f : Freeform) (c ts₀ ts : List Float) (b : ℕ) (r : 
   roots-are : searchOf (length ts₀) c b ≡ rootsOf c b
   roots-are = room-enough (length ts₀) c b room
 
-  pub none-resolved : (n left : ℕ) → r ≡ R.Refused n left → (h : Hits) → h ≡ hitsOfRoots r → (hx hy : List Float) → HitsWritten (resolvedAt line f (rootsOf c b)) hx hy hx hy h
-  unfolding resolvedAt hitsOfRoots
-  none-resolved n left e h eh hx hy =
+  pub none-resolved : (n left : ℕ) → r ≡ R.Refused n left → (hx hy : List Float) → HitsWritten (resolvedAt line f (rootsOf c b)) hx hy hx hy (Refused n left)
+  unfolding resolvedAt
+  none-resolved n left e hx hy =
       let o : rootsOf c b ≡ B.refused n left = sym roots-are ∙ refusal-is (searchOf (length ts₀) c b) n left (sym (s .answer) ∙ e) in
-      let k : h ≡ Refused n left = eh ∙ rw e in
-      rw (o, k) (met-refused hx hy left n)
+      rw o (met-refused hx hy left n)
 
   module _ (m left : ℕ) (e : r ≡ R.Found m left) where
     pub roots-fit : m ≤ length ts

@@ -9,12 +9,9 @@ use lib.Ieee.{Float}
 use Rattle.float.specs.Numbers.{1f}
 use Rattle.geom.specs.Plane.{distance}
 use Rattle.geom.specs.declared.Vec2.{Vec2}
-use Rattle.bernstein.specs.declared.Roots.{Roots}
-use Rattle.bernstein.specs.declared.Roots.the-variants as R
 use Rattle.support.specs.declared.Form.{Form}
 use Rattle.support.specs.declared.Form.the-variants.{Polynomial, Rational}
 use Rattle.support.specs.declared.Hits.{Hits}
-use Rattle.support.specs.declared.Hits.the-variants.{Found, Refused}
 use Rattle.support.specs.Freeform.{Freeform}
 use Rattle.support.specs.Hits.{HitsResult, maxOf}
 use Rattle.support.specs.Pieces.{bezierOf, conicOf, answerOf, listOf}
@@ -45,11 +42,6 @@ weightsOf (Rational w) = 1f ∷ w ∷ replicate 6 1f
 -- how far the farthest of the points lies from o, and 1 at least
 unfoldable pub farthestOf : Vec2 → List Vec2 → Float
 farthestOf o ps = maxOf 1f (map (λ p. distance p o) ps)
-
--- an answer of the search for roots, as one of the search for hits
-unfoldable pub hitsOfRoots : Roots → Hits
-hitsOfRoots (R.Found n b) = Found n b
-hitsOfRoots (R.Refused n b) = Refused n b
 
 -- what was found lies at the front, whatever is behind it
 pub record HitsAtFront (o : HitsResult) (laterX laterY : List Float) (r : Hits) : Type 0 where

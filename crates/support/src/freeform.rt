@@ -7,7 +7,7 @@ ghost use Rattle.bernstein.specs.Roots.{rootsOf};
 ghost use Rattle.support.specs.Hits as Defs;
 ghost use Rattle.support.specs.Hits.{resolved, resolvedAt, freeformHits};
 ghost use Rattle.support.specs.Pieces.{zipPoints, HitsWritten};
-ghost use Rattle.support.specs.Contracts.{freeformOf, hitsOfRoots, Controls, HitsAtFront};
+ghost use Rattle.support.specs.Contracts.{freeformOf, Controls, HitsAtFront};
 use crate::Form;
 use crate::Hits;
 use crate::ROOM;
@@ -77,16 +77,6 @@ fn put(s: &[f64], out: &mut [f64])
     }
 }
 
-// An answer of the search for roots, as one of the search for hits.
-fn hits_of_roots(r: Roots) -> Hits
-    ensures { λ h. ⌜ h ≡ hitsOfRoots r ⌝ }
-{
-    match r {
-        Roots::Found(n, left) => Hits::Found(n, left),
-        Roots::Refused(number, left) => Hits::Refused(number, left),
-    }
-}
-
 // The hits at the roots of the coefficients c, to the front of hx and hy.
 fn hits_at_roots<'a, 'b>(
     line: Shape,
@@ -104,7 +94,11 @@ fn hits_at_roots<'a, 'b>(
     let mut ts = [0.0; ROOM];
     let roots = bernstein::search::roots(c, &mut ts, budget);
     let Roots::Found(m, left) = roots else {
-        return hits_of_roots(roots);
+        let Roots::Refused(number, rest) = roots else {
+            // This is never reached: what is not found is refused.
+            return Hits::Refused(0, budget);
+        };
+        return Hits::Refused(number, rest);
     };
     let mut qx = [0.0; ROOM];
     let mut qy = [0.0; ROOM];

@@ -9,8 +9,6 @@ pub mod search;
 mod shapes;
 
 pub use boundary::endless;
-pub use points::bezier_point;
-pub use points::conic_point;
 
 // As many hits as there can be, one for each root.
 pub(crate) const ROOM: usize = 28;

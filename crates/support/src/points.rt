@@ -1,9 +1,9 @@
 // The points of freeform curves.
 ghost use Prim.Native.Nat.{_≤_};
 ghost use mathlib.Core.Path.{_≡_};
-ghost use lib.ListN.{length, take};
+ghost use lib.ListN.{length};
 ghost use Rattle.support.specs.Freeform.{pointAt};
-ghost use Rattle.support.specs.Pieces.{bezierOf, conicOf};
+ghost use Rattle.support.specs.Pieces.{conicOf};
 ghost use Rattle.support.specs.Contracts.{freeformOf, atMost8, Controls};
 use crate::Form;
 use geom::Vec2;
@@ -36,19 +36,4 @@ pub(crate) fn at_most_8(n: usize) -> usize
     ensures { λ r. ⌜ (r ≡ atMost8 n) × (r ≤ 8) ⌝ }
 {
     if n <= CONTROLS { n } else { CONTROLS }
-}
-
-// The point at t of the Bézier curve with the first n control points.
-pub fn bezier_point(n: usize, xs: [f64; 8], ys: [f64; 8], t: f64) -> Vec2
-    ensures { λ r. ⌜ r ≡ pointAt (bezierOf (take n xs) (take n ys)) t ⌝ }
-{
-    let k = at_most_8(n);
-    curve_point(Form::Polynomial, &xs[..k], &ys[..k], t)
-}
-
-// The point at t of the conic with the first three control points and the weight w of its apex.
-pub fn conic_point(w: f64, xs: [f64; 8], ys: [f64; 8], t: f64) -> Vec2
-    ensures { λ r. ⌜ r ≡ pointAt (conicOf w xs ys) t ⌝ }
-{
-    rational_point(w, &xs, &ys, t)
 }

@@ -5,8 +5,8 @@ use libc::STDOUT_FILENO;
 // As much of the input as is looked at.
 const INPUT: usize = 65536;
 
-// Room for the largest image, 21,135 bytes, and some more.
-const OUTPUT: usize = 21504;
+// Room for any image.
+const OUTPUT: usize = image::MAX_IMAGE_SIZE;
 
 fn main() {
     let mut input = [0u8; INPUT];

@@ -7,9 +7,6 @@ use Rattle.cuts.proofs.gather.nth.Tie as tie
 enum-told : tie.Need-enum-told
 enum-told c = search needs
 
-new-requires : tie.Need-new-requires
-new-requires c κs = search needs
-
 enum-known-c : tie.Need-enum-known-c
 enum-known-c c = search needs
 
@@ -21,7 +18,7 @@ returns c = first-of-two _ _ _ _ (c .before .before .c2 .given .1) (c .if1 .take
 
 returns-2 : tie.Need-returns-2
 unfolding crossingAt
-returns-2 c = simp (c .new .ensures, c .before .enum-told .given .1)
+returns-2 c = simp (c .enum-told .given .1)
 
 returns-3 : tie.Need-returns-3
 unfolding crossingAt
@@ -35,7 +32,6 @@ nth-spec =
     tie.close
     (tie.spec
     enum-told
-    new-requires
     enum-known-c
     enum-known-c-2
     returns

@@ -1,16 +1,10 @@
 use Rattle.image.specs.Message.{messageFault, resultOf}
 use Rattle.sketch.specs.Lists.{guardNumber}
-use borrow.Author.Tests.{lt-leb, le-leb, lt-ltb, le-ltb, eq-eqb, ne-eqb}
-use native.Mathlib.Omega.{arith}
+use mathlib.Core.Path.{sym, _∙_}
+use borrow.Author.Tests.{lt-leb, le-leb, eq-eqb, ne-eqb, not-true, not-false}
 use borrow.Author.Needs.{needs}
 use Rattle.image.proofs.messages.read_message.Statement.{statement}
 use Rattle.image.proofs.messages.read_message.Tie as tie
-use Rattle.image.proofs.messages.read_message.Reads as reads
-use Rattle.image.proofs.messages.read_message.Lts as lts
-use Rattle.big_endian.proofs.get1.Reads as get1-reads
-use Rattle.big_endian.proofs.get4.Reads as get4-reads
-use Rattle.big_endian.proofs.get8.Reads as get8-reads
-use Rattle.image.proofs.messages.operation_of.Reads as operation-of-reads
 
 returns : tie.Need-returns
 unfolding messageFault resultOf guardNumber
@@ -44,13 +38,15 @@ returns-5 c = simp (lt-leb _ _ (c .if5 .taken), ← c .before .get42 .ensures, e
 get1-requires-2 : tie.Need-get1-requires-2
 get1-requires-2 c κs = search needs
 
+cast-byte : tie.Need-cast-byte
+cast-byte c = search needs
+
+is-operation-requires : tie.Need-is-operation-requires
+is-operation-requires c κs = search needs
+
 returns-6 : tie.Need-returns-6
 unfolding messageFault resultOf guardNumber
-returns-6 c = simp (lt-leb _ _ (c .if6 .taken), ← c .before .get12 .ensures, le-leb _ _ (c .before .before .if5 .left), ← c .before .before .before .get42 .ensures, eq-eqb _ _ (c .before .before .before .before .if4 .left), ← c .before .before .before .before .before .get4 .ensures, eq-eqb _ _ (c .before .before .before .before .before .before .if3 .left), eq-eqb _ _ (c .before .before .before .before .before .before .before .if2 .left), ← c .before .before .before .before .before .before .before .before .get1 .ensures, le-leb _ _ (c .before .before .before .before .before .before .before .before .before .if1 .left))
-
-returns-7 : tie.Need-returns-7
-unfolding messageFault resultOf guardNumber
-returns-7 c = simp (lt-leb _ _ (c .if7 .taken), le-leb _ _ (c .before .if6 .left), ← c .before .before .get12 .ensures, le-leb _ _ (c .before .before .before .if5 .left), ← c .before .before .before .before .get42 .ensures, eq-eqb _ _ (c .before .before .before .before .before .if4 .left), ← c .before .before .before .before .before .before .get4 .ensures, eq-eqb _ _ (c .before .before .before .before .before .before .before .if3 .left), eq-eqb _ _ (c .before .before .before .before .before .before .before .before .if2 .left), ← c .before .before .before .before .before .before .before .before .before .get1 .ensures, le-leb _ _ (c .before .before .before .before .before .before .before .before .before .before .if1 .left))
+returns-6 c = simp (sym (c .before .is-operation .ensures) ∙ not-true _ (c .if6 .taken), ← c .before .before .get12 .ensures, le-leb _ _ (c .before .before .before .if5 .left), ← c .before .before .before .before .get42 .ensures, eq-eqb _ _ (c .before .before .before .before .before .if4 .left), ← c .before .before .before .before .before .before .get4 .ensures, eq-eqb _ _ (c .before .before .before .before .before .before .before .if3 .left), eq-eqb _ _ (c .before .before .before .before .before .before .before .before .if2 .left), ← c .before .before .before .before .before .before .before .before .before .get1 .ensures, le-leb _ _ (c .before .before .before .before .before .before .before .before .before .before .if1 .left))
 
 operation-of-requires : tie.Need-operation-of-requires
 operation-of-requires c κs = search needs
@@ -64,9 +60,9 @@ get8-requires c κs = search needs
 get8-requires-2 : tie.Need-get8-requires-2
 get8-requires-2 c κs = search needs
 
-returns-8 : tie.Need-returns-8
+returns-7 : tie.Need-returns-7
 unfolding messageFault resultOf guardNumber
-returns-8 c = simp (← c .get82 .ensures, ← c .before .get8 .ensures, ← c .before .before .get43 .ensures, ← c .before .before .before .operation-of .ensures, le-leb _ _ (c .before .before .before .before .if7 .left), le-leb _ _ (c .before .before .before .before .before .if6 .left), ← c .before .before .before .before .before .before .get12 .ensures, le-leb _ _ (c .before .before .before .before .before .before .before .if5 .left), ← c .before .before .before .before .before .before .before .before .get42 .ensures, eq-eqb _ _ (c .before .before .before .before .before .before .before .before .before .if4 .left), ← c .before .before .before .before .before .before .before .before .before .before .get4 .ensures, eq-eqb _ _ (c .before .before .before .before .before .before .before .before .before .before .before .if3 .left), eq-eqb _ _ (c .before .before .before .before .before .before .before .before .before .before .before .before .if2 .left), ← c .before .before .before .before .before .before .before .before .before .before .before .before .before .get1 .ensures, le-leb _ _ (c .before .before .before .before .before .before .before .before .before .before .before .before .before .before .if1 .left))
+returns-7 c = simp (← c .get82 .ensures, ← c .before .get8 .ensures, ← c .before .before .get43 .ensures, ← c .before .before .before .operation-of .ensures, sym (c .before .before .before .before .before .is-operation .ensures) ∙ not-false _ (c .before .before .before .before .if6 .left), ← c .before .before .before .before .before .before .get12 .ensures, le-leb _ _ (c .before .before .before .before .before .before .before .if5 .left), ← c .before .before .before .before .before .before .before .before .get42 .ensures, eq-eqb _ _ (c .before .before .before .before .before .before .before .before .before .if4 .left), ← c .before .before .before .before .before .before .before .before .before .before .get4 .ensures, eq-eqb _ _ (c .before .before .before .before .before .before .before .before .before .before .before .if3 .left), eq-eqb _ _ (c .before .before .before .before .before .before .before .before .before .before .before .before .if2 .left), ← c .before .before .before .before .before .before .before .before .before .before .before .before .before .get1 .ensures, le-leb _ _ (c .before .before .before .before .before .before .before .before .before .before .before .before .before .before .if1 .left))
 
 pub read-message-spec : {M : Type 1} → statement M
 read-message-spec =
@@ -81,10 +77,11 @@ read-message-spec =
     get4-requires-2
     returns-5
     get1-requires-2
+    cast-byte
+    is-operation-requires
     returns-6
-    returns-7
     operation-of-requires
     get4-requires-3
     get8-requires
     get8-requires-2
-    returns-8)
+    returns-7)

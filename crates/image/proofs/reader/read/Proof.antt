@@ -1,5 +1,6 @@
 use mathlib.Core.Path.{_≡_, refl, sym, ap, _∙_}
-use Rattle.image.proofs.Verdicts.{refused-by, accepted-as}
+use Rattle.image.specs.declared.ImageRead.{ImageRead}
+use Rattle.image.proofs.Verdicts.{refused-by, accepted-as, drawing-refused, drawing-accepted}
 use native.Mathlib.Omega.{arith}
 use borrow.Author.Needs.{needs}
 use Rattle.image.proofs.reader.read.Statement.{statement}
@@ -17,13 +18,21 @@ refuse-requires : tie.Need-refuse-requires
 refuse-requires c κs = search needs
 
 returns : tie.Need-returns
-returns c = record { result-is = refused-by (c .before .before .before .before .args .s .now) (c .before .before .image-fault .ensures) (c .before .if1 .taken) (c .refuse .result) (c .refuse .ensures .0); sound = c .refuse .ensures .1 }
+returns c =
+    let s = c .before .before .before .before .args .s .now in
+    let r = c .refuse .result in
+    let o = refused-by s (c .before .before .image-fault .ensures) (c .before .if1 .taken) r (c .refuse .ensures .0) in
+    record { result-is = o; drawing-is = drawing-refused s r o (λ h. c .before .if1 .taken (sym (c .refuse .ensures .0) ∙ h)) (c .refuse .ensures .2); sound = c .refuse .ensures .1 }
 
 decode-sketch-requires : tie.Need-decode-sketch-requires
 decode-sketch-requires c κs = sym (c .before .image-fault .ensures) ∙ c .if1 .left
 
 returns-2 : tie.Need-returns-2
-returns-2 c = record { result-is = accepted-as (c .before .before .before .before .args .s .now) (c .before .before .image-fault .ensures) (c .before .if1 .left) (record { sketch = c .decode-sketch .result; refusal = 0 }) refl (c .decode-sketch .ensures .0); sound = c .decode-sketch .ensures .1 }
+returns-2 c =
+    let s = c .before .before .before .before .args .s .now in
+    let r : ImageRead = record { sketch = c .decode-sketch .result; refusal = 0 } in
+    let o = accepted-as s (c .before .before .image-fault .ensures) (c .before .if1 .left) r refl (c .decode-sketch .ensures .0) in
+    record { result-is = o; drawing-is = drawing-accepted s r o refl; sound = c .decode-sketch .ensures .1 }
 
 pub read-spec : {M : Type 1} → statement M
 read-spec =

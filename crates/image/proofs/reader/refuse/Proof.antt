@@ -21,7 +21,7 @@ no-relations-requires c κs = search needs
 
 returns : tie.Need-returns
 unfolding guardNumber
-returns c = (refl, refl)
+returns c = (refl, refl, refl)
 
 pub refuse-spec : {M : Type 1} → statement M
 refuse-spec =

@@ -26,7 +26,7 @@ returns : tie.Need-returns
 returns c =
     let a = c .before .before .before .args in
     let n = c .before .before .fault .ensures in
-    answered-refused (a .operation) _ _ _ (λ z. omega (arith, fault-low (a .sk), n)) (c .answer .ensures .0) (c .answer .ensures .1) (c .before .if1 .taken) (refused-fault (a .sk) (a .curve) (a .at) n (c .before .if1 .taken) (a .operation))
+    answered-refused (a .operation) _ _ _ (λ z. omega (arith, fault-low (a .sk), n)) (c .answer .ensures .0) (c .answer .ensures .1) (c .answer .ensures .3) (c .answer .ensures .2) (c .before .if1 .taken) (refused-fault (a .sk) (a .curve) (a .at) n (c .before .if1 .taken) (a .operation))
 
 find-target-requires : tie.Need-find-target-requires
 find-target-requires c κs =
@@ -40,7 +40,7 @@ returns-2 : tie.Need-returns-2
 returns-2 c =
     let a = c .before .before .before .before .before .before .args in
     let w = c .before .before .before .find-target .ensures in
-    answered-refused (a .operation) _ _ _ (λ z. omega (arith, w .1)) (c .answer2 .ensures .0) (c .answer2 .ensures .1) (c .before .if2 .taken) (w .0 .when-refused (c .before .if2 .taken) (a .operation))
+    answered-refused (a .operation) _ _ _ (λ z. omega (arith, w .1)) (c .answer2 .ensures .0) (c .answer2 .ensures .1) (c .answer2 .ensures .3) (c .answer2 .ensures .2) (c .before .if2 .taken) (w .0 .when-refused (c .before .if2 .taken) (a .operation))
 
 slice-aggregate-fill-point-columns : tie.Need-slice-aggregate-fill-point-columns
 slice-aggregate-fill-point-columns c = search needs
@@ -208,7 +208,7 @@ returns-4 c =
     let op = ap (λ x. cond x Split Trim) (c .before .before .before .before .before .before .before .before .before .is-split .ensures) ∙ cut-is (a .operation) (sym (c .before .before .before .before .before .before .before .before .before .before .before .is-extend .ensures) ∙ c .before .before .before .before .before .before .before .before .before .before .if3 .left) in
     let chosen = c .before .before .before .before .plan-on-curve .ensures in
     subst (λ op. EditAnswer op (a .sk) (a .curve) (a .at) (c .answer3 .result)) op
-    (begun-answered b (cond it Split Trim) (edit-refused it (a .sk) k (a .at) (b .valid) (b .place) (b .picked) (begun-found b) chosen (c .before .before .number .given .1) (c .answer3 .ensures .0) (c .answer3 .ensures .1)))
+    (begun-answered b (cond it Split Trim) (edit-refused it (a .sk) k (a .at) (b .valid) (b .place) (b .picked) (begun-found b) chosen (c .before .before .number .given .1) (c .answer3 .ensures .0) (c .answer3 .ensures .1) (c .answer3 .ensures .3) (c .answer3 .ensures .2)))
 
 returns-5 : tie.Need-returns-5
 returns-5 c =

@@ -12,7 +12,7 @@ long : (c : tie.Start) → length (c .args .e .sketch .relations) ≡ 256
 long c = sym (length-map (c .args .e .sketch .relations) _) ∙ c .good .1 .0 .1 .1 .0 .1 .1 .1 .1 .1 .1 .1 .1 .0 .1 .0 .1
 
 returns : tie.Need-returns
-returns c = settled-out (c .if1 .taken) (c .before .before .before .before .before .before .before .before .before .before .before .before .pre .0 (c .if1 .taken))
+returns c = settled-out (c .if1 .taken)
 
 first-unmet-requires : tie.Need-first-unmet-requires
 first-unmet-requires c κs = search needs
@@ -24,16 +24,16 @@ returns-2 : tie.Need-returns-2
 returns-2 c =
     let s = c .before .before .before .before .before .before .before .before .before .before .before .before .before .before .before .before .before in
     let z = c .before .before .before .before .before .if1 .left in
-    let w = s .pre .1 z in
+    let w = s .pre z in
     let t = s .args .e .sketch in
     let k = c .before .before .first-unmet .ensures (view t .points) (view t .curves) (w .1 .points) (w .1 .curves) in
-    settled-unmet z (answered-unmet t (w .0) (long s) k (c .before .if2 .taken) .1) (c .answer .ensures .0) (c .answer .ensures .1) (c .answer .ensures .2)
+    settled-unmet z (answered-unmet t (w .0) (long s) k (c .before .if2 .taken) .1) (c .answer .ensures .0) (c .answer .ensures .1) (c .answer .ensures .3) (c .answer .ensures .2)
 
 returns-3 : tie.Need-returns-3
 returns-3 c =
     let s = c .before .before .before .before .before .before .before .before .before .before .before .before .before .before .before .before in
     let z = c .before .before .before .before .if1 .left in
-    let w = s .pre .1 z in
+    let w = s .pre z in
     let t = s .args .e .sketch in
     let k = c .before .first-unmet .ensures (view t .points) (view t .curves) (w .1 .points) (w .1 .curves) in
     settled-met z (answered-met t (w .0) (long s) k (c .if2 .left) .1)

@@ -30,7 +30,7 @@ returns : tie.Need-returns
 returns c =
     let s = c .before .before .before .before .before .before .before .before in
     let r = s .pre in
-    kind-refused _ _ _ (begun-at (s .args .sk) (s .args .place) (s .args .at) (r .0) (r .1) (r .2) (r .3) (r .4) (long s)) (c .before .match .keys2) (c .answer .ensures .0) (c .answer .ensures .1)
+    kind-refused _ _ _ (begun-at (s .args .sk) (s .args .place) (s .args .at) (r .0) (r .1) (r .2) (r .3) (r .4) (long s)) (c .before .match .keys2) (c .answer .ensures .0) (c .answer .ensures .1) (c .answer .ensures .3) (c .answer .ensures .2)
 
 slice-aggregate-fill-curve-columns : tie.Need-slice-aggregate-fill-curve-columns
 slice-aggregate-fill-curve-columns c = search needs

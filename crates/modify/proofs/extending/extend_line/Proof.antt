@@ -56,7 +56,7 @@ returns c =
     let r = s .pre in
     let k = s .args .sk in
     let u = c .before .before .first-unmet .ensures (view k .points) (view k .curves) (r .2 .points) (r .2 .curves) in
-    unmet-refused k _ _ (r .0) (r .1) (answered-unmet k (r .0 .valid) (long s .1) u (c .before .if1 .taken) .1) (c .answer .ensures .0) (c .answer .ensures .1) (c .answer .ensures .2)
+    unmet-refused k _ _ (r .0) (r .1) (answered-unmet k (r .0 .valid) (long s .1) u (c .before .if1 .taken) .1) (c .answer .ensures .0) (c .answer .ensures .1) (c .answer .ensures .3) (c .answer .ensures .2)
 
 plan-extend-requires : tie.Need-plan-extend-requires
 plan-extend-requires c κs =
@@ -109,7 +109,7 @@ check-met-requires c κs =
     let e = c .before .before .before .before .before .before .plan-extend .ensures in
     let g = c .before .before .before .before .k .given .1 in
     let a = c .before .before .move-end .ensures in
-    (a .1, λ z. (moved-valid k _ _ (r .0) m _ (e .0) g (e .1) (a .0) z, moved-view k _ _ (r .0) m _ (e .0) g (e .1) (a .0) z (valid s .0) (long s .0) (r .2)))
+    λ z. (moved-valid k _ _ (r .0) m _ (e .0) g (e .1) (a .0) z, moved-view k _ _ (r .0) m _ (e .0) g (e .1) (a .0) z (valid s .0) (long s .0) (r .2))
 
 same-length-3 : tie.Need-same-length-3
 same-length-3 c = search needs
@@ -123,7 +123,7 @@ returns-2 c =
     let r = s .pre in
     let k = s .args .sk in
     let m = met s (c .before .before .before .before .before .before .before .before .first-unmet .ensures (view k .points) (view k .curves) (r .2 .points) (r .2 .curves)) (c .before .before .before .before .before .before .before .if1 .left) in
-    plan-refused k _ _ (r .0) m _ (c .before .before .before .before .plan-extend .ensures .0) (c .before .before .number .given .1) (c .answer2 .ensures .0) (c .answer2 .ensures .1)
+    plan-refused k _ _ (r .0) m _ (c .before .before .before .before .plan-extend .ensures .0) (c .before .before .number .given .1) (c .answer2 .ensures .0) (c .answer2 .ensures .1) (c .answer2 .ensures .3) (c .answer2 .ensures .2)
 
 same-length-5 : tie.Need-same-length-5
 same-length-5 c = search needs
@@ -139,7 +139,8 @@ returns-3 c =
     let m = met s (c .before .before .before .before .before .before .before .before .before .before .before .first-unmet .ensures (view k .points) (view k .curves) (r .2 .points) (r .2 .curves)) (c .before .before .before .before .before .before .before .before .before .before .if1 .left) in
     let e = c .before .before .before .before .before .before .before .plan-extend .ensures in
     let g = c .before .before .before .before .before .k .given .1 in
-    move-answered k _ _ (r .0) m _ (e .0) g (e .1) (c .before .before .before .move-end .ensures .0) (c .check-met .ensures)
+    let a = c .before .before .before .move-end .ensures in
+    move-answered k _ _ (r .0) m _ (e .0) g (e .1) (a .0) (a .1) (a .2) (a .3) (c .check-met .ensures)
 
 pub extend-line-spec : {M : Type 1} → statement M
 extend-line-spec =

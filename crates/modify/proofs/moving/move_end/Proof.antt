@@ -29,7 +29,7 @@ answer-requires : tie.Need-answer-requires
 answer-requires c κs = search needs
 
 returns : tie.Need-returns
-returns c = (moved-out _ _ _ _ (sym (joined (c .before .before .before .coordinate-ok .ensures) (c .before .before .coordinate-ok2 .ensures)) ∙ not-true _ (c .before .if1 .taken)) (c .answer .ensures .1), λ z. c .answer .ensures .0)
+returns c = (moved-out _ _ _ _ (sym (joined (c .before .before .before .coordinate-ok .ensures) (c .before .before .coordinate-ok2 .ensures)) ∙ not-true _ (c .before .if1 .taken)) (c .answer .ensures .1), λ z. c .answer .ensures .0, c .answer .ensures .3, c .answer .ensures .2)
 
 mul-p : tie.Need-mul-p
 mul-p c = search needs
@@ -56,7 +56,7 @@ returns-2 c =
     let p = getD (a .sk .points) (a .k) noPoint in
     let e = sym (c .before .before .is-itself .ensures) ∙ c .before .if2 .taken in
     let r = shifted-is (a .sk) (a .k) (a .v) (s .pre .0) (s .pre .1) (s .pre .2) (long s .0) (c .answer2 .ensures .0) (c .answer2 .ensures .1) (c .answer2 .ensures .3) in
-    (moved-itself (view (a .sk)) (p .id) (a .v) (sym (joined (c .before .before .before .before .before .before .coordinate-ok .ensures) (c .before .before .before .before .before .coordinate-ok2 .ensures)) ∙ not-false _ (c .before .before .before .before .if1 .left)) (a .pin) e r, λ z. absurd (z (c .answer2 .ensures .1)))
+    (moved-itself (view (a .sk)) (p .id) (a .v) (sym (joined (c .before .before .before .before .before .before .coordinate-ok .ensures) (c .before .before .before .before .before .coordinate-ok2 .ensures)) ∙ not-false _ (c .before .before .before .before .if1 .left)) (a .pin) e r, λ z. absurd (z (c .answer2 .ensures .1)), c .answer2 .ensures .3, c .answer2 .ensures .2)
 
 answer-requires-3 : tie.Need-answer-requires-3
 answer-requires-3 c κs = search needs
@@ -68,7 +68,7 @@ returns-3 c =
     let p = getD (a .sk .points) (a .k) noPoint in
     let e = sym (c .before .before .before .is-itself .ensures) ∙ c .before .before .if2 .left in
     let r = full-is (a .sk) (a .k) (a .v) (s .pre .0) (s .pre .1) (s .pre .2) (long s .0) (pinRelation (a .pin) (p .id)) (long s .1) (c .answer3 .ensures .1) (c .before .if3 .taken) in
-    (moved-held (view (a .sk)) (p .id) (a .v) (sym (joined (c .before .before .before .before .before .before .before .coordinate-ok .ensures) (c .before .before .before .before .before .before .coordinate-ok2 .ensures)) ∙ not-false _ (c .before .before .before .before .before .if1 .left)) (a .pin) e r, λ z. c .answer3 .ensures .0)
+    (moved-held (view (a .sk)) (p .id) (a .v) (sym (joined (c .before .before .before .before .before .before .before .coordinate-ok .ensures) (c .before .before .before .before .before .before .coordinate-ok2 .ensures)) ∙ not-false _ (c .before .before .before .before .before .if1 .left)) (a .pin) e r, λ z. c .answer3 .ensures .0, c .answer3 .ensures .3, c .answer3 .ensures .2)
 
 pin-relation-requires : tie.Need-pin-relation-requires
 pin-relation-requires c κs = search needs
@@ -93,7 +93,7 @@ returns-4 c =
     let e = sym (c .before .before .before .before .is-itself .ensures) ∙ c .before .before .before .if2 .left in
     let h = c .before .pin-relation in
     let r = added-is (a .sk) (a .k) (a .v) (s .pre .0) (s .pre .1) (s .pre .2) (long s .0) (h .result) (long s .1) (c .before .before .if3 .left) (c .answer4 .ensures .0) (c .answer4 .ensures .1) (c .answer4 .ensures .3) in
-    (moved-held (view (a .sk)) (p .id) (a .v) (sym (joined (c .before .before .before .before .before .before .before .before .coordinate-ok .ensures) (c .before .before .before .before .before .before .before .coordinate-ok2 .ensures)) ∙ not-false _ (c .before .before .before .before .before .before .if1 .left)) (a .pin) e (subst (λ (x : Relation). AddedTo (movePoint (p .id) (a .v) (view (a .sk))) x (c .answer4 .result)) (h .ensures) r), λ z. absurd (z (c .answer4 .ensures .1)))
+    (moved-held (view (a .sk)) (p .id) (a .v) (sym (joined (c .before .before .before .before .before .before .before .before .coordinate-ok .ensures) (c .before .before .before .before .before .before .before .coordinate-ok2 .ensures)) ∙ not-false _ (c .before .before .before .before .before .before .if1 .left)) (a .pin) e (subst (λ (x : Relation). AddedTo (movePoint (p .id) (a .v) (view (a .sk))) x (c .answer4 .result)) (h .ensures) r), λ z. absurd (z (c .answer4 .ensures .1)), c .answer4 .ensures .3, c .answer4 .ensures .2)
 
 pub move-end-spec : {M : Type 1} → statement M
 move-end-spec =

@@ -1,12 +1,10 @@
 use Rattle.modify.specs.ExtendContracts.{support}
-use mathlib.Core.Path.{_≡_, refl, sym, ap, _∙_}
+use mathlib.Core.Path.{_∙_}
+use Rattle.support.proofs.Answers.{refused-not-found}
 use Rattle.modify.proofs.CurveHits.{look-stopped, look-went, fits-found}
-use native.Mathlib.Omega.{arith}
 use borrow.Author.Needs.{needs}
 use Rattle.modify.proofs.nearest_hit.search_curve.Statement.{statement}
 use Rattle.modify.proofs.nearest_hit.search_curve.Tie as tie
-use Rattle.modify.proofs.nearest_hit.search_curve.Reads as reads
-use Rattle.modify.proofs.nearest_hit.search_curve.Lts as lts
 
 slice-aggregate-curve-hits : tie.Need-slice-aggregate-curve-hits
 slice-aggregate-curve-hits c = search needs
@@ -17,11 +15,23 @@ slice-aggregate-curve-hits-2 c = search needs
 curve-hits-requires : tie.Need-curve-hits-requires
 curve-hits-requires c κs = search needs
 
-enum-known-number : tie.Need-enum-known-number
-enum-known-number c = search needs
+enum-known-hits : tie.Need-enum-known-hits
+enum-known-hits c = search needs
 
-enum-known-n : tie.Need-enum-known-n
-enum-known-n c = search needs
+enum-known-hits-2 : tie.Need-enum-known-hits-2
+enum-known-hits-2 c = search needs
+
+enum-known-hits-3 : tie.Need-enum-known-hits-3
+enum-known-hits-3 c = search needs
+
+enum-told : tie.Need-enum-told
+enum-told c = search needs
+
+returns : tie.Need-returns
+returns c = refused-not-found (c .enum-told .given .1)
+
+returns-2 : tie.Need-returns-2
+returns-2 c = λ ps w os. look-stopped ps (support _ _ _) _ _ _ (c .before .before .before .before .before .before .before .before .curve-hits .ensures .0 ps w _) _ os (c .before .before .before .before .hits2 .given .1 ∙ c .before .hits3 .given .1)
 
 slice-aggregate-best-of : tie.Need-slice-aggregate-best-of
 slice-aggregate-best-of c = search needs
@@ -30,13 +40,10 @@ slice-aggregate-best-of-2 : tie.Need-slice-aggregate-best-of-2
 slice-aggregate-best-of-2 c = search needs
 
 best-of-requires : tie.Need-best-of-requires
-best-of-requires c κs = fits-found _ _ _ (c .before .before .before .n .given .1) (c .before .before .before .before .before .before .before .curve-hits .ensures .1)
+best-of-requires c κs = fits-found _ _ _ (c .before .before .before .hits .given .1) (c .before .before .before .before .before .before .before .curve-hits .ensures .1)
 
-returns : tie.Need-returns
-returns c = λ ps w os. look-stopped ps (support _ _ _) _ _ _ (c .before .before .before .before .before .curve-hits .ensures .0 ps w _) _ os (c .before .number .given .1)
-
-returns-2 : tie.Need-returns-2
-returns-2 c = λ ps w os. look-went ps (support _ _ _) _ _ _ (c .before .before .before .before .before .before .before .before .curve-hits .ensures .0 ps w _) _ os (c .before .before .before .before .n .given .1) (c .best-of .ensures)
+returns-3 : tie.Need-returns-3
+returns-3 c = λ ps w os. look-went ps (support _ _ _) _ _ _ (c .before .before .before .before .before .before .before .before .curve-hits .ensures .0 ps w _) _ os (c .before .before .before .before .hits .given .1) (c .best-of .ensures)
 
 pub search-curve-spec : {M : Type 1} → statement M
 search-curve-spec =
@@ -45,10 +52,13 @@ search-curve-spec =
     slice-aggregate-curve-hits
     slice-aggregate-curve-hits-2
     curve-hits-requires
-    enum-known-number
-    enum-known-n
+    enum-known-hits
+    enum-known-hits-2
+    enum-known-hits-3
+    enum-told
+    returns
+    returns-2
     slice-aggregate-best-of
     slice-aggregate-best-of-2
     best-of-requires
-    returns
-    returns-2)
+    returns-3)

@@ -68,29 +68,38 @@ add-start c = search needs
 enum-known-answer : tie.Need-enum-known-answer
 enum-known-answer c = search needs
 
+enum-known-answer-2 : tie.Need-enum-known-answer-2
+enum-known-answer-2 c = search needs
+
+enum-known-answer-3 : tie.Need-enum-known-answer-3
+enum-known-answer-3 c = search needs
+
+enum-told : tie.Need-enum-told
+enum-told c = search needs
+
 returns-3 : tie.Need-returns-3
 returns-3 c = search needs
 
 slice-aggregate-holds-just : tie.Need-slice-aggregate-holds-just
-slice-aggregate-holds-just c = sym (whole (c .before .before .before .before .before .before))
+slice-aggregate-holds-just c = sym (whole (c .before .before .before .before .before .before .before .before))
 
 holds-just-requires : tie.Need-holds-just-requires
-holds-just-requires c κs = (omega (arith, c .before .before .before .before .before .before .before .before .before .before .before .before .before .if2 .left), omega (arith, c .before .if3 .left), omega (arith, whole (c .before .before .before .before .before .before)))
-
-enum-known-answer-2 : tie.Need-enum-known-answer-2
-enum-known-answer-2 c = search needs
-
-slice-aggregate-holds-just-2 : tie.Need-slice-aggregate-holds-just-2
-slice-aggregate-holds-just-2 c = sym (whole (c .before .before .before .before .before))
-
-holds-just-requires-2 : tie.Need-holds-just-requires-2
-holds-just-requires-2 c κs = (omega (arith, c .before .before .before .before .before .before .before .before .before .before .before .before .if2 .left), omega arith, omega (arith, whole (c .before .before .before .before .before)))
+holds-just-requires c κs = (omega (arith, c .before .before .before .before .before .before .before .before .before .before .before .before .before .before .before .if2 .left), omega arith, omega (arith, whole (c .before .before .before .before .before .before .before .before)))
 
 returns-4 : tie.Need-returns-4
 returns-4 c = search needs
 
 returns-5 : tie.Need-returns-5
 returns-5 c = search needs
+
+slice-aggregate-holds-just-2 : tie.Need-slice-aggregate-holds-just-2
+slice-aggregate-holds-just-2 c = sym (whole (c .before .before .before .before .before .before))
+
+holds-just-requires-2 : tie.Need-holds-just-requires-2
+holds-just-requires-2 c κs = (omega (arith, c .before .before .before .before .before .before .before .before .before .before .before .before .before .if2 .left), omega (arith, c .before .if3 .left), omega (arith, whole (c .before .before .before .before .before .before)))
+
+returns-6 : tie.Need-returns-6
+returns-6 c = search needs
 
 pub alike-spec : {M : Type 1} → statement M
 alike-spec =
@@ -114,11 +123,14 @@ alike-spec =
     mul-start
     add-start
     enum-known-answer
+    enum-known-answer-2
+    enum-known-answer-3
+    enum-told
     returns-3
     slice-aggregate-holds-just
     holds-just-requires
-    enum-known-answer-2
+    returns-4
+    returns-5
     slice-aggregate-holds-just-2
     holds-just-requires-2
-    returns-4
-    returns-5)
+    returns-6)

@@ -7,7 +7,6 @@ use Rattle.replication.proofs.desk.desk_edit.Reads as reads
 use Rattle.replication.proofs.desk.desk_edit.Lts as lts
 use Rattle.modify.proofs.edit.Reads as edit-reads
 use Rattle.replication.proofs.refusals.first_fault.Reads as first-fault-reads
-use Rattle.replication.proofs.refusals.reported_place.Reads as reported-place-reads
 use Rattle.image.proofs.write_message.Reads as write-message-reads
 
 first-fault-requires : tie.Need-first-fault-requires
@@ -25,23 +24,20 @@ returns-2 c = desk-full (c .before .before .before .before .before .args .replic
 edit-requires : tie.Need-edit-requires
 edit-requires c κs = search needs
 
-reported-place-requires : tie.Need-reported-place-requires
-reported-place-requires c κs = search needs
-
 returns-3 : tie.Need-returns-3
 returns-3 c =
-    let at = c .before .before .before .before .before .before .before .before in
-    desk-declined (at .args .replica) _ (at .args .out .now) (c .before .before .before .before .before .if1 .left) (c .before .before .before .before .if2 .left) _ (c .before .before .before .edit .ensures)
-    (pick-of _ _ (at .good .1 .1 .1 .0 .1) (at .good .1 .1 .1 .1 .0 .1)) (c .before .if3 .taken) _ (c .reported-place .ensures)
+    let at = c .before .before .before .before .before .before .before in
+    desk-declined (at .args .replica) _ (at .args .out .now) (c .before .before .before .before .if1 .left) (c .before .before .before .if2 .left) _ (c .before .before .edit .ensures)
+    (pick-of _ _ (at .good .1 .1 .1 .0 .1) (at .good .1 .1 .1 .1 .0 .1)) (c .if3 .taken)
 
 add-number : tie.Need-add-number
 add-number c = search needs
 
-float-to-bits-t24 : tie.Need-float-to-bits-t24
-float-to-bits-t24 c = is-number _ (accepted-place _ _ _ (c .before .before .edit .ensures) (c .if3 .left) .0)
+float-to-bits-t23 : tie.Need-float-to-bits-t23
+float-to-bits-t23 c = is-number _ (accepted-place _ _ _ (c .before .before .edit .ensures) (c .if3 .left) .0)
 
-float-to-bits-t25 : tie.Need-float-to-bits-t25
-float-to-bits-t25 c = is-number _ (accepted-place _ _ _ (c .before .before .edit .ensures) (c .if3 .left) .1)
+float-to-bits-t24 : tie.Need-float-to-bits-t24
+float-to-bits-t24 c = is-number _ (accepted-place _ _ _ (c .before .before .edit .ensures) (c .if3 .left) .1)
 
 write-message-requires : tie.Need-write-message-requires
 write-message-requires c κs = search needs
@@ -64,11 +60,10 @@ desk-edit-spec =
     first-fault-requires-2
     returns-2
     edit-requires
-    reported-place-requires
     returns-3
     add-number
+    float-to-bits-t23
     float-to-bits-t24
-    float-to-bits-t25
     write-message-requires
     same-length
     returns-4)

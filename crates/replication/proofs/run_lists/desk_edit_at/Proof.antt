@@ -17,6 +17,9 @@ use Rattle.image.proofs.operation_of.Reads as operation-of-reads
 get1-requires : tie.Need-get1-requires
 get1-requires c κs = search needs
 
+cast-operation-of : tie.Need-cast-operation-of
+cast-operation-of c = search needs
+
 operation-of-requires : tie.Need-operation-of-requires
 operation-of-requires c κs = search needs
 
@@ -64,6 +67,7 @@ desk-edit-at-spec =
     tie.close
     (tie.spec
     get1-requires
+    cast-operation-of
     operation-of-requires
     add-get8
     get8-requires

@@ -19,7 +19,7 @@ use Rattle.big_endian.proofs.get1.Reads as get1-reads
 use Rattle.replication.proofs.run_lists.desk_edit_at.Reads as desk-edit-at-reads
 
 abbrev Inv-loop : tie.InvT-loop
-Inv-loop entries log₀ last₀ i₀ log last i = (i ≤ length entries / callSize) × (length log ≡ length log₀) × DeskRan (view (last₀ .sketch)) (rows i (callAt entries)) log last
+Inv-loop entries log₀ last₀ i₀ log last i = (i ≤ length entries / callSize) × (length log ≡ length log₀) × DeskRan (view (last₀ .sketch)) (rows i (callAt entries)) log₀ log last
 
 abbrev μ-loop : tie.MeasureT-loop
 μ-loop entries log₀ last₀ i₀ log last i = length entries / callSize - i
@@ -74,7 +74,7 @@ loop-again c =
     let at = c .before .before .before .before .before .before .before .before .loop in
     let room = c .before .before .before .before .before .before .before .before .before .before .before .pre .2 in
     let m =
-    desk-ran-next _ (c .before .before .before .before .before .before .before .before .before .before .before .args .entries .now) (at .log) (at .i) (at .last) (omega arith) (omega arith) (at .inv .2)
+    desk-ran-next _ (c .before .before .before .before .before .before .before .before .before .before .before .args .entries .now) _ (at .log) (at .i) (at .last) (omega arith) (omega arith) (at .inv .2)
     (at .last .count * messageSize) (at .last .count * messageSize + c .before .before .before .before .before .get1 .result - at .last .count * messageSize) (omega arith) (omega (arith, c .before .before .before .before .before .get1 .ensures)) (omega arith)
     _ _ (c .before .before .before .desk-edit-at .ensures)
     in
@@ -84,7 +84,7 @@ same-length : tie.Need-same-length Inv-loop μ-loop
 same-length c = search needs
 
 returns : tie.Need-returns Inv-loop μ-loop
-returns c = (desk-ran-all _ (c .before .before .before .before .args .entries .now) _ (c .before .loop .i) _ (omega arith) (c .before .loop .inv .2), c .before .loop .inv .1)
+returns c = (desk-ran-all _ (c .before .before .before .before .args .entries .now) _ _ (c .before .loop .i) _ (omega arith) (c .before .loop .inv .2), c .before .loop .inv .1)
 
 pub run-desk-spec : {M : Type 1} → statement M
 run-desk-spec =

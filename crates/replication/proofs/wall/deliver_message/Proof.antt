@@ -10,7 +10,6 @@ use Rattle.replication.proofs.wall.deliver_message.Lts as lts
 use Rattle.replication.proofs.wall.is_number.Reads as is-number-reads
 use Rattle.modify.proofs.edit.Reads as edit-reads
 use Rattle.replication.proofs.refusals.first_fault.Reads as first-fault-reads
-use Rattle.replication.proofs.refusals.reported_place.Reads as reported-place-reads
 use Rattle.sketch.proofs.fault.Reads as fault-reads
 
 fault-requires : tie.Need-fault-requires
@@ -52,11 +51,8 @@ float-from-bits-t25 c = may-float (c .before .before .before .before .before .be
 edit-requires : tie.Need-edit-requires
 edit-requires c κs = search needs
 
-reported-place-requires : tie.Need-reported-place-requires
-reported-place-requires c κs = search needs
-
 returns-5 : tie.Need-returns-5
-returns-5 c = λ bytes is. wall-declined (c .before .before .before .before .before .before .before .before .before .before .before .before .before .before .args .replica) bytes (c .before .before .before .before .before .before .before .before .before .before .before .before .before .before .args .m) is (c .before .before .before .before .before .before .before .before .before .before .before .if1 .left) (omega arith) _ (c .before .before .before .edit .ensures) (c .before .if5 .taken) _ (c .reported-place .ensures)
+returns-5 c = λ bytes is. wall-declined (c .before .before .before .before .before .before .before .before .before .before .before .before .before .args .replica) bytes (c .before .before .before .before .before .before .before .before .before .before .before .before .before .args .m) is (c .before .before .before .before .before .before .before .before .before .before .if1 .left) (omega arith) _ (c .before .before .edit .ensures) (c .if5 .taken)
 
 returns-6 : tie.Need-returns-6
 returns-6 c = λ bytes is. wall-applied (c .before .before .before .before .before .before .before .before .before .before .before .before .before .before .before .args .replica) bytes (c .before .before .before .before .before .before .before .before .before .before .before .before .before .before .before .args .m) is (c .before .before .before .before .before .before .before .before .before .before .before .before .if1 .left) (omega arith) _ (c .before .before .before .before .edit .ensures) (c .before .before .if5 .left)
@@ -78,6 +74,5 @@ deliver-message-spec =
     float-from-bits-t24
     float-from-bits-t25
     edit-requires
-    reported-place-requires
     returns-5
     returns-6)

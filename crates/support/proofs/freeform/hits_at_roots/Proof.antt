@@ -1,4 +1,6 @@
+use mathlib.Core.Path.{_∙_}
 use Rattle.support.proofs.Answers.{as-outcome, met-nothing, met-all, laid-countX, laid-countY, laid-fitsX, laid-fitsY, laid-roomX, laid-roomY}
+use Rattle.bernstein.proofs.Answers.{refused-not-found}
 use Rattle.support.proofs.RootsFound.{none-resolved, roots-fit, roots-counted, roots-few, roots-resolved}
 use Rattle.support.specs.Contracts.{freeformOf}
 use borrow.Author.Needs.{needs}
@@ -14,14 +16,20 @@ roots-requires c κs = search needs
 enum-known-roots : tie.Need-enum-known-roots
 enum-known-roots c = search needs
 
+enum-known-roots-2 : tie.Need-enum-known-roots-2
+enum-known-roots-2 c = search needs
+
+enum-known-roots-3 : tie.Need-enum-known-roots-3
+enum-known-roots-3 c = search needs
+
 enum-told : tie.Need-enum-told
 enum-told c = search needs
 
-hits-of-roots-requires : tie.Need-hits-of-roots-requires
-hits-of-roots-requires c κs = search needs
-
 returns : tie.Need-returns
-returns c = none-resolved _ _ _ _ _ _ _ (c .before .before .before .before .roots .ensures) (search needs) _ _ (c .before .enum-told .given .1) _ (c .hits-of-roots .ensures) _ _
+returns c = refused-not-found (c .enum-told .given .1)
+
+returns-2 : tie.Need-returns-2
+returns-2 c = none-resolved _ _ _ _ _ _ _ (c .before .before .before .before .before .before .before .roots .ensures) (search needs) _ _ (c .before .before .before .before .roots3 .given .1 ∙ c .before .roots4 .given .1) _ _
 
 array-share-prefix-ts : tie.Need-array-share-prefix-ts
 array-share-prefix-ts c = roots-fit (c .before .before .before .before .before .before .before .before .before .before .before .args .line) (freeformOf (c .before .before .before .before .before .before .before .before .before .before .before .args .curve) (c .before .before .before .before .before .before .before .before .before .before .before .args .xs .now) (c .before .before .before .before .before .before .before .before .before .before .before .args .ys .now)) _ _ _ _ _ (c .before .before .before .before .roots .ensures) (search needs) _ _ (c .before .roots2 .given .1)
@@ -44,8 +52,8 @@ enum-known-hits c = search needs
 enum-told-2 : tie.Need-enum-told-2
 enum-told-2 c = search needs
 
-returns-2 : tie.Need-returns-2
-returns-2 c = as-outcome (roots-resolved _ _ _ _ _ _ _ (c .before .before .before .before .before .before .before .before .before .before .before .before .roots .ensures) (search needs) _ _ (c .before .before .before .before .before .before .before .before .before .roots2 .given .1)) (met-nothing _ _ _ _ (c .before .before .before .before .resolve .ensures) _ _ _ _ (c .enum-told2 .given .1))
+returns-3 : tie.Need-returns-3
+returns-3 c = as-outcome (roots-resolved _ _ _ _ _ _ _ (c .before .before .before .before .before .before .before .before .before .before .before .before .roots .ensures) (search needs) _ _ (c .before .before .before .before .before .before .before .before .before .roots2 .given .1)) (met-nothing _ _ _ _ (c .before .before .before .before .resolve .ensures) _ _ _ _ (c .enum-told2 .given .1))
 
 array-share-prefix-qx : tie.Need-array-share-prefix-qx
 array-share-prefix-qx c = laid-fitsX _ _ _ _ (c .before .before .before .before .before .resolve .ensures) _ _ (c .before .hits .given .1)
@@ -71,8 +79,8 @@ same-length c = search needs
 same-length-2 : tie.Need-same-length-2
 same-length-2 c = search needs
 
-returns-3 : tie.Need-returns-3
-returns-3 c = as-outcome (roots-resolved _ _ _ _ _ _ _ (c .before .before .before .before .before .before .before .before .before .before .before .before .before .before .before .before .before .before .before .before .before .before .before .roots .ensures) (search needs) _ _ (c .before .before .before .before .before .before .before .before .before .before .before .before .before .before .before .before .before .before .before .before .roots2 .given .1)) (met-all _ _ _ _ (c .before .before .before .before .before .before .before .before .before .before .before .before .before .before .before .resolve .ensures) _ _ (c .before .before .before .before .before .before .before .before .before .before .before .hits .given .1) _ _ _ _ (c .before .before .before .before .before .before .before .put .ensures) (c .before .before .put2 .ensures))
+returns-4 : tie.Need-returns-4
+returns-4 c = as-outcome (roots-resolved _ _ _ _ _ _ _ (c .before .before .before .before .before .before .before .before .before .before .before .before .before .before .before .before .before .before .before .before .before .before .before .roots .ensures) (search needs) _ _ (c .before .before .before .before .before .before .before .before .before .before .before .before .before .before .before .before .before .before .before .before .roots2 .given .1)) (met-all _ _ _ _ (c .before .before .before .before .before .before .before .before .before .before .before .before .before .before .before .resolve .ensures) _ _ (c .before .before .before .before .before .before .before .before .before .before .before .hits .given .1) _ _ _ _ (c .before .before .before .before .before .before .before .put .ensures) (c .before .before .put2 .ensures))
 
 pub hits-at-roots-spec : {M : Type 1} → statement M
 hits-at-roots-spec =
@@ -81,9 +89,11 @@ hits-at-roots-spec =
     slice-aggregate-roots
     roots-requires
     enum-known-roots
+    enum-known-roots-2
+    enum-known-roots-3
     enum-told
-    hits-of-roots-requires
     returns
+    returns-2
     array-share-prefix-ts
     slice-aggregate-resolve
     slice-aggregate-resolve-2
@@ -91,7 +101,7 @@ hits-at-roots-spec =
     resolve-requires
     enum-known-hits
     enum-told-2
-    returns-2
+    returns-3
     array-share-prefix-qx
     slice-aggregate-put
     put-requires
@@ -100,4 +110,4 @@ hits-at-roots-spec =
     put-requires-2
     same-length
     same-length-2
-    returns-3)
+    returns-4)
