@@ -1,9 +1,10 @@
 //! Any bytes through the engine's C interface: `fuzz [SECONDS [SEED]] [--planted FAULT]`.
 //!
 //! Every buffer lies against a page that may not be touched, before it or behind it, and what is only
-//! lent for reading may not be written. After each call: nothing outside of what an accepted call may
-//! write has changed, a refused one has changed nothing, and the call has ended in time. A planted
-//! fault stands in for the engine's call, to show that it is seen.
+//! lent for reading may not be written. The calls run on a thread with the stack that the header asks
+//! for. After each call: nothing outside of what an accepted call may write has changed, a refused one
+//! has changed nothing, and the call has ended in time. A planted fault stands in for the engine's
+//! call, to show that it is seen.
 
 mod answers;
 mod buffers;
@@ -21,10 +22,13 @@ mod watchdog;
 use calls::{Calls, ENGINE};
 use oracle::generate::random::Random;
 use std::process::ExitCode;
+use std::thread;
 use std::time::{Duration, Instant};
 use tally::Tally;
 
 const SECONDS: u64 = 40;
+/// The stack that the header tells a host to give a thread, in bytes.
+const STACK: usize = 512 * 1024;
 /// How many seconds a single call may take.
 const TIME_LIMIT: u32 = 30;
 /// A planted fault is to be seen sooner.
@@ -45,7 +49,7 @@ fn main() -> ExitCode {
     };
     watchdog::begin(options.seed, options.time_limit);
     let mut tally = Tally::default();
-    let outcome = run(&options, &mut tally);
+    let outcome = run_on_thread(&options, &mut tally);
     print!("{tally}");
     match outcome {
         Ok(()) => {
@@ -74,6 +78,14 @@ fn options() -> Option<Options> {
     let seconds = number(0, SECONDS)?;
     let seed = number(1, 1)?;
     (arguments.len() <= 2).then_some(Options { seconds, seed, calls, time_limit })
+}
+
+fn run_on_thread(options: &Options, tally: &mut Tally) -> Result<(), String> {
+    thread::scope(|scope| {
+        let thread = thread::Builder::new().stack_size(STACK);
+        let run = thread.spawn_scoped(scope, || run(options, tally)).expect("a thread");
+        run.join().expect("the run answers")
+    })
 }
 
 fn run(options: &Options, tally: &mut Tally) -> Result<(), String> {

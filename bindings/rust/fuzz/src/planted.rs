@@ -4,7 +4,7 @@ use crate::calls::{Calls, ENGINE};
 use mulkefi::raw;
 
 /// Names, and what each does.
-pub const ALL: [(&str, &str); 9] = [
+pub const ALL: [(&str, &str); 10] = [
     ("writes-behind", "an accepted edit writes the byte behind its buffer"),
     ("writes-before", "an accepted edit writes the byte before its buffer"),
     ("writes-rest", "an accepted edit writes the byte behind the new image"),
@@ -14,6 +14,7 @@ pub const ALL: [(&str, &str); 9] = [
     ("writes-input", "the test writes to its image"),
     ("writes-roots", "a search writes one root more than it found"),
     ("endless", "the test does not end for an empty slice"),
+    ("deep", "the test needs more stack than the header says"),
 ];
 
 pub fn by_name(name: &str) -> Option<Calls> {
@@ -27,6 +28,7 @@ pub fn by_name(name: &str) -> Option<Calls> {
         "writes-input" => Calls { test: writes_input, ..ENGINE },
         "writes-roots" => Calls { roots: writes_roots, ..ENGINE },
         "endless" => Calls { test: endless, ..ENGINE },
+        "deep" => Calls { test: deep, ..ENGINE },
         _ => return None,
     })
 }
@@ -134,5 +136,11 @@ unsafe extern "C" fn endless(image: *const u8, len: usize) -> u32 {
             std::hint::spin_loop();
         }
     }
+    raw::mulkefi_test(image, len)
+}
+
+unsafe extern "C" fn deep(image: *const u8, len: usize) -> u32 {
+    let mut memory = [0u8; crate::STACK];
+    std::hint::black_box(&mut memory);
     raw::mulkefi_test(image, len)
 }

@@ -1,19 +1,31 @@
-//! Ends the program with a line where a call touches guarded memory or does not end.
+//! Ends the program with a line where a call touches guarded memory, needs more stack or does not end.
 
-use std::ffi::{c_int, c_uint, c_void};
+use std::ffi::{c_int, c_uint};
+use std::ptr::null_mut;
 use std::sync::atomic::{AtomicU32, AtomicU64, Ordering::Relaxed};
 
 extern "C" {
-    fn signal(number: c_int, handler: extern "C" fn(c_int)) -> *const c_void;
+    fn sigaction(number: c_int, action: *const Action, before: *mut Action) -> c_int;
     fn alarm(seconds: c_uint) -> c_uint;
     fn write(file: c_int, bytes: *const u8, len: usize) -> isize;
     fn _exit(status: c_int) -> !;
+}
+
+/// The C library's struct on x86-64 Linux.
+#[repr(C)]
+struct Action {
+    handler: extern "C" fn(c_int),
+    mask: [u64; 16],
+    flags: c_int,
+    restorer: usize,
 }
 
 // Linux's values.
 const BUS: c_int = 7;
 const SEGMENT: c_int = 11;
 const ALARM: c_int = 14;
+/// The handler runs on the thread's other stack: the first may be used up.
+const ON_STACK: c_int = 0x0800_0000;
 
 static CASE: AtomicU64 = AtomicU64::new(0);
 static SEED: AtomicU64 = AtomicU64::new(0);
@@ -26,8 +38,10 @@ pub fn begin(seed: u64, time_limit: u32) {
     SEED.store(seed, Relaxed);
     TIME_LIMIT.store(time_limit, Relaxed);
     for number in [BUS, SEGMENT, ALARM] {
+        let action = Action { handler: caught, mask: [0; 16], flags: ON_STACK, restorer: 0 };
         // SAFETY: the handler only writes a line and ends the program.
-        unsafe { signal(number, caught) };
+        let refused = unsafe { sigaction(number, &action, null_mut()) };
+        assert_eq!(refused, 0, "a handler for signal {number}");
     }
 }
 

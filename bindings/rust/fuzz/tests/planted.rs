@@ -23,6 +23,7 @@ fn planted_faults_are_seen() {
         ("writes-input", ["memory that it was not lent"; 2]),
         ("writes-roots", ["of the roots altered"; 2]),
         ("endless", ["did not end"; 2]),
+        ("deep", ["memory that it was not lent"; 2]),
     ];
     for (fault, expected) in faults {
         let (output, printed) = fuzz(&["20", "1", "--planted", fault]);
