@@ -9,7 +9,7 @@ use Rattle.bernstein.specs.Roots.{rootsOf, found}
 use Rattle.geom.specs.Plane.{vec}
 use Rattle.sketch.specs.declared.Relation.the-variants.{PointOnCurve, Collinear, Length, Distance}
 use Rattle.sketch.specs.Drawing.{Drawing, limits}
-use Rattle.image.specs.declared.Operation.the-variants.{Trim, Split, Extend}
+use Rattle.message.specs.declared.Operation.the-variants.{Trim, Split, Extend}
 use Rattle.image.specs.Image as I
 use Rattle.image.specs.Encode.{encode}
 use Rattle.edit_plan.specs.declared.Removed.{Removed}

@@ -1,8 +1,8 @@
 // Worked examples that no theorem states, run on the engine.
 use bernstein::Roots;
-use image::MESSAGE_SIZE;
-use image::Operation;
 use libc::STDOUT_FILENO;
+use message::MESSAGE_SIZE;
+use message::Operation;
 use replication::DeskReply;
 
 // Room for an image.

@@ -19,11 +19,12 @@ use Rattle.sketch.specs.declared.CurveKind.{CurveKind}
 use Rattle.sketch.specs.declared.CurveKind.the-variants.{Line, Arc, Circle, Bezier, Conic}
 use Rattle.sketch.specs.Valid.{okCurve, okNumber, okRadius, okRho, inSlots, sortOf, isLineSort}
 use Rattle.sketch.specs.Drawing.{noSlots}
+use Rattle.sketch.proofs.Bools.{and-both}
 use Rattle.image.specs.Records.{idsAt, slotsOf, usedSlots, curveFields, curveForm, kindOf, curveOf, curveSize}
 use Rattle.image.specs.Encode.{bit, bits, kindByte, degreeOf, numberBits, slotIds, flagByte, encodeCurve}
 use Rattle.image.specs.Stored.{Each, Id, StoredKind, StoredCurve}
 use Rattle.image.proofs.Floats.{bits-back, radius-rejects, rho-rejects}
-use Rattle.image.proofs.Tables.{Spells, both, length-spread, sized-all}
+use Rattle.image.proofs.Tables.{Spells, length-spread, sized-all}
 
 -- ---- flags
 
@@ -206,12 +207,12 @@ curve-there c w =
 pub ok-number : (c : Curve) → okCurve c ≡ true → okNumber (c .kind) ≡ true
 ok-number c e =
     let line = not (c .infinite) || isLineSort (sortOf (c .kind)) in
-    both line (okNumber (c .kind)) (both (line && okNumber (c .kind)) _ e .0) .1
+    and-both line (okNumber (c .kind)) (and-both (line && okNumber (c .kind)) _ e .0) .1
 
 pub zeros : (l : List ℕ) → every (λ i. eqb i 0) l ≡ true → l ≡ replicate (length l) 0
 zeros [] h = refl
 zeros (i ∷ l) h =
-    let k = both (eqb i 0) _ h in
+    let k = and-both (eqb i 0) _ h in
     rw (eqb-true i 0 (k .0), ← zeros l (k .1))
 
 -- the parts of a kind that was made by its byte are what it was made from
@@ -232,11 +233,11 @@ record Tests (kind flags degree number : ℕ) (s : List ℕ) : Type 0 where
 tests : (kind flags degree number : ℕ) (s : List ℕ) → curveFields kind flags degree s number ≡ true → Tests kind flags degree number s
 unfolding curveFields
 tests kind flags degree number s e =
-    let t5 = both _ _ e in
-    let t4 = both _ _ (t5 .0) in
-    let t3 = both _ _ (t4 .0) in
-    let t2 = both _ _ (t3 .0) in
-    let t1 = both _ _ (t2 .0) in
+    let t5 = and-both _ _ e in
+    let t4 = and-both _ _ (t5 .0) in
+    let t3 = and-both _ _ (t4 .0) in
+    let t2 = and-both _ _ (t3 .0) in
+    let t1 = and-both _ _ (t2 .0) in
     record { low = leb-true _ _ (t1 .0); high = leb-true _ _ (t1 .1); known = leb-true _ _ (t2 .1); plain = t3 .1; bare = t4 .1; clear = t5 .1 }
 
 kind-back : (kind flags degree number : ℕ) (a b c d e f g h : ℕ) (v : Float)

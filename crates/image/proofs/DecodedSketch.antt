@@ -13,11 +13,11 @@ use Rattle.sketch.specs.Drawing.{view, limits}
 use Rattle.sketch.specs.declared.Sketch.{Sketch}
 use Rattle.sketch.specs.Valid.{okPoint, okCurve, okRelation, faultOf, sketchFault}
 use Rattle.sketch.proofs.Facts.{none-rule}
+use Rattle.sketch.proofs.Bools.{and-both}
 use Rattle.image.specs.Records.{pointForm, pointOf, curveForm, curveOf, relationForm, relationOf, curveSize, pointSize, relationSize}
 use Rattle.image.specs.Image.{nextAt, rowsAt, pointCount, curveCount, relationCount, pointRows, curveRows, relationRows, drawingOf, recordsFault, imageFault, headerSize}
 use Rattle.image.specs.Decode.{plainPoint, plainCurve, plainRelation}
 use Rattle.image.specs.Contracts.{goodPoint, goodCurve, goodRelation}
-use Rattle.image.proofs.Tables.{both}
 use Rattle.image.proofs.Plain.{point-lost, curve-lost, relation-lost}
 use Rattle.image.proofs.RoundTrips.{Sound, image-kept, records-agree}
 
@@ -25,7 +25,7 @@ use Rattle.image.proofs.RoundTrips.{Sound, image-kept, records-agree}
 every-so : (f g : List ℕ → Bool) → ((r : List ℕ) → f r ≡ true → g r ≡ true) → (rows : List (List ℕ)) → every f rows ≡ true → every g rows ≡ true
 every-so f g so [] h = refl
 every-so f g so (r ∷ rows) h =
-    let k = both (f r) _ h in
+    let k = and-both (f r) _ h in
     rw (so r (k .0), every-so f g so rows (k .1))
 
 not-lost : (good plain : List ℕ → Bool) → ((r : List ℕ) → plain r ≡ false → good r ≡ false) → (r : List ℕ) → good r ≡ true → plain r ≡ true
@@ -49,9 +49,9 @@ module _ (s : List ℕ) (e : imageFault s ≡ 0) where
   drawing-good b =
       let k = image-kept s e in
       sym (records-agree s
-      (every-so goodPoint pointForm (λ r h. both (pointForm r) (okPoint (pointOf r)) h .0) (pointRows s) (k .points-pass))
-      (every-so goodCurve curveForm (λ r h. both (curveForm r) (okCurve (curveOf r)) h .0) (curveRows s) (k .curves-pass))
-      (every-so goodRelation relationForm (λ r h. both (relationForm r) (okRelation (relationOf r)) h .0) (relationRows s) (k .relations-pass))
+      (every-so goodPoint pointForm (λ r h. and-both (pointForm r) (okPoint (pointOf r)) h .0) (pointRows s) (k .points-pass))
+      (every-so goodCurve curveForm (λ r h. and-both (curveForm r) (okCurve (curveOf r)) h .0) (curveRows s) (k .curves-pass))
+      (every-so goodRelation relationForm (λ r h. and-both (relationForm r) (okRelation (relationOf r)) h .0) (relationRows s) (k .relations-pass))
       b (k .head))
       ∙ k .records-pass
 

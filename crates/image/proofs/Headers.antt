@@ -10,14 +10,11 @@ use borrow.Author.Tests.{leb-true, eqb-true, le-leb, eq-eqb}
 use Rattle.big_endian.specs.Fields.{field, bytes, part}
 use Rattle.big_endian.specs.Laws.{Bytes, length-bytes, field-in, field-lt, bytes-field, part-join}
 use Rattle.sketch.specs.Lists.{guardNumber}
-use Rattle.sketch.proofs.Facts.{rule-none}
+use Rattle.sketch.proofs.Facts.{rule-kept}
+use Rattle.sketch.proofs.Bools.{and-both}
 use Rattle.image.specs.Image.{version, nextAt, pointCount, curveCount, relationCount, sizeOf, curvesFrom, relationsFrom, headFault, headerSize}
 use Rattle.image.specs.Encode.{header}
 use Rattle.image.specs.Stored.{Id}
-use Rattle.image.proofs.Tables.{both}
-
-pub rule-kept : (b : Bool) (n rest : ℕ) → guardNumber b (suc n) rest ≡ 0 → (b ≡ true) × (rest ≡ 0)
-rule-kept b n rest e = rule-none b (suc n) rest (omega arith) e
 
 -- what the header of an image that is not refused for it says
 pub record Head (s : List ℕ) : Type 0 where
@@ -38,10 +35,10 @@ head-kept s rest e =
     let k3 = rule-kept _ _ _ (k2 .1) in
     let k4 = rule-kept _ _ _ (k3 .1) in
     let k5 = rule-kept _ _ _ (k4 .1) in
-    let a = both _ _ (k3 .0) in
-    let b3 = both _ _ (k4 .0) in
-    let b2 = both _ _ (b3 .0) in
-    let b1 = both _ _ (b2 .0) in (
+    let a = and-both _ _ (k3 .0) in
+    let b3 = and-both _ _ (k4 .0) in
+    let b2 = and-both _ _ (b3 .0) in
+    let b1 = and-both _ _ (b2 .0) in (
       record {
         long = leb-true _ _ (a .0);
         version-is = eqb-true _ _ (k2 .0);

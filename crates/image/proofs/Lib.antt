@@ -1,5 +1,4 @@
 pub mod Tables
-pub mod Typed
 pub mod Floats
 pub mod Points
 pub mod Curves
@@ -7,12 +6,9 @@ pub mod Relations
 pub mod Plain
 pub mod Headers
 pub mod RoundTrips
-pub mod ReadBack
 pub mod Sizes
 pub mod RecordChecks
 pub mod RelationChecks
 pub mod Walked
 pub mod DecodedSketch
 pub mod Verdicts
-pub mod Written
-pub mod MessageRoundTrips

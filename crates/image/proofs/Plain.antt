@@ -12,12 +12,12 @@ use Rattle.big_endian.specs.Fields.{field}
 use Rattle.sketch.specs.Lists.{ite, every}
 use Rattle.sketch.specs.Valid.{okPoint, okCurve, okRelation, okCoordinate, okNumber, okRadius, okRho, okMeasure, inSlots, sortOf, isLineSort}
 use Rattle.sketch.specs.Drawing.{noSlots}
+use Rattle.sketch.proofs.Bools.{and-both}
 use Rattle.image.specs.Records.{pointForm, pointOf, curveForm, curveOf, relationForm, relationOf, slotsOf, kindOf, relationBy, usedSlots, curveFields, relationFields}
 use Rattle.image.specs.Decode.{numberAt, plainPoint, plainCurve, plainRelation}
 use Rattle.image.proofs.Floats.{nan-fails, number-test, coordinate-rejects, radius-rejects, rho-rejects, measure-rejects}
-use Rattle.image.proofs.Tables.{both}
 
--- of two that are not both true, one is false
+-- of two that are not and-both true, one is false
 either : (a b x : Bool) → (a && b) ≡ false → (a ≡ false → x ≡ false) → (b ≡ false → x ≡ false) → x ≡ false
 either true b x e f g = g e
 either false b x e f g = f refl
@@ -33,10 +33,10 @@ and-right false b e = refl
 
 module _ (r : List ℕ) where
   pub plain-x : plainPoint r ≡ true → numberAt r 4 ≡ true
-  plain-x h = both (pointForm r) _ (both (pointForm r && numberAt r 4) _ h .0) .1
+  plain-x h = and-both (pointForm r) _ (and-both (pointForm r && numberAt r 4) _ h .0) .1
 
   pub plain-y : plainPoint r ≡ true → numberAt r 12 ≡ true
-  plain-y h = both (pointForm r && numberAt r 4) _ h .1
+  plain-y h = and-both (pointForm r && numberAt r 4) _ h .1
 
   pub point-lost : plainPoint r ≡ false → (pointForm r && okPoint (pointOf r)) ≡ false
   point-lost h =
@@ -49,10 +49,10 @@ module _ (r : List ℕ) where
   -- ---- curves
 
   pub plain-number : plainCurve r ≡ true → numberAt r 39 ≡ true
-  plain-number h = both (curveForm r) _ h .1
+  plain-number h = and-both (curveForm r) _ h .1
 
   pub plain-value : plainRelation r ≡ true → numberAt r 9 ≡ true
-  plain-value h = both (relationForm r) _ h .1
+  plain-value h = and-both (relationForm r) _ h .1
 
 -- ---- bits of a NaN are not zero, so they stand where a number belongs, and there they are out of range
 

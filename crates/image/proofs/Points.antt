@@ -14,11 +14,12 @@ use Rattle.big_endian.specs.Fields.{field, bytes, part}
 use Rattle.big_endian.specs.Laws.{Bytes, length-bytes, field-in, bytes-field, part-join}
 use Rattle.sketch.specs.declared.Point.{Point}
 use Rattle.sketch.specs.Valid.{okPoint, okCoordinate}
+use Rattle.sketch.proofs.Bools.{and-both}
 use Rattle.image.specs.Records.{pointForm, pointOf, pointSize}
 use Rattle.image.specs.Encode.{bit, bits, encodePoint}
 use Rattle.image.specs.Stored.{StoredPoint}
 use Rattle.image.proofs.Floats.{bits-back, coordinate-rejects}
-use Rattle.image.proofs.Tables.{Spells, both}
+use Rattle.image.proofs.Tables.{Spells}
 
 pub bit-lt : (b : Bool) → bit b < 256
 unfolding bit
@@ -63,7 +64,7 @@ point-there p w =
 pub point-back : (r : List ℕ) → Bytes r → length r ≡ pointSize → pointForm r ≡ true → okPoint (pointOf r) ≡ true → encodePoint (pointOf r) ≡ r
 unfolding encodePoint
 point-back r b l form ok =
-    let k = both (okCoordinate (ofBits binary64 (field r 4 8))) _ ok in
+    let k = and-both (okCoordinate (ofBits binary64 (field r 4 8))) _ ok in
     rw (
       bits-back okCoordinate coordinate-rejects r 4 b (k .0),
       bits-back okCoordinate coordinate-rejects r 12 b (k .1),

@@ -15,11 +15,12 @@ use Rattle.big_endian.specs.Laws.{Bytes, length-bytes, field-in, bytes-field, p
 use Rattle.sketch.specs.declared.Relation.{Relation}
 use Rattle.sketch.specs.declared.Relation.the-variants.{Coincident, PointOnCurve, Collinear, Equal, Length, Distance, Midpoint, ArcLength, ArcSweep}
 use Rattle.sketch.specs.Valid.{okRelation, okMeasure}
+use Rattle.sketch.proofs.Bools.{and-both}
 use Rattle.image.specs.Records.{single, valued, relationFields, relationForm, relationBy, relationOf, relationSize}
 use Rattle.image.specs.Encode.{bits, relationByte, firstId, secondId, valueBits, encodeRelation}
 use Rattle.image.specs.Stored.{Id, StoredRelation}
 use Rattle.image.proofs.Floats.{bits-back, measure-rejects}
-use Rattle.image.proofs.Tables.{Spells, both}
+use Rattle.image.proofs.Tables.{Spells}
 
 pub length-relation : (r : Relation) → length (encodeRelation r) ≡ relationSize
 unfolding encodeRelation
@@ -88,9 +89,9 @@ record Tests (kind second number : ℕ) : Type 0 where
 tests : (kind second number : ℕ) → relationFields kind second number ≡ true → Tests kind second number
 unfolding relationFields
 tests kind second number e =
-    let t3 = both _ _ e in
-    let t2 = both _ _ (t3 .0) in
-    let t1 = both _ _ (t2 .0) in
+    let t3 = and-both _ _ e in
+    let t2 = and-both _ _ (t3 .0) in
+    let t1 = and-both _ _ (t2 .0) in
     record { low = leb-true _ _ (t1 .0); high = leb-true _ _ (t1 .1); lone = t2 .1; bare = t3 .1 }
 
 made : (kind a b number : ℕ) (v : Float) → Tests kind b number → okRelation (relationBy kind a b v) ≡ true → (okMeasure v ≡ true → bits v ≡ number)

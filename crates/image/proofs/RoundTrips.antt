@@ -14,11 +14,12 @@ use Rattle.sketch.specs.Lists.{every, concatMap, guardNumber}
 use Rattle.sketch.specs.Drawing.{Drawing, limits}
 use Rattle.sketch.specs.Valid.{okPoint, okCurve, okRelation, soundCurve, soundRelation, hasPoint, sortIn, tableFault, listFault, faultOf}
 use Rattle.sketch.proofs.Facts.{table-facts, list-facts}
+use Rattle.sketch.proofs.Bools.{and-both}
 use Rattle.image.specs.Records.{pointForm, pointOf, curveForm, curveOf, relationForm, relationOf, curveSize, pointSize, relationSize}
 use Rattle.image.specs.Image.{version, nextAt, pointCount, curveCount, relationCount, sizeOf, curvesFrom, relationsFrom, headFault, rowsAt, pointRows, curveRows, relationRows, drawingOf, rowId, recordsFault, imageFault, ParseResult, refused, accepted, resultOf, parse, headerSize}
 use Rattle.image.specs.Encode.{encodePoint, encodeCurve, encodeRelation, header, drawingSize, encode}
 use Rattle.image.specs.Stored.{Each, Stored, StoredPoint, StoredCurve, StoredRelation, Id}
-use Rattle.image.proofs.Tables.{length-rows, rows-join, rows-proper, spread-back, Sized, sized-all, length-spread, rows-spread, Spells, of-rows, table-there, list-there, both, every-true, table-whole, list-whole}
+use Rattle.image.proofs.Tables.{length-rows, rows-join, rows-proper, spread-back, Sized, sized-all, length-spread, rows-spread, Spells, of-rows, table-there, list-there, every-true, table-whole, list-whole}
 use Rattle.image.proofs.Points.{length-point, point-there, point-back}
 use Rattle.image.proofs.Curves.{length-curve, curve-there, curve-back}
 use Rattle.image.proofs.Relations.{length-relation, relation-there, relation-back}
@@ -269,8 +270,8 @@ encode-parse s d b e =
 every-first : (f g : List ℕ → Bool) (l : List (List ℕ)) → every (λ r. f r && g r) l ≡ true → every f l ≡ true
 every-first f g [] h = refl
 every-first f g (r ∷ l) h =
-    let k = both (f r && g r) _ h in
-    rw (both (f r) (g r) (k .0) .0, every-first f g l (k .1))
+    let k = and-both (f r && g r) _ h in
+    rw (and-both (f r) (g r) (k .0) .0, every-first f g l (k .1))
 
 -- what an accepted image gives passes the test
 pub valid : (s : List ℕ) (d : Drawing) → Bytes s → parse s ≡ accepted d → faultOf limits d ≡ 0

@@ -14,6 +14,7 @@ use Rattle.big_endian.specs.Laws.{Bytes, part-join, over-nil, over-over, length
 use Rattle.sketch.specs.Lists.{every, concatMap, guardNumber}
 use Rattle.sketch.specs.Valid.{tableFault, listFault}
 use Rattle.sketch.specs.Facts.{Every}
+use Rattle.sketch.proofs.Bools.{and-both}
 use Rattle.image.specs.Stored.{Each}
 use Rattle.image.specs.Image.{rowsAt, rowId}
 
@@ -111,18 +112,14 @@ module _ {A : Type 0} (enc : A → List ℕ) (of : List ℕ → A) (form : List 
     table-there next last rest (a ∷ l) w =
         rw (w .0 .tested, named (enc a), w .0 .spelled, table-there next (id a) rest l (w .1))
 
-pub both : (a b : Bool) → (a && b) ≡ true → (a ≡ true) × (b ≡ true)
-both true b e = (refl, e)
-both false b e = let z : _≡_ {A = ℕ} 0 1 = cc in absurd (omega arith)
-
 -- rows that pass are what their values are written as
 pub spread-back : {A : Type 0} (enc : A → List ℕ) (of : List ℕ → A) (form : List ℕ → Bool) (ok : A → Bool) (size : ℕ)
     → ((r : List ℕ) → Bytes r → length r ≡ size → form r ≡ true → ok (of r) ≡ true → enc (of r) ≡ r)
     → (rows : List (List ℕ)) → Each (Proper size) rows → every (λ r. form r && ok (of r)) rows ≡ true → concatMap enc (map of rows) ≡ concatMap (λ r. r) rows
 spread-back enc of form ok size back [] w h = refl
 spread-back enc of form ok size back (r ∷ rows) w h =
-    let k = both (form r && ok (of r)) _ h in
-    let t = both (form r) _ (k .0) in
+    let k = and-both (form r && ok (of r)) _ h in
+    let t = and-both (form r) _ (k .0) in
     rw (back r (w .0 .are-bytes) (w .0 .long) (t .0) (t .1), spread-back enc of form ok size back rows (w .1) (k .1))
 
 pub spread-append : {A B : Type 0} (f : A → List B) (l m : List A) → concatMap f (l ++ m) ≡ concatMap f l ++ concatMap f m
@@ -142,7 +139,7 @@ module _ {A : Type 0} (of : List ℕ → A) (form plain : List ℕ → Bool) (id
       → listFault (λ r. form r && ok (of r)) (λ r. sound (of r)) rows ≡ listFault ok sound (map of rows)
   list-whole [] h = refl
   list-whole (r ∷ rows) h =
-      let k = both (plain r) _ h in
+      let k = and-both (plain r) _ h in
       rw (kept r (k .0), list-whole rows (k .1))
 
   module _ (named : (r : List ℕ) → rowId r ≡ id (of r)) (next : ℕ) where
@@ -150,7 +147,7 @@ module _ {A : Type 0} (of : List ℕ → A) (form plain : List ℕ → Bool) (id
         → tableFault rowId (λ r. form r && ok (of r)) (λ r. sound (of r)) next last rows rest ≡ tableFault id ok sound next last (map of rows) rest
     table-whole last rest [] h = refl
     table-whole last rest (r ∷ rows) h =
-        let k = both (plain r) _ h in
+        let k = and-both (plain r) _ h in
         rw (kept r (k .0), named r, table-whole (id (of r)) rest rows (k .1))
 
 -- ---- loops that make values of the rows of a table: `seen` gives the values in the slots
@@ -210,8 +207,8 @@ row-part size n s from i h =
 pub every-at : {A : Type 0} (f : A → Bool) (l : List A) (n i : ℕ) (none : A) → every f (take n l) ≡ true → i < n → i < length l → f (getD l i none) ≡ true
 every-at f [] n i none h p q = absurd (omega arith)
 every-at f (a ∷ l) zero i none h p q = absurd (omega arith)
-every-at f (a ∷ l) (suc n) zero none h p q = both (f a) _ h .0
-every-at f (a ∷ l) (suc n) (suc i) none h p q = every-at f l n i none (both (f a) _ h .1) (omega arith) (omega arith)
+every-at f (a ∷ l) (suc n) zero none h p q = and-both (f a) _ h .0
+every-at f (a ∷ l) (suc n) (suc i) none h p q = every-at f l n i none (and-both (f a) _ h .1) (omega arith) (omega arith)
 
 pub every-row : (f : List ℕ → Bool) (rows : List (List ℕ)) (i : ℕ) → every f rows ≡ true → i < length rows → f (getD rows i []) ≡ true
 every-row f rows i h q =

@@ -8,7 +8,7 @@ use lib.Dec.{leb, eqb}
 use lib.Ieee.{Float, toBits, binary64}
 use Rattle.big_endian.specs.Fields.{bytes, over}
 use Rattle.sketch.specs.Lists.{ite, guardNumber, concatMap}
-use Rattle.sketch.specs.Drawing.{Drawing, view, usesOf}
+use Rattle.sketch.specs.Drawing.{Drawing, view, usesOf, idSize}
 use Rattle.sketch.specs.Valid.{sketchFault}
 use Rattle.sketch.specs.declared.Sketch.{Sketch}
 use Rattle.sketch.specs.declared.Point.{Point}
@@ -17,7 +17,6 @@ use Rattle.sketch.specs.declared.CurveKind.{CurveKind}
 use Rattle.sketch.specs.declared.CurveKind.the-variants.{Line, Arc, Circle, Bezier, Conic}
 use Rattle.sketch.specs.declared.Relation.{Relation}
 use Rattle.sketch.specs.declared.Relation.the-variants.{Coincident, PointOnCurve, Collinear, Equal, Length, Distance, Midpoint, ArcLength, ArcSweep}
-use Rattle.image.specs.Records.{idSize}
 use Rattle.image.specs.Image.{version, sizeOf}
 
 abbrev pub bits : Float → ℕ

@@ -6,9 +6,9 @@ use lib.ListN.{length}
 use lib.Dec.{leb, eqb}
 use Rattle.big_endian.specs.Fields.{field, part}
 use Rattle.sketch.specs.Lists.{ite, guardNumber}
-use Rattle.sketch.specs.Drawing.{Drawing, limits}
+use Rattle.sketch.specs.Drawing.{Drawing, limits, idSize}
 use Rattle.sketch.specs.Valid.{okPoint, okCurve, okRelation, soundCurve, soundRelation, hasPoint, sortIn, tableFault, listFault}
-use Rattle.image.specs.Records.{idSize, pointSize, curveSize, relationSize, pointForm, pointOf, curveForm, curveOf, relationForm, relationOf}
+use Rattle.image.specs.Records.{pointSize, curveSize, relationSize, pointForm, pointOf, curveForm, curveOf, relationForm, relationOf}
 
 abbrev pub version : ℕ
 version = 1

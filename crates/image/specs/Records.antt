@@ -13,11 +13,7 @@ use Rattle.sketch.specs.declared.CurveKind.{CurveKind}
 use Rattle.sketch.specs.declared.CurveKind.the-variants.{Line, Arc, Circle, Bezier, Conic}
 use Rattle.sketch.specs.declared.Relation.{Relation}
 use Rattle.sketch.specs.declared.Relation.the-variants.{Coincident, PointOnCurve, Collinear, Equal, Length, Distance, Midpoint, ArcLength, ArcSweep}
-use Rattle.sketch.specs.Drawing.{noSlots}
-
--- how many bytes an id has
-abbrev pub idSize : ℕ
-idSize = 4
+use Rattle.sketch.specs.Drawing.{noSlots, idSize}
 
 -- the number that eight bytes encode as binary64
 abbrev pub floatAt : List ℕ → ℕ → Float

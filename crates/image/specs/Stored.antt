@@ -1,11 +1,11 @@
--- Values that the types of a sketch and a message can hold: ids, edit numbers, binary64 floats, a degree of one byte, eight slots.
+-- Values that the types of a sketch can hold: ids, binary64 floats, a degree of one byte, eight slots.
 use Prim.Native.Nat.{ℕ, _^_, _<_}
 use mathlib.Core.Path.{_≡_}
 use mathlib.Core.List.{List, [], _∷_}
 use lib.ListN.{length}
 use lib.Dec.{T}
 use lib.Ieee.{Float, fits, binary64}
-use Rattle.sketch.specs.Drawing.{Drawing, noSlots}
+use Rattle.sketch.specs.Drawing.{Drawing, noSlots, idSize}
 use Rattle.sketch.specs.Valid.{inSlots}
 use Rattle.sketch.specs.declared.Point.{Point}
 use Rattle.sketch.specs.declared.Curve.{Curve}
@@ -13,9 +13,6 @@ use Rattle.sketch.specs.declared.CurveKind.{CurveKind}
 use Rattle.sketch.specs.declared.CurveKind.the-variants.{Line, Arc, Circle, Bezier, Conic}
 use Rattle.sketch.specs.declared.Relation.{Relation}
 use Rattle.sketch.specs.declared.Relation.the-variants.{Coincident, PointOnCurve, Collinear, Equal, Length, Distance, Midpoint, ArcLength, ArcSweep}
-use Rattle.image.specs.declared.Message.{Message}
-use Rattle.image.specs.Records.{idSize}
-use Rattle.image.specs.Message.{editNumberSize}
 
 abbrev pub Each : {A : Type 0} → (A → Type 0) → List A → Type 0
 Each P [] = Unit {0}
@@ -23,9 +20,6 @@ Each P (a ∷ l) = P a × Each P l
 
 abbrev pub Id : ℕ → Type 0
 Id i = i < 256 ^ idSize
-
-abbrev pub EditNumber : ℕ → Type 0
-EditNumber n = n < 256 ^ editNumberSize
 
 abbrev pub Binary64 : Float → Type 0
 Binary64 x = T (fits binary64 x)
@@ -69,9 +63,3 @@ pub record Stored (d : Drawing) : Type 0 where
   pub points-fit : Each StoredPoint (d .points)
   pub curves-fit : Each StoredCurve (d .curves)
   pub relations-fit : Each StoredRelation (d .relations)
-
-pub record StoredMessage (m : Message) : Type 0 where
-  pub number-fits : EditNumber (m .number)
-  pub curve-fits : Id (m .curve)
-  pub x-fits : m .x < 2 ^ 64
-  pub y-fits : m .y < 2 ^ 64

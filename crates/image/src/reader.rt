@@ -146,7 +146,8 @@ fn decode_sketch(s: &[u8]) -> Sketch
     }
 }
 
-pub(crate) fn refuse(number: u8) -> ImageRead
+// The answer of a refusal: its number and the empty sketch.
+pub fn refuse(number: u8) -> ImageRead
     ensures { λ r. ⌜ (r .refusal ≡ number) × (sketchFault (r .sketch) ≡ 0) × (view (r .sketch) ≡ emptyDrawing) ⌝ }
 {
     let points = no_points();

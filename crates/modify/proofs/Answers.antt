@@ -15,8 +15,8 @@ use Rattle.sketch.specs.Lists.{ite}
 use Rattle.sketch.specs.Drawing.{Drawing, view, limits, curveIn}
 use Rattle.sketch.specs.Valid.{okCoordinate, sketchFault}
 use Rattle.sketch.proofs.Sketches.{sketch-valid, valid-sketch}
-use Rattle.image.specs.declared.Operation.{Operation}
-use Rattle.image.specs.declared.Operation.the-variants.{Trim, Split, Extend}
+use Rattle.message.specs.declared.Operation.{Operation}
+use Rattle.message.specs.declared.Operation.the-variants.{Trim, Split, Extend}
 use Rattle.sketch_geometry.specs.Geometry.{shapeOf}
 use Rattle.relations.specs.Met.{allMet}
 use Rattle.cuts.specs.declared.Cut.{Cut}

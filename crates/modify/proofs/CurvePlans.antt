@@ -13,8 +13,8 @@ use Rattle.sketch.specs.declared.Curve.{Curve}
 use Rattle.sketch.specs.declared.CurveKind.{CurveKind}
 use Rattle.sketch.specs.declared.CurveKind.the-variants.{Line, Arc, Circle, Bezier, Conic}
 use Rattle.sketch.specs.Drawing.{Drawing}
-use Rattle.image.specs.declared.Operation.{Operation}
-use Rattle.image.specs.declared.Operation.the-variants.{Trim, Split, Extend}
+use Rattle.message.specs.declared.Operation.{Operation}
+use Rattle.message.specs.declared.Operation.the-variants.{Trim, Split, Extend}
 use Rattle.sketch_geometry.specs.Geometry.{positionOf, shapeOf}
 use Rattle.cuts.specs.declared.Cutter.{Cutter}
 use Rattle.cuts.specs.Cuts.{cutPoints}

@@ -22,7 +22,7 @@ use Rattle.sketch.specs.Lists.{ite}
 use Rattle.sketch.specs.Lookup.{among}
 use Rattle.sketch.specs.Drawing.{Drawing, Limits, curveIn}
 use Rattle.sketch.proofs.Bools.{never, or-left-false}
-use Rattle.image.specs.declared.Operation.the-variants.{Extend}
+use Rattle.message.specs.declared.Operation.the-variants.{Extend}
 use Rattle.sketch_geometry.specs.Geometry.{positionOf}
 use Rattle.relations.specs.Met.{allMet}
 use Rattle.edit_plan.specs.declared.Pin.{Pin}

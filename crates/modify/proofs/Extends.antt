@@ -23,7 +23,7 @@ use Rattle.sketch.specs.Facts.{Sized, Valid}
 use Rattle.sketch.specs.Valid.{sketchFault}
 use Rattle.sketch.proofs.Bools.{never}
 use Rattle.sketch.proofs.Sketches.{sketch-valid, valid-sketch}
-use Rattle.image.specs.declared.Operation.the-variants.{Extend}
+use Rattle.message.specs.declared.Operation.the-variants.{Extend}
 use Rattle.sketch_geometry.specs.Columns.{PointColumns}
 use Rattle.relations.specs.Met.{met, allMet, failsAt, unmetAt}
 use Rattle.relations.specs.Columns.{CurveColumns}

@@ -8,8 +8,8 @@ use Rattle.geom.specs.declared.Vec2.{Vec2}
 use Rattle.sketch.specs.declared.Curve.{Curve}
 use Rattle.sketch.specs.Drawing.{Drawing, Limits, curveIn}
 use Rattle.sketch.specs.Facts.{Valid}
-use Rattle.image.specs.declared.Operation.{Operation}
-use Rattle.image.specs.declared.Operation.the-variants.{Trim, Split, Extend}
+use Rattle.message.specs.declared.Operation.{Operation}
+use Rattle.message.specs.declared.Operation.the-variants.{Trim, Split, Extend}
 use Rattle.relations.specs.Met.{allMet}
 use Rattle.edit_plan.specs.declared.Plan.{Plan}
 use Rattle.edit_plan.specs.declared.Removed.{Removed}

@@ -15,8 +15,8 @@ use Rattle.sketch.specs.declared.Sketch.{Sketch}
 use Rattle.sketch.specs.Lists.{ite, every}
 use Rattle.sketch.specs.Drawing.{Drawing, view, Limits, limits, curveIn}
 use Rattle.sketch.specs.Valid.{sortOf, sketchFault}
-use Rattle.image.specs.declared.Operation.{Operation}
-use Rattle.image.specs.declared.Operation.the-variants.{Trim, Split, Extend}
+use Rattle.message.specs.declared.Operation.{Operation}
+use Rattle.message.specs.declared.Operation.the-variants.{Trim, Split, Extend}
 use Rattle.sketch_geometry.specs.Geometry.{shapeOf}
 use Rattle.relations.specs.Met.{allMet, unmetAt}
 use Rattle.edit_plan.specs.declared.Plan.{Plan}

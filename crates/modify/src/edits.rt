@@ -7,12 +7,12 @@ use crate::planning::plan_on_curve;
 use edit_plan::Edited;
 use edit_plan::apply_plan;
 use geom::Vec2;
-use image::Operation;
+use message::Operation;
 use sketch::Id;
 use sketch::Sketch;
 use sketch_geometry::fill_point_columns;
 ghost use mathlib.Core.Path.{_≡_};
-ghost use Rattle.image.specs.declared.Operation.the-variants as Operation;
+ghost use Rattle.message.specs.declared.Operation.the-variants as Operation;
 ghost use Rattle.modify.specs.Edits.{EditAnswer};
 ghost use Rattle.modify.specs.Contracts.{isExtend, isSplit};
 

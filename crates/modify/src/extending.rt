@@ -25,7 +25,7 @@ ghost use Prim.Native.Nat.{_≤_, _<_};
 ghost use Rattle.sketch.specs.Drawing.{view, limits};
 ghost use Rattle.sketch.specs.Facts.{Sized, Valid};
 ghost use Rattle.sketch.specs.Valid.{sketchFault};
-ghost use Rattle.image.specs.declared.Operation.the-variants as Operation;
+ghost use Rattle.message.specs.declared.Operation.the-variants as Operation;
 ghost use Rattle.sketch_geometry.specs.Columns.{PointColumns};
 ghost use Rattle.relations.specs.Met.{allMet};
 ghost use Rattle.edit_plan.specs.Tables.{okPosition};

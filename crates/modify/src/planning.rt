@@ -23,7 +23,7 @@ ghost use lib.ListN.{take};
 ghost use Rattle.shape.specs.Measures.{point};
 ghost use Rattle.sketch.specs.Drawing.{view, limits};
 ghost use Rattle.sketch.specs.Facts.{Sized, Valid};
-ghost use Rattle.image.specs.declared.Operation.the-variants as Operation;
+ghost use Rattle.message.specs.declared.Operation.the-variants as Operation;
 ghost use Rattle.sketch_geometry.specs.Columns.{PointColumns};
 ghost use Rattle.cuts.specs.Cuts.{cutPoints};
 ghost use Rattle.cuts.specs.Bracket.{bracket};

@@ -14,7 +14,7 @@ use Rattle.sketch.specs.Drawing.{Drawing, view, limits, curveIn}
 use Rattle.sketch.specs.Valid.{okCoordinate, sketchFault}
 use Rattle.sketch.proofs.Sketches.{sketch-valid}
 use Rattle.image.specs.Encode.{drawingSize}
-use Rattle.image.specs.Message.{encode, MessageWritten, messageSize}
+use Rattle.message.specs.Message.{encode, MessageWritten, messageSize}
 use Rattle.relations.specs.Met.{allMet}
 use Rattle.edit_plan.specs.declared.Removed.{Removed}
 use Rattle.edit_plan.specs.Outcome as O

@@ -19,12 +19,12 @@ use Rattle.image.specs.Image as I
 use Rattle.image.specs.Records.{pointOf, curveOf, relationOf, pointSize, curveSize, relationSize}
 use Rattle.image.specs.Encode as E
 use Rattle.image.specs.Decode.{drawingIn}
-use Rattle.image.specs.declared.Message.{Message}
-use Rattle.image.specs.Message as G
-use Rattle.image.specs.Message.{messageSize, isOperation}
+use Rattle.message.specs.declared.Message.{Message}
+use Rattle.message.specs.Message as G
+use Rattle.message.specs.Message.{messageSize, isOperation}
 use Rattle.image.proofs.Tables.{length-rows}
 use Rattle.image.proofs.RoundTrips.{image-kept, result-accepted, valid}
-use Rattle.image.proofs.MessageRoundTrips.{length-message}
+use Rattle.message.proofs.MessageRoundTrips.{length-message}
 use Rattle.image.proofs.Sizes.{image-size}
 use Rattle.edit_plan.specs.declared.Removed.{Removed}
 use Rattle.edit_plan.specs.Outcome as O
@@ -105,10 +105,10 @@ held-after m b a a′ t q l e f o room v =
 report-after : (a a′ : List ℕ) (t : State Drawing) (q : Removed) → length a ≡ 5 → a′ ≡ answerFor a t q → reportIn a′ ≡ q
 report-after a a′ t q l f = ap reportIn (f ∙ five a t q l)
 
--- an answer whose low 16 bits are not 0 leaves the memory
-memory-kept : (m : Memory) (b a : List ℕ) (r : ℕ) → (r % 65536 ≡ 0 → ⊥) → memoryAfter m b a r ≡ m
-memory-kept m b a zero h = absurd (h refl)
-memory-kept m b a (suc r) h = refl
+-- an answer whose low 16 bits are not 0 leaves the memory, where the call left the buffer
+memory-kept : (m : Memory) (b a : List ℕ) (r : ℕ) → (r % 65536 ≡ 0 → ⊥) → b ≡ m .buffer → memoryAfter m b a r ≡ m
+memory-kept m b a zero h e = absurd (h refl)
+memory-kept m b a (suc r) h e = ap (λ (x : List ℕ). record { buffer = x; size = m .size; count = m .count }) e
 
 -- a new image always fits
 fits-always : (room : ℕ) (t : State Drawing) (q : Removed) → I.maxImageSize ≤ room → Valid limits (t .drawing) → ifImageFits room t q ≡ updated t q
@@ -138,8 +138,9 @@ module _ (m : Memory) (s : State Drawing) (h : HoldsState m s) (u : DeskUse)
     desk-unasked : isOperation (u .operation) ≡ false → HoldsState (afterDesk m u) s
     desk-unasked k =
         let g : outcome ≡ refused 6 = outcome-is ∙ rw k in
-        let n : u .result % 65536 ≡ 6 = subst (λ (v : CallOutcome). CallWritten v (m .buffer) (u .buffer) (u .before) (u .answer) (u .result)) g (w .served) .number in
-        subst (λ (m : Memory). HoldsState m s) (sym (memory-kept m (u .buffer) (u .answer) (u .result) (λ z. omega arith))) h
+        let v : CallWritten (refused 6) (m .buffer) (u .buffer) (u .before) (u .answer) (u .result) = subst (λ (v : CallOutcome). CallWritten v (m .buffer) (u .buffer) (u .before) (u .answer) (u .result)) g (w .served) in
+        let n : u .result % 65536 ≡ 6 = v .number in
+        subst (λ (m : Memory). HoldsState m s) (sym (memory-kept m (u .buffer) (u .answer) (u .result) (λ z. omega arith) (v .image))) h
 
     module _ (k : isOperation (u .operation) ≡ true) where
       asked : outcome ≡ deskOutcome (length (m .buffer)) (callOutcome protocol s call)
@@ -151,7 +152,7 @@ module _ (m : Memory) (s : State Drawing) (h : HoldsState m s) (u : DeskUse)
       by-outcome (O.refused n) c g =
           let v : CallWritten (refused n) (m .buffer) (u .buffer) (u .before) (u .answer) (u .result) = subst (λ (v : CallOutcome). CallWritten v (m .buffer) (u .buffer) (u .before) (u .answer) (u .result)) g (w .served) in
           let z : u .result % 65536 ≡ 0 → ⊥ = λ y. v .sound (sym (v .number) ∙ y) in
-          let same = memory-kept m (u .buffer) (u .answer) (u .result) z in (
+          let same = memory-kept m (u .buffer) (u .answer) (u .result) z (v .image) in (
             ap stateIn same ∙ state-in m s h,
             rw (ne-eqb (u .result % 65536) 0 z) (ap M.deskRefused (v .number)),
             subst (λ (m : Memory). HoldsState m s) (sym same) h,
@@ -210,7 +211,7 @@ module _ (m : Memory) (s : State Drawing) (h : HoldsState m s) (u : WallUse)
     by-case (is-refused k e) =
         let v = served (refused k) (outcome-of ∙ ap (λ (x : State Drawing × M.WallReply Removed). wallOutcome (length (m .buffer)) (x .0) (x .1)) e) in
         let z : u .result % 65536 ≡ 0 → ⊥ = λ y. v .sound (sym (v .number) ∙ y) in
-        let same = memory-kept m (u .buffer) (u .answer) (u .result) z in
+        let same = memory-kept m (u .buffer) (u .answer) (u .result) z (v .image) in
         let at : s ≡ moved .0 = sym (ap (λ (x : State Drawing × M.WallReply Removed). x .0) e) in (
           ap stateIn same ∙ state-in m s h ∙ at,
           rw (ne-eqb (u .result % 65536) 0 z) (ap M.wallRefused (v .number) ∙ sym (ap (λ (x : State Drawing × M.WallReply Removed). x .1) e)),

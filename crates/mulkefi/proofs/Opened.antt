@@ -12,10 +12,10 @@ use borrow.Author.Tests.{leb-false}
 use Rattle.sketch.specs.Lists.{ite}
 use Rattle.sketch.specs.Drawing.{Drawing, view}
 use Rattle.image.specs.declared.ImageRead.{ImageRead}
-use Rattle.image.specs.declared.Operation.{Operation}
+use Rattle.message.specs.declared.Operation.{Operation}
 use Rattle.image.specs.Image as I
 use Rattle.image.specs.Decode.{outcome, ReadAnswer}
-use Rattle.image.specs.Message.{operationOf, isOperation}
+use Rattle.message.specs.Message.{operationOf, isOperation}
 use Rattle.replication.specs.declared.Replica.{Replica}
 use Rattle.replication.specs.Protocol.{Edit}
 use Rattle.replication.specs.Transitions.{stateOf, UnmetPlace}

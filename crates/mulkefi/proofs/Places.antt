@@ -10,7 +10,7 @@ use Rattle.geom.specs.declared.Vec2.{Vec2}
 use Rattle.sketch.specs.declared.Curve.{Curve}
 use Rattle.sketch.specs.Drawing.{Drawing, limits, curveIn}
 use Rattle.sketch.specs.Facts.{Valid}
-use Rattle.image.specs.declared.Operation.the-variants.{Extend}
+use Rattle.message.specs.declared.Operation.the-variants.{Extend}
 use Rattle.relations.specs.Met.{failsAt, unmetAt, met}
 use Rattle.edit_plan.specs.declared.Plan.{Plan}
 use Rattle.edit_plan.specs.declared.Removed.{Removed}

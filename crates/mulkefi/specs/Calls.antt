@@ -6,11 +6,11 @@ use lib.ListN.{length, take, set}
 use lib.Ieee.{Float}
 use Rattle.big_endian.specs.Fields.{over}
 use Rattle.sketch.specs.Drawing.{Drawing, view}
-use Rattle.image.specs.declared.Operation.{Operation}
+use Rattle.message.specs.declared.Operation.{Operation}
 use Rattle.image.specs.Image as I
 use Rattle.image.specs.Encode as E
-use Rattle.image.specs.Message as M
-use Rattle.image.specs.Message.{operationOf}
+use Rattle.message.specs.Message as M
+use Rattle.message.specs.Message.{operationOf}
 use Rattle.edit_plan.specs.declared.Removed.{Removed}
 use Rattle.edit_plan.specs.Steps.{nothing}
 use Rattle.modify.specs.Edits.{NoPlace}

@@ -9,7 +9,7 @@ use Rattle.sketch.specs.Lists.{ite}
 use Rattle.sketch.specs.Drawing.{Drawing}
 use Rattle.image.specs.Image as I
 use Rattle.image.specs.Decode.{drawingIn}
-use Rattle.image.specs.Message.{messageSize, isOperation}
+use Rattle.message.specs.Message.{messageSize, isOperation}
 use Rattle.edit_plan.specs.declared.Removed.{Removed}
 use Rattle.agreement.specs.Machines as M
 use Rattle.agreement.specs.Machines.{State, DeskStep, WallStep}
@@ -32,10 +32,10 @@ pub record StartsWith (image : List ℕ) (m : Memory) : Type 0 where
   pub room : I.maxImageSize ≤ length (m .buffer)
   pub zero-count : m .count ≡ 0
 
--- after a call that answers 0 a host takes over the new size and count; after any other it keeps what it had
+-- the memory as a call leaves it: a host takes over the size and count of an answer 0, and keeps them after any other
 abbrev pub memoryAfter : Memory → List ℕ → List ℕ → ℕ → Memory
 memoryAfter m buffer answer zero = record { buffer = buffer; size = getD answer 1 0; count = getD answer 0 0 }
-memoryAfter m buffer answer (suc r) = m
+memoryAfter m buffer answer (suc r) = record { buffer = buffer; size = m .size; count = m .count }
 
 -- the report in an answer
 abbrev pub reportIn : List ℕ → Removed

@@ -7,7 +7,7 @@ use Rattle.sketch.specs.Lists.{ite}
 use Rattle.sketch.specs.Drawing.{Drawing}
 use Rattle.image.specs.Image as I
 use Rattle.image.specs.Encode.{drawingSize}
-use Rattle.image.specs.Message.{isOperation}
+use Rattle.message.specs.Message.{isOperation}
 use Rattle.edit_plan.specs.declared.Removed.{Removed}
 use Rattle.edit_plan.specs.Outcome as O
 use Rattle.agreement.specs.Machines as M

@@ -3,10 +3,10 @@ use crate::AnswerField;
 use crate::buffers::min;
 use crate::buffers::refusal;
 use crate::buffers::write_result;
-use image::EditNumber;
-use image::MESSAGE_SIZE;
-use image::Message;
-use image::Operation;
+use message::EditNumber;
+use message::MESSAGE_SIZE;
+use message::Message;
+use message::Operation;
 use replication::DeskReply;
 use replication::Replica;
 use sketch::Id;
@@ -48,7 +48,7 @@ fn edit_replica(
                 x: f64::to_bits(x),
                 y: f64::to_bits(y),
             };
-            image::write_message(sent, message);
+            message::write_message(sent, message);
             0
         }
     }
@@ -76,14 +76,14 @@ pub extern "C" fn mulkefi_desk_edit(
     if read.refusal != 0 {
         return refusal(read.refusal, 0);
     }
-    if !image::is_operation(operation) {
+    if !message::is_operation(operation) {
         return 6;
     }
     let sketch = read.sketch;
     let replica = Replica { sketch, count };
     edit_replica(
         replica,
-        image::operation_of(operation),
+        message::operation_of(operation),
         curve,
         x,
         y,

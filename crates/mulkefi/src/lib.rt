@@ -7,7 +7,7 @@ mod wall;
 ghost use mathlib.Core.Path.{_≡_};
 ghost use Prim.Native.Nat.{_+_, _*_};
 ghost use Rattle.image.specs.Image as I;
-ghost use Rattle.image.specs.Message as M;
+ghost use Rattle.message.specs.Message as M;
 
 // A field of an answer: it holds a count of edits, a size in bytes or an id.
 pub(crate) type AnswerField = u32;
@@ -17,8 +17,7 @@ pub(crate) type AnswerField = u32;
 pub extern "C" fn mulkefi_versions() -> u32
     ensures { λ r. ⌜ r ≡ I.version * 256 + M.version ⌝ }
 {
-    let v = image::versions();
-    v.image as u32 * 256 + v.message as u32
+    image::IMAGE_VERSION as u32 * 256 + message::MESSAGE_VERSION as u32
 }
 
 // The number that an image is refused by, or 0.

@@ -5,7 +5,7 @@ use crate::buffers::refusal;
 use crate::buffers::write_answer;
 use crate::buffers::write_result;
 use edit_plan::Removed;
-use image::EditNumber;
+use message::EditNumber;
 use replication::Replica;
 use replication::WallReply;
 ghost use mathlib.Core.Path.{_≡_};

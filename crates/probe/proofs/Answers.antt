@@ -17,12 +17,12 @@ use Rattle.image.specs.Image.{imageFault, drawingOf, resultOf, parse, accepted}
 use Rattle.image.specs.Decode.{outcome, ReadAnswer}
 use Rattle.image.specs.Encode.{encode, drawingSize, ImageWritten}
 use Rattle.image.proofs.RoundTrips.{image-kept, encode-back, size-back}
-use Rattle.image.specs.declared.Message.{Message}
-use Rattle.image.specs.declared.MessageRead.the-variants.{Accepted, Refused}
-use Rattle.image.specs.Message as M
-use Rattle.image.specs.Message.{messageFault, messageOf}
-use Rattle.image.proofs.MessageRoundTrips as T
-use Rattle.image.proofs.MessageRoundTrips.{result-accepted, message-kept}
+use Rattle.message.specs.declared.Message.{Message}
+use Rattle.message.specs.declared.MessageRead.the-variants.{Accepted, Refused}
+use Rattle.message.specs.Message as M
+use Rattle.message.specs.Message.{messageFault, messageOf}
+use Rattle.message.proofs.MessageRoundTrips as T
+use Rattle.message.proofs.MessageRoundTrips.{result-accepted, message-kept}
 use Rattle.probe.specs.Probe.{Copied}
 
 -- an answer's number is the parse result's

@@ -15,9 +15,9 @@ use Rattle.sketch.specs.Valid.{sketchFault}
 use Rattle.sketch.proofs.Sketches.{sketch-valid}
 use Rattle.image.specs.Image.{imageFault, drawingOf}
 use Rattle.image.specs.Encode.{drawingSize}
-use Rattle.image.specs.Message.{operationOf, isOperation}
-use Rattle.image.specs.declared.Operation.{Operation}
-use Rattle.image.specs.declared.Operation.the-variants.{Extend}
+use Rattle.message.specs.Message.{operationOf, isOperation}
+use Rattle.message.specs.declared.Operation.{Operation}
+use Rattle.message.specs.declared.Operation.the-variants.{Extend}
 use Rattle.relations.specs.Met.{unmetAt}
 use Rattle.edit_plan.specs.declared.Edited.{Edited}
 use Rattle.edit_plan.specs.Outcome.{refused, accepted, guard}

@@ -8,8 +8,8 @@ use lib.Seq.{take-all}
 use lib.Ieee.{Float}
 use Rattle.sketch.specs.Drawing.{Drawing}
 use Rattle.image.specs.Image.{drawingOf}
-use Rattle.image.specs.Message.{operationOf}
-use Rattle.image.specs.declared.Operation.{Operation}
+use Rattle.message.specs.Message.{operationOf}
+use Rattle.message.specs.declared.Operation.{Operation}
 use Rattle.edit_plan.specs.declared.Removed.{Removed}
 use Rattle.edit_plan.specs.Outcome.{Outcome, refused, accepted}
 use Rattle.agreement.specs.Machines as M

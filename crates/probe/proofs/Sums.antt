@@ -8,7 +8,7 @@ use native.Mathlib.Omega.{arith}
 use borrow.Author.Tests.{eq-eqb, ne-eqb}
 use Rattle.sketch.specs.Lists.{guardNumber}
 use Rattle.image.specs.Image.{imageFault}
-use Rattle.image.specs.Message.{isOperation}
+use Rattle.message.specs.Message.{isOperation}
 use Rattle.probe.specs.Edits.{ofImage, repeated}
 
 pub none-yet : (k : ℕ) → 0 ≡ repeated 0 k

@@ -11,8 +11,8 @@ use Rattle.sketch.specs.Lists.{guardNumber}
 use Rattle.sketch.specs.Drawing.{Drawing, limits}
 use Rattle.image.specs.Image.{imageFault, drawingOf}
 use Rattle.image.specs.Encode.{encode, drawingSize}
-use Rattle.image.specs.Message.{operationOf, isOperation}
-use Rattle.image.specs.declared.Operation.the-variants.{Extend}
+use Rattle.message.specs.Message.{operationOf, isOperation}
+use Rattle.message.specs.declared.Operation.the-variants.{Extend}
 use Rattle.relations.specs.Met.{unmetAt}
 use Rattle.edit_plan.specs.declared.Removed.{Removed}
 use Rattle.edit_plan.specs.Outcome.{Outcome, refused, accepted, _then_, guard}

@@ -10,7 +10,7 @@ use Rattle.sketch.specs.Drawing.{view}
 use Rattle.sketch.specs.Valid.{sketchFault}
 use Rattle.sketch.specs.declared.Sketch.{Sketch}
 use Rattle.image.specs.Image.{imageFault, drawingOf}
-use Rattle.image.specs.Message.{messageFault}
+use Rattle.message.specs.Message.{messageFault}
 
 -- the bytes' own refusal, then a buffer that is too short for them
 abbrev pub copyFault : ℕ → List ℕ → ℕ → ℕ

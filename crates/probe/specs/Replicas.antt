@@ -5,8 +5,8 @@ use lib.Ieee.{Float}
 use Rattle.sketch.specs.Lists.{guardNumber}
 use Rattle.sketch.specs.Drawing.{Drawing}
 use Rattle.image.specs.Image.{drawingOf}
-use Rattle.image.specs.Message.{operationOf, messageSize, isOperation}
-use Rattle.image.specs.declared.Operation.{Operation}
+use Rattle.message.specs.Message.{operationOf, messageSize, isOperation}
+use Rattle.message.specs.declared.Operation.{Operation}
 use Rattle.edit_plan.specs.declared.Removed.{Removed}
 use Rattle.edit_plan.specs.Outcome.{Outcome, refused, accepted}
 use Rattle.agreement.specs.Machines.{State, WallReply, wallRefused, wallOld, wallApplied, callOutcome, wallTransition}

@@ -2,9 +2,9 @@
 use big_endian::put4;
 use edit_plan::Removed;
 use geom::Vec2;
-use image::Operation;
-use image::is_operation;
-use image::operation_of;
+use message::Operation;
+use message::is_operation;
+use message::operation_of;
 use sketch::Id;
 use sketch::Sketch;
 ghost use mathlib.Core.Path.{_≡_};
@@ -34,7 +34,7 @@ fn write_edited(sk: Sketch, removed: Removed, out: &mut [u8]) -> u32
     if out.len() < REPORT {
         return 25;
     }
-    let number = image::write(sk, &mut out[REPORT..]);
+    let number = image_writer::write(sk, &mut out[REPORT..]);
     if number != 0 {
         return number as u32;
     }

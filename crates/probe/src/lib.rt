@@ -6,12 +6,12 @@ mod replicas;
 mod shapes;
 mod verdicts;
 
-use image::MessageRead;
+use message::MessageRead;
 use sketch::Id;
 ghost use mathlib.Core.Path.{_≡_};
 ghost use Prim.Native.Nat.{_+_, _*_};
 ghost use Rattle.image.specs.Image as I;
-ghost use Rattle.image.specs.Message as M;
+ghost use Rattle.message.specs.Message as M;
 ghost use Rattle.probe.specs.Probe.{ImageCopied, MessageCopied, SketchTested};
 
 // The image's version, times 256, and the message's.
@@ -19,8 +19,7 @@ ghost use Rattle.probe.specs.Probe.{ImageCopied, MessageCopied, SketchTe
 pub extern "C" fn mulkefi_versions() -> u32
     ensures { λ r. ⌜ r ≡ I.version * 256 + M.version ⌝ }
 {
-    let v = image::versions();
-    v.image as u32 * 256 + v.message as u32
+    image::IMAGE_VERSION as u32 * 256 + message::MESSAGE_VERSION as u32
 }
 
 // The number that an image is refused by, or 0.
@@ -42,7 +41,7 @@ pub extern "C" fn mulkefi_image_copy(bytes: &[u8], out: &mut [u8]) -> u32
         return r.refusal as u32;
     }
     let sk = r.sketch;
-    image::write(sk, out) as u32
+    image_writer::write(sk, out) as u32
 }
 
 // Reads a message and writes it again.
@@ -50,9 +49,9 @@ pub extern "C" fn mulkefi_image_copy(bytes: &[u8], out: &mut [u8]) -> u32
 pub extern "C" fn mulkefi_message_copy(bytes: &[u8], out: &mut [u8]) -> u32
     ensures { λ r. ⌜ MessageCopied (now (bytes .entry)) (now (out .entry)) (now (out .exit)) r ⌝ }
 {
-    match image::read_message(bytes) {
+    match message::read_message(bytes) {
         MessageRead::Refused(number) => number as u32,
-        MessageRead::Accepted(m) => image::write_message(m, out) as u32,
+        MessageRead::Accepted(m) => message::write_message(m, out) as u32,
     }
 }
 

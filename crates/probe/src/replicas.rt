@@ -1,9 +1,9 @@
 // Desk and wall: the wall's program as one call, and a desk's edit and a delivery many times over for timing.
-use image::EditNumber;
-use image::MESSAGE_SIZE;
-use image::Operation;
-use image::is_operation;
-use image::operation_of;
+use message::EditNumber;
+use message::MESSAGE_SIZE;
+use message::Operation;
+use message::is_operation;
+use message::operation_of;
 use replication::DeskReply;
 use replication::Replica;
 use replication::WallReply;

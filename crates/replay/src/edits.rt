@@ -40,7 +40,7 @@ fn reports(removed: Removed, bytes: &[u8]) -> bool {
 fn write_front(sk: Sketch, buf: &mut [u8], lent: usize) -> u8
     requires { ⌜ lent ≤ length (now buf) ⌝ }
 {
-    image::write(sk, &mut buf[..lent])
+    image_writer::write(sk, &mut buf[..lent])
 }
 
 // Whether an accepted edit writes some bytes into the room that is lent for them, or finds it too short.
@@ -94,12 +94,12 @@ pub(crate) fn alike(outcome: u8, input: &[u8]) -> bool {
         return (outcome == read.refusal) & (written == 0);
     }
     let operation = get4(input, 2);
-    if !image::is_operation(operation) {
+    if !message::is_operation(operation) {
         return (outcome == 6) & (written == 0);
     }
     let sk = read.sketch;
     let e = modify::edit(
-        image::operation_of(operation),
+        message::operation_of(operation),
         sk,
         get4(input, 6),
         pick(input),

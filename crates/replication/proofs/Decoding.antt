@@ -10,8 +10,8 @@ use lib.Ieee.Bits.{ofBits-toBits, toBits-lt}
 use Rattle.sketch.specs.Lists.{guardNumber}
 use Rattle.sketch.specs.Drawing.{Drawing, limits}
 use Rattle.sketch.specs.Facts.{Valid}
-use Rattle.image.specs.Message.{encode, resultOf}
-use Rattle.image.proofs.MessageRoundTrips.{parse-encode}
+use Rattle.message.specs.Message.{encode, resultOf}
+use Rattle.message.proofs.MessageRoundTrips.{parse-encode}
 use Rattle.image.specs.Stored.{Id}
 use Rattle.relations.specs.Met.{allMet}
 use Rattle.edit_plan.specs.declared.Removed.{Removed}

@@ -10,8 +10,8 @@ use borrow.Author.Tests.{le-leb, lt-leb, lt-ltb, le-ltb}
 use Rattle.big_endian.specs.Fields.{over}
 use Rattle.sketch.specs.Lists.{guardNumber}
 use Rattle.sketch.specs.Valid.{sketchFault}
-use Rattle.image.specs.Message.{encode, MessageWritten, messageSize}
-use Rattle.image.proofs.MessageRoundTrips.{length-message}
+use Rattle.message.specs.Message.{encode, MessageWritten, messageSize}
+use Rattle.message.proofs.MessageRoundTrips.{length-message}
 use Rattle.edit_plan.specs.declared.Edited.{Edited}
 use Rattle.edit_plan.specs.Outcome.{refused, guard}
 use Rattle.edit_plan.specs.Suited.{outcomeOf}

@@ -17,7 +17,7 @@ use Rattle.sketch.proofs.Sketches.{sketch-valid}
 use Rattle.image.specs.Image as I
 use Rattle.image.specs.Encode.{encode, drawingSize, ImageWritten}
 use Rattle.image.specs.Image.{headerSize}
-use Rattle.image.specs.Message.{messageSize}
+use Rattle.message.specs.Message.{messageSize}
 use Rattle.image.specs.Records.{curveSize, pointSize, relationSize}
 use Rattle.agreement.specs.Machines.{State, initial}
 use Rattle.replication.specs.declared.Replica.{Replica}

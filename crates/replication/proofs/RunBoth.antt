@@ -12,7 +12,7 @@ use Rattle.sketch.specs.Drawing.{Drawing, view}
 use Rattle.sketch.proofs.Sketches.{sketch-valid}
 use Rattle.image.specs.Image as I
 use Rattle.image.specs.Decode.{drawingIn}
-use Rattle.image.specs.Message.{messageSize}
+use Rattle.message.specs.Message.{messageSize}
 use Rattle.agreement.specs.Machines.{State, initial, messages, WallRun, wallAfter}
 use Rattle.replication.specs.declared.Replica.{Replica}
 use Rattle.replication.specs.declared.Started.{Started}

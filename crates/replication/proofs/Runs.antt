@@ -15,8 +15,8 @@ use Rattle.big_endian.specs.Laws.{length-over}
 use Rattle.sketch.specs.Lists.{ite, concatMap}
 use Rattle.sketch.specs.Drawing.{Drawing, view}
 use Rattle.sketch.specs.Valid.{sketchFault}
-use Rattle.image.specs.Message.{encode, messageSize}
-use Rattle.image.proofs.MessageRoundTrips.{length-message}
+use Rattle.message.specs.Message.{encode, messageSize}
+use Rattle.message.proofs.MessageRoundTrips.{length-message}
 use Rattle.cuts.specs.Columns.{rows}
 use Rattle.cuts.proofs.Rows.{rows-length}
 use Rattle.edit_plan.specs.declared.Removed.{Removed}

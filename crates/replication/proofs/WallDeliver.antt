@@ -9,10 +9,10 @@ use borrow.Author.Tests.{le-leb, lt-leb, eq-eqb, ne-eqb}
 use Rattle.sketch.specs.Lists.{guardNumber}
 use Rattle.sketch.specs.Drawing.{Drawing, view}
 use Rattle.sketch.specs.Valid.{sketchFault}
-use Rattle.image.specs.declared.Message.{Message}
-use Rattle.image.specs.declared.MessageRead.the-variants.{Accepted, Refused}
-use Rattle.image.specs.Message.{messageFault, messageOf, parse}
-use Rattle.image.proofs.MessageRoundTrips.{result-refused}
+use Rattle.message.specs.declared.Message.{Message}
+use Rattle.message.specs.declared.MessageRead.the-variants.{Accepted, Refused}
+use Rattle.message.specs.Message.{messageFault, messageOf, parse}
+use Rattle.message.proofs.MessageRoundTrips.{result-refused}
 use Rattle.edit_plan.specs.declared.Edited.{Edited}
 use Rattle.edit_plan.specs.declared.Removed.{Removed}
 use Rattle.edit_plan.specs.Outcome.{Outcome, refused}

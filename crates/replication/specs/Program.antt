@@ -10,7 +10,7 @@ use Rattle.sketch.specs.Drawing.{Drawing}
 use Rattle.sketch.specs.Valid.{sketchFault}
 use Rattle.image.specs.Image as I
 use Rattle.image.specs.Encode.{encode, drawingSize}
-use Rattle.image.specs.Message.{messageSize}
+use Rattle.message.specs.Message.{messageSize}
 use Rattle.agreement.specs.Machines.{State, initial, wallTransition}
 use Rattle.replication.specs.declared.Replica.{Replica}
 use Rattle.replication.specs.Protocol.{protocol}

@@ -4,11 +4,11 @@ use mathlib.Core.Bool.{Bool, _&&_}
 use lib.Ieee.{ofBits, toBits, fits, binary64}
 use Rattle.geom.specs.declared.Vec2.{Vec2}
 use Rattle.sketch.specs.Drawing.{Drawing, limits}
-use Rattle.image.specs.declared.Operation.{Operation}
-use Rattle.image.specs.declared.Message.{Message}
-use Rattle.image.specs.declared.MessageRead.{MessageRead}
-use Rattle.image.specs.declared.MessageRead.the-variants.{Accepted, Refused}
-use Rattle.image.specs.Message.{messageSize, parse, encode}
+use Rattle.message.specs.declared.Operation.{Operation}
+use Rattle.message.specs.declared.Message.{Message}
+use Rattle.message.specs.declared.MessageRead.{MessageRead}
+use Rattle.message.specs.declared.MessageRead.the-variants.{Accepted, Refused}
+use Rattle.message.specs.Message.{messageSize, parse, encode}
 use Rattle.edit_plan.specs.declared.Removed.{Removed}
 use Rattle.edit_plan.specs.Outcome.{Outcome, guard}
 use Rattle.modify.specs.Edits.{editOf}

@@ -8,12 +8,11 @@ use lib.Dec.{leb, ltb}
 use lib.Ieee.{ofBits, binary64}
 use Rattle.big_endian.specs.Fields.{field, over}
 use Rattle.sketch.specs.Lists.{ite, concatMap, guardNumber}
-use Rattle.sketch.specs.Drawing.{Drawing}
+use Rattle.sketch.specs.Drawing.{Drawing, idSize}
 use Rattle.sketch.specs.Valid.{sketchFault}
-use Rattle.image.specs.Message.{operationOf, messageSize}
+use Rattle.message.specs.Message.{operationOf, messageSize}
 use Rattle.image.specs.Image as I
 use Rattle.image.specs.Decode.{drawingIn}
-use Rattle.image.specs.Records.{idSize}
 use Rattle.cuts.specs.Columns.{rows}
 use Rattle.edit_plan.specs.declared.Removed.{Removed}
 use Rattle.agreement.specs.Machines.{initial, Call, DeskStep, calls, deskAfter, messages, DeskRun, WallStep, wallAfter, WallRun}

@@ -11,11 +11,11 @@ use Rattle.sketch.specs.Lists.{guardNumber}
 use Rattle.sketch.specs.declared.Sketch.{Sketch}
 use Rattle.sketch.specs.Drawing.{Drawing, view, limits}
 use Rattle.sketch.specs.Valid.{sketchFault}
-use Rattle.image.specs.declared.Operation.{Operation}
-use Rattle.image.specs.declared.Operation.the-variants.{Extend}
-use Rattle.image.specs.declared.Message.{Message}
-use Rattle.image.specs.declared.MessageRead.the-variants.{Accepted}
-use Rattle.image.specs.Message.{parse, encode, messageSize}
+use Rattle.message.specs.declared.Operation.{Operation}
+use Rattle.message.specs.declared.Operation.the-variants.{Extend}
+use Rattle.message.specs.declared.Message.{Message}
+use Rattle.message.specs.declared.MessageRead.the-variants.{Accepted}
+use Rattle.message.specs.Message.{parse, encode, messageSize}
 use Rattle.image.specs.Image as I
 use Rattle.image.specs.Decode.{drawingIn}
 use Rattle.relations.specs.Met.{unmetAt}

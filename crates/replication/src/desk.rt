@@ -4,10 +4,10 @@ use crate::DeskTransition;
 use crate::Replica;
 use crate::refusals::first_fault;
 use geom::Vec2;
-use image::MAX_EDIT_NUMBER;
-use image::MESSAGE_SIZE;
-use image::Message;
-use image::Operation;
+use message::MAX_EDIT_NUMBER;
+use message::MESSAGE_SIZE;
+use message::Message;
+use message::Operation;
 use sketch::Id;
 ghost use Rattle.replication.specs.Transitions.{DeskEdits, deskCall};
 
@@ -51,7 +51,7 @@ pub fn desk_edit(
         x: f64::to_bits(x),
         y: f64::to_bits(y),
     };
-    image::write_message(message, out);
+    message::write_message(message, out);
     let sketch = e.sketch;
     let removed = e.removed;
     let after = Replica {

@@ -9,7 +9,7 @@ mod wall_program;
 
 pub use desk::desk_edit;
 use edit_plan::Removed;
-use image::EditNumber;
+use message::EditNumber;
 pub use run_lists::run_both;
 use sketch::Sketch;
 pub use starting::start;

@@ -9,9 +9,9 @@ use crate::wall::wall_deliver;
 use big_endian::get1;
 use big_endian::get4;
 use big_endian::get8;
-use image::ID_SIZE;
-use image::MESSAGE_SIZE;
-use image::operation_of;
+use message::MESSAGE_SIZE;
+use message::operation_of;
+use sketch::ID_SIZE;
 ghost use mathlib.Core.Path.{_≡_};
 ghost use Prim.Native.Nat.{_+_, _*_, _/_, _≤_};
 ghost use lib.ListN.{length};
@@ -20,7 +20,7 @@ ghost use Rattle.sketch.specs.Drawing.{view};
 ghost use Rattle.sketch.specs.Valid.{sketchFault};
 ghost use Rattle.replication.specs.Transitions.{DeskEdits};
 ghost use Rattle.replication.specs.RunBoth.{editAt, callsIn, hasRoom, DeskRan, messagesInLog, WallRan, RunsBoth, callSize, maxRoom};
-ghost use Rattle.image.specs.Message.{messageSize};
+ghost use Rattle.message.specs.Message.{messageSize};
 
 // Where the parts of a call stand in the desk's list: operation, curve, the pick's x and y, the room, which is one byte.
 const CURVE_AT: usize = 1;

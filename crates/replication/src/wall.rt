@@ -4,8 +4,8 @@ use crate::WallReply;
 use crate::WallTransition;
 use crate::refusals::first_fault;
 use geom::Vec2;
-use image::Message;
-use image::MessageRead;
+use message::Message;
+use message::MessageRead;
 ghost use mathlib.Core.Path.{_≡_};
 ghost use mathlib.Core.Bool.{not};
 ghost use lib.Ieee.{binary64, nanBits};
@@ -78,7 +78,7 @@ pub fn wall_deliver(replica: Replica, bytes: &[u8]) -> WallTransition
     ensures { λ r. ⌜ WallDelivers replica (wallCall (now (bytes .entry)) r) ⌝ }
 {
     let sk = replica.sketch;
-    match image::read_message(bytes) {
+    match message::read_message(bytes) {
         MessageRead::Refused(number) => {
             let reply = WallReply::Refused(first_fault(sk, number), 0);
             WallTransition { replica, reply }

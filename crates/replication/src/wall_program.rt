@@ -5,9 +5,9 @@ use crate::wall::wall_deliver;
 use big_endian::get4;
 use image::CURVE_SIZE;
 use image::HEADER_SIZE;
-use image::MESSAGE_SIZE;
 use image::POINT_SIZE;
 use image::RELATION_SIZE;
+use message::MESSAGE_SIZE;
 use sketch::Sketch;
 ghost use mathlib.Core.Path.{_≡_};
 ghost use Prim.Native.Nat.{_≤_};
@@ -60,7 +60,7 @@ fn write_sketch(sk: Sketch, out: &mut [u8]) -> usize
     requires { ⌜ sketchFault sk ≡ 0 ⌝ }
     ensures { λ r. ⌜ WritesOutcome (accepted (view sk)) (now (out .entry)) (now (out .exit)) r ⌝ }
 {
-    if image::write(sk, out) != 0 {
+    if image_writer::write(sk, out) != 0 {
         return 0;
     }
     let np = sk.npoints;

@@ -28,6 +28,9 @@ unfolding guardNumber
 rule-none true n rest p h = (refl, h)
 rule-none false n rest p h = absurd (omega arith)
 
+pub rule-kept : (b : Bool) (n rest : ℕ) → guardNumber b (suc n) rest ≡ 0 → (b ≡ true) × (rest ≡ 0)
+rule-kept b n rest e = rule-none b (suc n) rest (omega arith) e
+
 pub none-rule : (b : Bool) (n rest : ℕ) → b ≡ true → rest ≡ 0 → guardNumber b n rest ≡ 0
 unfolding guardNumber
 none-rule true n rest h k = k

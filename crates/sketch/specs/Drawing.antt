@@ -34,6 +34,10 @@ view s =
 abbrev pub noSlots : List ℕ
 noSlots = 0 ∷ 0 ∷ 0 ∷ 0 ∷ 0 ∷ 0 ∷ 0 ∷ 0 ∷ []
 
+-- how many bytes an id has in images and messages
+abbrev pub idSize : ℕ
+idSize = 4
+
 -- how many entries each table may hold, and the largest next id
 pub record Limits : Type 0 where
   pub points : ℕ

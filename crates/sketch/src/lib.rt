@@ -17,6 +17,9 @@ pub use values::rho_ok;
 // Ids of points and curves.
 pub type Id = u32;
 
+// Its size in bytes, in images and messages.
+pub const ID_SIZE: usize = 4;
+
 // The largest next id: ids are below it.
 pub const MAX_NEXT_ID: Id = 4294967295;
 

@@ -7,7 +7,7 @@ use Rattle.probe.proofs.mulkefi_image_copy.Tie as tie
 use Rattle.probe.proofs.mulkefi_image_copy.Reads as reads
 use Rattle.probe.proofs.mulkefi_image_copy.Lts as lts
 use Rattle.image.proofs.read.Reads as read-reads
-use Rattle.image.proofs.write.Reads as write-reads
+use Rattle.image_writer.proofs.write.Reads as write-reads
 
 read-requires : tie.Need-read-requires
 read-requires c κs = search needs

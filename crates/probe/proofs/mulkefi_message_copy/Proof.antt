@@ -1,4 +1,4 @@
-use Rattle.image.proofs.MessageRoundTrips.{result-refused}
+use Rattle.message.proofs.MessageRoundTrips.{result-refused}
 use Rattle.probe.proofs.Answers.{read-number, not-copied, image-copied, message-copied}
 use mathlib.Core.Path.{_≡_, refl, sym, ap, _∙_}
 use native.Mathlib.Omega.{arith}
@@ -7,8 +7,8 @@ use Rattle.probe.proofs.mulkefi_message_copy.Statement.{statement}
 use Rattle.probe.proofs.mulkefi_message_copy.Tie as tie
 use Rattle.probe.proofs.mulkefi_message_copy.Reads as reads
 use Rattle.probe.proofs.mulkefi_message_copy.Lts as lts
-use Rattle.image.proofs.read_message.Reads as read-message-reads
-use Rattle.image.proofs.write_message.Reads as write-message-reads
+use Rattle.message.proofs.read_message.Reads as read-message-reads
+use Rattle.message.proofs.write_message.Reads as write-message-reads
 
 read-message-requires : tie.Need-read-message-requires
 read-message-requires c κs = search needs

@@ -2,7 +2,7 @@ use mathlib.Core.Path.{sym, ap, _∙_, subst}
 use mathlib.Core.Bool.{cond}
 use Prim.Native.Nat.{_≤_}
 use lib.ListN.{length-take}
-use Rattle.image.specs.declared.Operation.the-variants.{Trim, Split, Extend}
+use Rattle.message.specs.declared.Operation.the-variants.{Trim, Split, Extend}
 use Rattle.sketch.specs.Drawing.{view, pointIds}
 use Rattle.sketch.proofs.Facts.{rising-ascends}
 use Rattle.sketch.proofs.Sketches.{sketch-valid}

@@ -5,7 +5,7 @@ use Rattle.edit_plan.specs.Outcome.{Outcome}
 use Rattle.agreement.specs.Machines.{State, callOutcome}
 use Rattle.replication.specs.Protocol.{Edit, protocol}
 use Rattle.replication.specs.Transitions.{stateOf}
-use Rattle.image.specs.Message.{messageSize}
+use Rattle.message.specs.Message.{messageSize}
 use Rattle.probe.proofs.ReplicaSums.{desk-refused, desk-done}
 use Rattle.probe.proofs.replicas.desk_adds.Statement.{statement}
 use Rattle.probe.proofs.replicas.desk_adds.Tie as tie

@@ -7,7 +7,7 @@ use Rattle.replication.proofs.desk.desk_edit.Reads as reads
 use Rattle.replication.proofs.desk.desk_edit.Lts as lts
 use Rattle.modify.proofs.edit.Reads as edit-reads
 use Rattle.replication.proofs.refusals.first_fault.Reads as first-fault-reads
-use Rattle.image.proofs.write_message.Reads as write-message-reads
+use Rattle.message.proofs.write_message.Reads as write-message-reads
 
 first-fault-requires : tie.Need-first-fault-requires
 first-fault-requires c κs = search needs

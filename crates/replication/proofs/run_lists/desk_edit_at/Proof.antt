@@ -1,5 +1,5 @@
 use Rattle.replication.proofs.Runs.{same-edit}
-use Rattle.image.specs.Message.{operationOf}
+use Rattle.message.specs.Message.{operationOf}
 use lib.Ieee.{ofBits, binary64}
 use mathlib.Core.Path.{ap, _∙_}
 use borrow.Author.Needs.{needs}
@@ -12,7 +12,7 @@ use Rattle.big_endian.proofs.get4.Reads as get4-reads
 use Rattle.big_endian.proofs.get8.Reads as get8-reads
 use Rattle.replication.proofs.desk.desk_edit.Reads as desk-edit-reads
 use Rattle.replication.proofs.run_lists.coordinate.Reads as coordinate-reads
-use Rattle.image.proofs.operation_of.Reads as operation-of-reads
+use Rattle.message.proofs.operation_of.Reads as operation-of-reads
 
 get1-requires : tie.Need-get1-requires
 get1-requires c κs = search needs

@@ -1,5 +1,5 @@
 use Prim.Native.Nat.{_≤_, _+_, _-_, _/_, _*_}
-use Rattle.image.specs.Message.{messageSize}
+use Rattle.message.specs.Message.{messageSize}
 use Rattle.replication.proofs.Runs.{desk-ran-start, desk-ran-next, desk-ran-all}
 use Rattle.replication.specs.RunBoth.{callAt, DeskRan, callSize}
 use Rattle.cuts.proofs.Rows.{rows-length}

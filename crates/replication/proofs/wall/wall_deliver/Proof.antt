@@ -7,7 +7,7 @@ use Rattle.replication.proofs.wall.wall_deliver.Reads as reads
 use Rattle.replication.proofs.wall.wall_deliver.Lts as lts
 use Rattle.replication.proofs.wall.deliver_message.Reads as deliver-message-reads
 use Rattle.replication.proofs.refusals.first_fault.Reads as first-fault-reads
-use Rattle.image.proofs.read_message.Reads as read-message-reads
+use Rattle.message.proofs.read_message.Reads as read-message-reads
 
 read-message-requires : tie.Need-read-message-requires
 read-message-requires c κs = search needs

@@ -1,5 +1,5 @@
 use mathlib.Core.Path.{refl}
-use Rattle.image.specs.Message.{messageSize}
+use Rattle.message.specs.Message.{messageSize}
 use Rattle.replication.proofs.Program.{least-above}
 use lib.ListN.{length}
 use Prim.Native.Nat.{_-_}

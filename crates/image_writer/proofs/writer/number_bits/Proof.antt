@@ -1,0 +1,70 @@
+use Rattle.sketch.specs.Valid.{okCoordinate, okNumber, okRadius, okRho, okRelation, okMeasure}
+use Rattle.image.proofs.Floats.{number-float, coordinate-rejects, radius-rejects, rho-rejects, measure-rejects}
+use Rattle.image.specs.Encode.{bit, kindByte, degreeOf, numberBits, slotIds, flagByte, relationByte, firstId, secondId, valueBits}
+use mathlib.Core.Path.{_≡_, refl, sym, ap, _∙_}
+use native.Mathlib.Omega.{arith}
+use borrow.Author.Needs.{needs}
+use Rattle.image_writer.proofs.writer.number_bits.Statement.{statement}
+use Rattle.image_writer.proofs.writer.number_bits.Tie as tie
+use Rattle.image_writer.proofs.writer.number_bits.Reads as reads
+use Rattle.image_writer.proofs.writer.number_bits.Lts as lts
+
+enum-told : tie.Need-enum-told
+enum-told c = search needs
+
+enum-told-2 : tie.Need-enum-told-2
+enum-told-2 c = search needs
+
+enum-known-kind : tie.Need-enum-known-kind
+enum-known-kind c = search needs
+
+float-to-bits-result : tie.Need-float-to-bits-result
+unfolding okNumber
+float-to-bits-result c = number-float okRadius radius-rejects _ (sym (ap okNumber (c .before .kind .given .1)) ∙ c .before .before .before .pre)
+
+enum-told-3 : tie.Need-enum-told-3
+enum-told-3 c = search needs
+
+enum-known-kind-2 : tie.Need-enum-known-kind-2
+enum-known-kind-2 c = search needs
+
+float-to-bits-result-2 : tie.Need-float-to-bits-result-2
+unfolding okNumber
+float-to-bits-result-2 c = number-float okRho rho-rejects _ (sym (ap okNumber (c .before .kind2 .given .1)) ∙ c .before .before .before .pre)
+
+returns : tie.Need-returns
+unfolding numberBits
+returns c = sym (ap numberBits (c .enum-told .given .1))
+
+returns-2 : tie.Need-returns-2
+unfolding numberBits
+returns-2 c = sym (ap numberBits (c .enum-told2 .given .1))
+
+returns-3 : tie.Need-returns-3
+unfolding numberBits
+returns-3 c = sym (ap numberBits (c .before .kind .given .1))
+
+returns-4 : tie.Need-returns-4
+unfolding numberBits
+returns-4 c = sym (ap numberBits (c .enum-told3 .given .1))
+
+returns-5 : tie.Need-returns-5
+unfolding numberBits
+returns-5 c = sym (ap numberBits (c .before .kind2 .given .1))
+
+pub number-bits-spec : {M : Type 1} → statement M
+number-bits-spec =
+    tie.close
+    (tie.spec
+    enum-told
+    enum-told-2
+    enum-known-kind
+    float-to-bits-result
+    enum-told-3
+    enum-known-kind-2
+    float-to-bits-result-2
+    returns
+    returns-2
+    returns-3
+    returns-4
+    returns-5)

@@ -1,0 +1,116 @@
+use Rattle.sketch.specs.Valid.{okCoordinate, okNumber, okRadius, okRho, okRelation, okMeasure}
+use Rattle.image.proofs.Floats.{number-float, coordinate-rejects, radius-rejects, rho-rejects, measure-rejects}
+use Rattle.image.specs.Encode.{bit, kindByte, degreeOf, numberBits, slotIds, flagByte, relationByte, firstId, secondId, valueBits}
+use mathlib.Core.Path.{_≡_, refl, sym, ap, _∙_}
+use native.Mathlib.Omega.{arith}
+use borrow.Author.Needs.{needs}
+use Rattle.image_writer.proofs.writer.value_bits.Statement.{statement}
+use Rattle.image_writer.proofs.writer.value_bits.Tie as tie
+use Rattle.image_writer.proofs.writer.value_bits.Reads as reads
+use Rattle.image_writer.proofs.writer.value_bits.Lts as lts
+
+enum-told : tie.Need-enum-told
+enum-told c = search needs
+
+enum-told-2 : tie.Need-enum-told-2
+enum-told-2 c = search needs
+
+enum-told-3 : tie.Need-enum-told-3
+enum-told-3 c = search needs
+
+enum-told-4 : tie.Need-enum-told-4
+enum-told-4 c = search needs
+
+enum-known-r : tie.Need-enum-known-r
+enum-known-r c = search needs
+
+float-to-bits-result : tie.Need-float-to-bits-result
+unfolding okRelation
+float-to-bits-result c = number-float okMeasure measure-rejects _ (sym (ap okRelation (c .before .r .given .1)) ∙ c .before .before .before .pre)
+
+enum-known-r-2 : tie.Need-enum-known-r-2
+enum-known-r-2 c = search needs
+
+float-to-bits-result-2 : tie.Need-float-to-bits-result-2
+unfolding okRelation
+float-to-bits-result-2 c = number-float okMeasure measure-rejects _ (sym (ap okRelation (c .before .r2 .given .1)) ∙ c .before .before .before .pre)
+
+enum-told-5 : tie.Need-enum-told-5
+enum-told-5 c = search needs
+
+enum-known-r-3 : tie.Need-enum-known-r-3
+enum-known-r-3 c = search needs
+
+float-to-bits-result-3 : tie.Need-float-to-bits-result-3
+unfolding okRelation
+float-to-bits-result-3 c = number-float okMeasure measure-rejects _ (sym (ap okRelation (c .before .r3 .given .1)) ∙ c .before .before .before .pre)
+
+enum-known-r-4 : tie.Need-enum-known-r-4
+enum-known-r-4 c = search needs
+
+float-to-bits-result-4 : tie.Need-float-to-bits-result-4
+unfolding okRelation
+float-to-bits-result-4 c = number-float okMeasure measure-rejects _ (sym (ap okRelation (c .before .r4 .given .1)) ∙ c .before .before .before .pre)
+
+returns : tie.Need-returns
+unfolding valueBits
+returns c = sym (ap valueBits (c .enum-told .given .1))
+
+returns-2 : tie.Need-returns-2
+unfolding valueBits
+returns-2 c = sym (ap valueBits (c .enum-told2 .given .1))
+
+returns-3 : tie.Need-returns-3
+unfolding valueBits
+returns-3 c = sym (ap valueBits (c .enum-told3 .given .1))
+
+returns-4 : tie.Need-returns-4
+unfolding valueBits
+returns-4 c = sym (ap valueBits (c .enum-told4 .given .1))
+
+returns-5 : tie.Need-returns-5
+unfolding valueBits
+returns-5 c = sym (ap valueBits (c .before .r .given .1))
+
+returns-6 : tie.Need-returns-6
+unfolding valueBits
+returns-6 c = sym (ap valueBits (c .before .r2 .given .1))
+
+returns-7 : tie.Need-returns-7
+unfolding valueBits
+returns-7 c = sym (ap valueBits (c .enum-told5 .given .1))
+
+returns-8 : tie.Need-returns-8
+unfolding valueBits
+returns-8 c = sym (ap valueBits (c .before .r3 .given .1))
+
+returns-9 : tie.Need-returns-9
+unfolding valueBits
+returns-9 c = sym (ap valueBits (c .before .r4 .given .1))
+
+pub value-bits-spec : {M : Type 1} → statement M
+value-bits-spec =
+    tie.close
+    (tie.spec
+    enum-told
+    enum-told-2
+    enum-told-3
+    enum-told-4
+    enum-known-r
+    float-to-bits-result
+    enum-known-r-2
+    float-to-bits-result-2
+    enum-told-5
+    enum-known-r-3
+    float-to-bits-result-3
+    enum-known-r-4
+    float-to-bits-result-4
+    returns
+    returns-2
+    returns-3
+    returns-4
+    returns-5
+    returns-6
+    returns-7
+    returns-8
+    returns-9)

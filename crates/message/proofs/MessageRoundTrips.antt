@@ -1,0 +1,147 @@
+-- Messages there and back.
+use mathlib.Core.Path.{_≡_, refl, sym, ap, _∙_}
+use mathlib.Core.Bool.{Bool, true, false, _&&_, and-true}
+use mathlib.Core.List.{List, [], _∷_, _++_, append-assoc, append-nil}
+use Prim.Native.Nat.{ℕ, zero, suc, _+_, _^_, _≤_, _<_}
+use native.Mathlib.Omega.{arith}
+use lib.ListN.{length, take, drop, length-append}
+use lib.Seq.{take-all}
+use lib.Dec.{leb, eqb, lit<}
+use borrow.Author.Tests.{leb-true, eqb-true, le-leb}
+use Rattle.big_endian.specs.Fields.{field, bytes, part}
+use Rattle.big_endian.specs.Laws.{Bytes, length-bytes, field-in, bytes-field, part-join}
+use Rattle.sketch.specs.Lists.{guardNumber}
+use Rattle.sketch.proofs.Bools.{and-both}
+use Rattle.message.specs.declared.Operation.{Operation}
+use Rattle.message.specs.declared.Operation.the-variants.{Trim, Split, Extend}
+use Rattle.message.specs.declared.Message.{Message}
+use Rattle.message.specs.declared.MessageRead.the-variants.{Accepted, Refused}
+use Rattle.message.specs.Stored.{StoredMessage}
+use Rattle.sketch.specs.Drawing.{idSize}
+use Rattle.message.specs.Message.{editNumberSize, editNumberAt, operationAt, curveAt, xAt, yAt, version, messageFault, operationOf, operationByte, messageOf, resultOf, parse, encode, messageLength, messageSize}
+use Rattle.sketch.proofs.Facts.{rule-kept}
+
+-- ---- the operation's byte
+
+record Known (o : Operation) : Type 0 where
+  low : leb 1 (operationByte o) ≡ true
+  high : leb (operationByte o) 3 ≡ true
+  small : operationByte o < 256
+  again : operationOf (operationByte o) ≡ o
+
+known : (o : Operation) → Known o
+unfolding operationByte operationOf
+known Trim = record { low = refl; high = refl; small = lit< tt; again = refl }
+known Split = record { low = refl; high = refl; small = lit< tt; again = refl }
+known Extend = record { low = refl; high = refl; small = lit< tt; again = refl }
+
+byte-back : (b : ℕ) → 1 ≤ b → b ≤ 3 → operationByte (operationOf b) ≡ b
+unfolding operationByte operationOf
+byte-back zero l h = absurd (omega arith)
+byte-back (suc zero) l h = refl
+byte-back (suc (suc zero)) l h = refl
+byte-back (suc (suc (suc zero))) l h = refl
+byte-back (suc (suc (suc (suc b)))) l h = absurd (omega arith)
+
+pub length-message : (m : Message) → length (encode m) ≡ messageSize
+unfolding encode
+length-message m = simp (length-append, length-bytes)
+
+-- ---- there: the bytes of a message are refused by 6 where its number is 0, and give the message where it is not
+
+module _ (m : Message) (w : StoredMessage m) (s : List ℕ)
+    (e : s ≡ bytes 4 messageLength ++ (bytes 1 version ++ (bytes editNumberSize (m .number) ++ (bytes 1 (operationByte (m .operation)) ++ (bytes idSize (m .curve) ++ (bytes 8 (m .x) ++ bytes 8 (m .y))))))) where
+  parsed : parse s ≡ resultOf (guardNumber (leb 1 (m .number)) 6 0) m
+  unfolding messageFault guardNumber
+  parsed =
+      let o = known (m .operation) in
+      let b0 = bytes 4 messageLength in
+      let b1 = bytes 1 version in
+      let b2 = bytes editNumberSize (m .number) in
+      let b3 = bytes 1 (operationByte (m .operation)) in
+      let b4 = bytes idSize (m .curve) in
+      let b5 = bytes 8 (m .x) in
+      let b6 = bytes 8 (m .y) in
+      let l : length s ≡ messageSize = ap length e ∙ simp (length-append, length-bytes) in
+      let f0 : field s 0 4 ≡ messageLength = field-in s [] (b1 ++ (b2 ++ (b3 ++ (b4 ++ (b5 ++ b6))))) 0 4 messageLength e refl (lit< tt) in
+      let f1 : field s 4 1 ≡ version = field-in s b0 (b2 ++ (b3 ++ (b4 ++ (b5 ++ b6)))) 4 1 version e (length-bytes 4 _) (lit< tt) in
+      let f2 : field s editNumberAt editNumberSize ≡ m .number = field-in s (b0 ++ b1) (b3 ++ (b4 ++ (b5 ++ b6))) editNumberAt editNumberSize (m .number) (e ∙ simp append-assoc) (simp (length-append, length-bytes)) (w .number-fits) in
+      let f3 : field s operationAt 1 ≡ operationByte (m .operation) =
+      field-in s (b0 ++ (b1 ++ b2)) (b4 ++ (b5 ++ b6)) operationAt 1 (operationByte (m .operation)) (e ∙ simp append-assoc) (simp (length-append, length-bytes)) (o .small) in
+      let f4 : field s curveAt idSize ≡ m .curve = field-in s (b0 ++ (b1 ++ (b2 ++ b3))) (b5 ++ b6) curveAt idSize (m .curve) (e ∙ simp append-assoc) (simp (length-append, length-bytes)) (w .curve-fits) in
+      let f5 : field s xAt 8 ≡ m .x = field-in s (b0 ++ (b1 ++ (b2 ++ (b3 ++ b4)))) b6 xAt 8 (m .x) (e ∙ simp append-assoc) (simp (length-append, length-bytes)) (w .x-fits) in
+      let f6 : field s yAt 8 ≡ m .y = field-in s (b0 ++ (b1 ++ (b2 ++ (b3 ++ (b4 ++ b5))))) [] yAt 8 (m .y) (e ∙ simp (append-assoc, append-nil)) (simp (length-append, length-bytes)) (w .y-fits) in
+      rw (l, f0, f1, f2, f3, f4, f5, f6, o .low, o .high, o .again, and-true (leb 1 (m .number)))
+
+pub parse-encode : (m : Message) → StoredMessage m → parse (encode m) ≡ resultOf (guardNumber (leb 1 (m .number)) 6 0) m
+unfolding encode
+parse-encode m w = parsed m w (encode m) refl
+
+-- ---- back: an accepted message, written again, is the same bytes
+
+pub result-accepted : (n : ℕ) (m₀ m : Message) → resultOf n m₀ ≡ Accepted m → (n ≡ 0) × (m₀ ≡ m)
+unfolding resultOf
+result-accepted zero m₀ m e = (refl, cc)
+result-accepted (suc n) m₀ m e = let z : _≡_ {A = ℕ} 0 1 = cc in absurd (omega arith)
+
+pub result-refused : (n : ℕ) (m₀ : Message) (k : ℕ) → resultOf n m₀ ≡ Refused k → (k ≡ n) × (k ≡ 0 → ⊥)
+unfolding resultOf
+result-refused zero m₀ k e = let z : _≡_ {A = ℕ} 0 1 = cc in absurd (omega arith)
+result-refused (suc n) m₀ k e = let q : k ≡ suc n = cc in (q, λ h. omega arith)
+
+-- a message without a fault, as facts
+pub record Sound (s : List ℕ) : Type 0 where
+  pub version-is : field s 4 1 ≡ version
+  pub long : length s ≡ messageSize
+  pub length-field : field s 0 4 ≡ messageLength
+  pub numbered : 1 ≤ field s editNumberAt editNumberSize
+  pub low : 1 ≤ field s operationAt 1
+  pub high : field s operationAt 1 ≤ 3
+
+pub message-kept : (s : List ℕ) → messageFault s ≡ 0 → Sound s
+unfolding messageFault
+message-kept s e =
+    let k1 = rule-kept _ _ _ e in
+    let k2 = rule-kept _ _ _ (k1 .1) in
+    let k3 = rule-kept _ _ _ (k2 .1) in
+    let k4 = rule-kept _ _ _ (k3 .1) in
+    let a = and-both _ _ (k3 .0) in
+    let b2 = and-both _ _ (k4 .0) in
+    let b1 = and-both _ _ (b2 .1) in
+    record {
+      version-is = eqb-true _ _ (k2 .0);
+      long = eqb-true _ _ (a .0);
+      length-field = eqb-true _ _ (a .1);
+      numbered = leb-true _ _ (b2 .0);
+      low = leb-true _ _ (b1 .0);
+      high = leb-true _ _ (b1 .1);
+    }
+
+pub encode-back : (s : List ℕ) → Bytes s → Sound s → encode (messageOf s) ≡ s
+unfolding encode
+encode-back s b w =
+    let l = w .long in
+    let t : bytes 4 messageLength ≡ part s 0 4 = ap (bytes 4) (sym (w .length-field)) ∙ bytes-field s 0 4 b (omega arith) in
+    let v : bytes 1 version ≡ part s 4 1 = ap (bytes 1) (sym (w .version-is)) ∙ bytes-field s 4 1 b (omega arith) in
+    rw (
+      t,
+      v,
+      byte-back (field s operationAt 1) (w .low) (w .high),
+      bytes-field s editNumberAt editNumberSize b (omega arith),
+      bytes-field s operationAt 1 b (omega arith),
+      bytes-field s curveAt idSize b (omega arith),
+      bytes-field s xAt 8 b (omega arith),
+      bytes-field s yAt 8 b (omega arith),
+      part-join s 14 8 8,
+      part-join s 10 4 16,
+      part-join s 9 1 20,
+      part-join s 5 4 21,
+      part-join s 4 1 25,
+      part-join s 0 4 26,
+    )
+    (take-all messageSize s (omega arith))
+
+pub encode-parse : (s : List ℕ) (m : Message) → Bytes s → parse s ≡ Accepted m → encode m ≡ s
+encode-parse s m b e =
+    let v = result-accepted (messageFault s) (messageOf s) m e in
+    rw (← v .1) (encode-back s b (message-kept s (v .0)))
