@@ -7,7 +7,7 @@ use lib.ListN.{length, take}
 use lib.Dec.{leb, ltb}
 use borrow.Author.Tests.{ltb-true}
 use Rattle.edit_plan.specs.Outcome.{Outcome, refused, accepted}
-use Rattle.edit_plan.proofs.Tables.{Holds, holds-need}
+use Rattle.edit_plan.proofs.Tables.{Holds, holds-guard}
 use Rattle.agreement.specs.Machines.{State, Protocol, maxEditNumber, Call, withCount, stateAfter, Entry, callOutcome, referenceAfter, appendAccepted, acceptedLog}
 use Rattle.agreement.specs.Agreement.{stateAt}
 
@@ -25,8 +25,8 @@ module _ {D E R : Type 0} (p : Protocol D E R) where
   -- what an accepted call was
   pub called : (s : State D) (c : Call E) → Holds (Step s (c .edit)) (callOutcome p s c)
   called s c =
-      holds-need (Step s (c .edit)) (leb (p .messageSize) (c .room)) 25 _ λ a.
-      holds-need (Step s (c .edit)) (ltb (s .count) maxEditNumber) 23 _ λ b. given (p .edit (s .drawing) (c .edit)) refl (ltb-true _ _ b)
+      holds-guard (Step s (c .edit)) (leb (p .messageSize) (c .room)) 25 _ λ a.
+      holds-guard (Step s (c .edit)) (ltb (s .count) maxEditNumber) 23 _ λ b. given (p .edit (s .drawing) (c .edit)) refl (ltb-true _ _ b)
     where
       given : (o : Outcome D R) → p .edit (s .drawing) (c .edit) ≡ o → s .count < maxEditNumber → Holds (Step s (c .edit)) (withCount (s .count + 1) o)
       given (refused k) e h = tt

@@ -30,9 +30,9 @@ pub derivative-length : (c : List Float) → length (derivativeOf c) ≡ length 
 unfolding derivativeOf
 derivative-length c = slopes-length _ c
 
-pick-length : (t : Bool) (a b : List Float) (n : ℕ) → length a ≤ n → length b ≤ n → length (cond t a b) ≤ n
-pick-length true a b n h k = h
-pick-length false a b n h k = k
+cond-length : (t : Bool) (a b : List Float) (n : ℕ) → length a ≤ n → length b ≤ n → length (cond t a b) ≤ n
+cond-length true a b n h k = h
+cond-length false a b n h k = k
 
 pub sort-length : (s l : List Float) → length (sortOnto s l) ≡ length s + length l
 unfolding sortOnto
@@ -43,7 +43,7 @@ after-length : (w k : Float) (l : List Float) → length (dedupAfter w k l) ≤ 
 unfolding dedupAfter
 after-length w k [] = omega arith
 after-length w k (x ∷ l) =
-    pick-length (lt (abs (x ⊖ k)) w) (dedupAfter w k l) (x ∷ dedupAfter w x l) _ (omega (arith, after-length w k l)) (omega (arith, after-length w x l))
+    cond-length (lt (abs (x ⊖ k)) w) (dedupAfter w k l) (x ∷ dedupAfter w x l) _ (omega (arith, after-length w k l)) (omega (arith, after-length w x l))
 
 pub dedup-length : (w : Float) (l : List Float) → length (dedupOf w l) ≤ length l
 unfolding dedupOf
@@ -56,10 +56,10 @@ knots-length ts =
     let e = 0f ∷ 1f ∷ [] in
     omega (arith, dedup-length 1e-13 (sortOnto [] (ts ++ e)), sort-length [] (ts ++ e), length-append ts e)
 
-settled-count : (z : List Float) (o : RootsResult) → count (sortedDedup (gathered z o)) ≤ length z + count o
+sorted-dedup-count : (z : List Float) (o : RootsResult) → count (sortedDedup (gathered z o)) ≤ length z + count o
 unfolding sortedDedup gathered
-settled-count z (found l b) = omega (arith, dedup-length 1e-10 (sortOnto [] (z ++ l)), sort-length [] (z ++ l), length-append z l)
-settled-count z (refused w b) = omega arith
+sorted-dedup-count z (found l b) = omega (arith, dedup-length 1e-10 (sortOnto [] (z ++ l)), sort-length [] (z ++ l), length-append z l)
+sorted-dedup-count z (refused w b) = omega arith
 
 with-count : (r : Float) (o : RootsResult) → count (withRoot r o) ≤ suc (count o)
 unfolding withRoot
@@ -78,13 +78,13 @@ one-each n z o₁ o₂ h k true false f = let e : false ≡ true = f refl in let
 one-each n z o₁ o₂ h k false true f = omega arith
 one-each n z o₁ o₂ h k false false f = omega arith
 
-pick-cons : (t : Bool) (x : Float) (l : List Float) → length (cond t (x ∷ l) l) ≡ cond t (suc (length l)) (length l)
-pick-cons true x l = refl
-pick-cons false x l = refl
+cond-cons : (t : Bool) (x : Float) (l : List Float) → length (cond t (x ∷ l) l) ≡ cond t (suc (length l)) (length l)
+cond-cons true x l = refl
+cond-cons false x l = refl
 
-pick-count : (t : Bool) (o p : RootsResult) → count (cond t o p) ≡ cond t (count o) (count p)
-pick-count true o p = refl
-pick-count false o p = refl
+cond-count : (t : Bool) (o p : RootsResult) → count (cond t o p) ≡ cond t (count o) (count p)
+cond-count true o p = refl
+cond-count false o p = refl
 
 always : (t : Bool) → cond t true true ≡ true
 always true = refl
@@ -104,7 +104,7 @@ module _ (c : List Float) (eps : Float) where
       let rest : ℕ → RootsResult = λ b'. bisectFrom c eps hi l b' in
       let k : count (andThen rest x) ≤ suc (length l - z) = then-count rest x (length l - z) (λ b'. omega (arith, after-count hi l b')) in
       let m : z + count (rest b) ≤ length l = after-count hi l b in
-      rw (pick-cons (isZero eps (evaluateOf c hi)) hi (zerosOf c eps l), pick-count (noSignChange eps (evaluateOf c lo) (evaluateOf c hi)) (rest b) (andThen rest x))
+      rw (cond-cons (isZero eps (evaluateOf c hi)) hi (zerosOf c eps l), cond-count (noSignChange eps (evaluateOf c lo) (evaluateOf c hi)) (rest b) (andThen rest x))
       (one-each (length l) z (count (rest b)) (count (andThen rest x)) m (omega arith)
       (isZero eps (evaluateOf c hi)) (noSignChange eps (evaluateOf c lo) (evaluateOf c hi)) (zero-no-bracket eps (evaluateOf c lo) (evaluateOf c hi)))
 
@@ -113,7 +113,7 @@ module _ (c : List Float) (eps : Float) where
   all-count [] b = omega arith
   all-count (k ∷ l) b =
       let h : length (cond (isZero eps (evaluateOf c k)) (k ∷ zerosOf c eps l) (zerosOf c eps l)) ≤ suc (length (zerosOf c eps l))
-      = pick-length (isZero eps (evaluateOf c k)) (k ∷ zerosOf c eps l) (zerosOf c eps l) _ (omega arith) (omega arith) in
+      = cond-length (isZero eps (evaluateOf c k)) (k ∷ zerosOf c eps l) (zerosOf c eps l) _ (omega arith) (omega arith) in
       omega (arith, after-count k l b)
 
 -- two more than the derivative has
@@ -121,30 +121,30 @@ pub level-count : (c ts : List Float) (b : ℕ) → count (levelOf c ts b) ≤ l
 unfolding levelOf
 level-count c ts b =
     let eps = toleranceOf c in
-    omega (arith, settled-count (zerosOf c eps (knotsOf ts)) (bisectBetween c eps (knotsOf ts) b), all-count c eps (knotsOf ts) b, knots-length ts)
+    omega (arith, sorted-dedup-count (zerosOf c eps (knotsOf ts)) (bisectBetween c eps (knotsOf ts) b), all-count c eps (knotsOf ts) b, knots-length ts)
 
 on-count : (c : List Float) (o : RootsResult) (n : ℕ) → count o ≤ n → count (onLevel c o) ≤ n + 2
 unfolding onLevel
 on-count c (found ts b) n h = omega (arith, level-count c ts b)
 on-count c (refused w b) n h = omega arith
 
-pick-bound : (t : Bool) (o p : RootsResult) (n : ℕ) → count o ≤ n → count p ≤ n → count (cond t o p) ≤ n
-pick-bound true o p n h k = h
-pick-bound false o p n h k = k
+cond-bound : (t : Bool) (o p : RootsResult) (n : ℕ) → count o ≤ n → count p ≤ n → count (cond t o p) ≤ n
+cond-bound true o p n h k = h
+cond-bound false o p n h k = k
 
 pub at-count : (n : ℕ) (c : List Float) (b : ℕ) → count (rootsAt n c b) ≤ 2 * (n - 1)
 unfolding rootsAt
 at-count zero c b = omega arith
 at-count (suc zero) c b =
-    pick-bound (allFinite c) _ (refused 20 b) _ (pick-bound (tiny c) (found [] b) _ _ (omega arith) (omega arith)) (omega arith)
+    cond-bound (allFinite c) _ (refused 20 b) _ (cond-bound (tiny c) (found [] b) _ _ (omega arith) (omega arith)) (omega arith)
 at-count (suc (suc n)) c b =
     let h : count (onLevel c (rootsAt (suc n) (derivativeOf c) b)) ≤ 2 * (suc (suc n) - 1)
     = omega (arith, on-count c (rootsAt (suc n) (derivativeOf c) b) _ (at-count (suc n) (derivativeOf c) b)) in
-    pick-bound (allFinite c) _ (refused 20 b) _
-    (pick-bound (tiny c) (found [] b) _ _ (omega arith) (pick-bound (eqb (suc n) 0) (found [] b) _ _ (omega arith) h))
+    cond-bound (allFinite c) _ (refused 20 b) _
+    (cond-bound (tiny c) (found [] b) _ _ (omega arith) (cond-bound (eqb (suc n) 0) (found [] b) _ _ (omega arith) h))
     (omega arith)
 
 -- Of d + 1 coefficients there are at most 2 * d roots.
 pub roots-count : (c : List Float) (b : ℕ) → count (rootsOf c b) ≤ 2 * (length c - 1)
 unfolding rootsOf
-roots-count c b = pick-bound (ltb 15 (length c)) (refused 20 b) (rootsAt (length c) c b) _ (omega arith) (at-count (length c) c b)
+roots-count c b = cond-bound (ltb 15 (length c)) (refused 20 b) (rootsAt (length c) c b) _ (omega arith) (at-count (length c) c b)

@@ -44,14 +44,14 @@ module _ (w : Float) where
   dedup-covered [] = tt
   dedup-covered (x ∷ l) = (by-first (inl refl), after-covered x l)
 
-  pick-part : (t : Bool) (x : Float) (a b l : List Float) → PartOf a l → PartOf b l → PartOf (cond t a (x ∷ b)) (x ∷ l)
-  pick-part true x a b l h k = left-out h
-  pick-part false x a b l h k = taken-in k
+  cond-part : (t : Bool) (x : Float) (a b l : List Float) → PartOf a l → PartOf b l → PartOf (cond t a (x ∷ b)) (x ∷ l)
+  cond-part true x a b l h k = left-out h
+  cond-part false x a b l h k = taken-in k
 
   after-part : (k : Float) (l : List Float) → PartOf (dedupAfter w k l) l
   unfolding dedupAfter
   after-part k [] = nothing
-  after-part k (x ∷ l) = pick-part (lt (abs (x ⊖ k)) w) x (dedupAfter w k l) (dedupAfter w x l) l (after-part k l) (after-part x l)
+  after-part k (x ∷ l) = cond-part (lt (abs (x ⊖ k)) w) x (dedupAfter w k l) (dedupAfter w x l) l (after-part k l) (after-part x l)
 
   pub dedup-part : (l : List Float) → PartOf (dedupOf w l) l
   unfolding dedupOf

@@ -15,7 +15,7 @@ use Rattle.bernstein.specs.Contracts.{listOf, RootsAtFront}
 use Rattle.bernstein.specs.declared.Bisected.{Bisected}
 use Rattle.bernstein.specs.declared.Bisected.the-variants.{At, Spent}
 use Rattle.bernstein.specs.declared.Roots.the-variants.{Found, Refused}
-use Rattle.bernstein.proofs.Lists.{pushed, laid-all}
+use Rattle.bernstein.proofs.Lists.{pushed, front-all}
 
 -- ---- the two ends
 
@@ -25,7 +25,7 @@ ends-put d ts k i a b e h g =
     let n = length ts in
     let g₀ : n < length k = omega arith in
     let g₁ : n + 1 < length (set k n a) = rw length-set g in
-    let q : k ≡ ts ++ drop n d = laid-all d ts k i e h in
+    let q : k ≡ ts ++ drop n d = front-all d ts k i e h in
     let q₂ : n + 2 ≡ suc (n + 1) = omega arith in
     rw q₂ (take-suc-set (set k n a) (n + 1) b g₁
     ∙ ap (λ (l : List Float). l ++ (b ∷ [])) (ap (λ (j : ℕ). take j (set k n a)) (add-one n) ∙ take-suc-set k n a g₀)
@@ -104,15 +104,15 @@ module _ (eps fl fh : Float) where
   unfolding noSignChange
   neither e f = rw (e, f)
 
-pub laid-found : (o : RootsResult) (f : List Float) (q left : ℕ) → found (take q f ++ []) left ≡ o → q ≤ length f → RootsAtFront o f (Found q left)
+pub roots-at-front-found : (o : RootsResult) (f : List Float) (q left : ℕ) → found (take q f ++ []) left ≡ o → q ≤ length f → RootsAtFront o f (Found q left)
 unfolding answerOf listOf
-laid-found o f q left e h =
+roots-at-front-found o f q left e h =
     let n : length (take q f ++ []) ≡ q = simp append-nil (length-take-le q f h) in
     rw (← e) (record { answer = ap (λ (m : ℕ). Found m left) (sym n); front = rw n (sym (append-nil (take q f))) })
 
-pub laid-refused : (o : RootsResult) (f : List Float) → refused 21 0 ≡ o → RootsAtFront o f (Refused 21 0)
+pub roots-at-front-refused : (o : RootsResult) (f : List Float) → refused 21 0 ≡ o → RootsAtFront o f (Refused 21 0)
 unfolding answerOf listOf
-laid-refused o f e = rw (← e) (record { answer = refl; front = refl })
+roots-at-front-refused o f e = rw (← e) (record { answer = refl; front = refl })
 
 pub no-knots : (c : List Float) (eps : Float) (knots z : List Float) (b : ℕ) → length knots ≡ 0 → found (z ++ []) b ≡ gathered z (bisectBetween c eps knots b)
 unfolding gathered bisectBetween
@@ -203,4 +203,4 @@ module _ (c knots : List Float) (eps : Float) (f₀ : List Float) (z budget : �
       let w : q + 1 ≤ z + i = s .few in
       let g : i ≤ length knots = s .within in
       let u : z + length knots ≤ length f = s .room in
-      laid-found whole f q left (rw (drop-of-length-le knots h) at (s .done)) (omega arith)
+      roots-at-front-found whole f q left (rw (drop-of-length-le knots h) at (s .done)) (omega arith)

@@ -71,10 +71,10 @@ module _ (c ts k z : List Float) (b : ℕ) (s : Float) (ek : k ≡ knotsOf ts) (
   unfolding levelOf toleranceOf
   level-is = rw (ez, ek, es)
 
-module _ (c ts : List Float) (b : ℕ) (o : RootsResult) (el : levelOf c ts b ≡ sortedDedup o) (f : List Float) (r : Roots) (laid : RootsAtFront o f r) where
+module _ (c ts : List Float) (b : ℕ) (o : RootsResult) (el : levelOf c ts b ≡ sortedDedup o) (f : List Float) (r : Roots) (at-front : RootsAtFront o f r) where
   pub level-refused : (w left : ℕ) → r ≡ Refused w left → levelOf c ts b ≡ refused w left
   unfolding sortedDedup
-  level-refused w left e = el ∙ ap sortedDedup (refusal-is o w left (sym e ∙ laid .answer))
+  level-refused w left e = el ∙ ap sortedDedup (refusal-is o w left (sym e ∙ at-front .answer))
 
   module _ (q left : ℕ) (e : r ≡ Found q left) where
     found-is : (o : RootsResult) → Found q left ≡ answerOf o → take (length (listOf o)) f ≡ listOf o → (o ≡ found (take q f) left) × (q ≡ length (take q f))
@@ -88,10 +88,10 @@ module _ (c ts : List Float) (b : ℕ) (o : RootsResult) (el : levelOf c ts b �
 
     pub level-found : levelOf c ts b ≡ found (dedupOf 1e-10 (sortOnto [] (take q f))) left
     unfolding sortedDedup
-    level-found = el ∙ ap sortedDedup (found-is o (sym e ∙ laid .answer) (laid .front) .0)
+    level-found = el ∙ ap sortedDedup (found-is o (sym e ∙ at-front .answer) (at-front .front) .0)
 
     pub q-counted : q ≡ length (take q f)
-    q-counted = found-is o (sym e ∙ laid .answer) (laid .front) .1
+    q-counted = found-is o (sym e ∙ at-front .answer) (at-front .front) .1
 
     pub q-fits : q ≤ length f
     q-fits = omega (arith, q-counted, length-take q f)
@@ -197,6 +197,6 @@ pub room-enough : (room : ℕ) (c : List Float) (b : ℕ) → 28 ≤ room → se
 unfolding searchOf
 room-enough room c b h = rw (le-ltb room 28 h)
 
--- the same outcome under another name
+-- a search of an outcome is one of any equal outcome
 pub renamed : (o p : RootsResult) (lent later : List Float) (r : Roots) → o ≡ p → Searched p lent later r → Searched o lent later r
 renamed o p lent later r e s = rw e s

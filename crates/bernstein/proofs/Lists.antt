@@ -14,13 +14,13 @@ module _ {A : Type 0} where
   pushed r v i a h = rw (add-one, take-suc-set v i a, append-assoc)
 
   -- a turn of a walk that lays s over d
-  pub laid-more : (d s v : List A) (i : ℕ) (z : A) → v ≡ take i s ++ drop i d → i < length d → i < length s
+  pub front-more : (d s v : List A) (i : ℕ) (z : A) → v ≡ take i s ++ drop i d → i < length d → i < length s
       → set v i (getD s i z) ≡ take (i + 1) s ++ drop (i + 1) d
-  laid-more d s v i z e hd hs =
+  front-more d s v i z e hd hs =
       let h : 0 + i < length d = rw zero-add hd in
       rw (e, add-one) (simp zero-add at (paste-suc d 0 s i z h hs))
 
-  pub laid-all : (d s v : List A) (i : ℕ) → v ≡ take i s ++ drop i d → i ≡ length s → v ≡ s ++ drop (length s) d
-  laid-all d s v i e h =
+  pub front-all : (d s v : List A) (i : ℕ) → v ≡ take i s ++ drop i d → i ≡ length s → v ≡ s ++ drop (length s) d
+  front-all d s v i e h =
       let g : length s ≤ length s = omega arith in
       e ∙ rw (h, take-all (length s) s g)

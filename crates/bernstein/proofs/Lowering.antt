@@ -9,18 +9,18 @@ use lib.Seq.{take-at}
 use lib.Ieee.{Float, nan}
 use Rattle.float.specs.Numbers.{0f}
 use Rattle.bernstein.specs.Evaluate.{mix, casteljauStep, casteljauSteps, valueOf, evaluateOf}
-use Rattle.bernstein.proofs.Lists.{laid-more, laid-all}
+use Rattle.bernstein.proofs.Lists.{front-more, front-all}
 
-lower-length : (t : Float) (c : List Float) → length (casteljauStep t c) ≡ length c - 1
+casteljau-length : (t : Float) (c : List Float) → length (casteljauStep t c) ≡ length c - 1
 unfolding casteljauStep
-lower-length t [] = omega arith
-lower-length t (x ∷ []) = omega arith
-lower-length t (x ∷ y ∷ r) = omega (arith, lower-length t (y ∷ r))
+casteljau-length t [] = omega arith
+casteljau-length t (x ∷ []) = omega arith
+casteljau-length t (x ∷ y ∷ r) = omega (arith, casteljau-length t (y ∷ r))
 
 pub lowered-length : (t : Float) (n : ℕ) (c : List Float) → length (casteljauSteps t n c) ≡ length c - n
 unfolding casteljauSteps
 lowered-length t zero c = omega arith
-lowered-length t (suc n) c = omega (arith, lowered-length t n (casteljauStep t c), lower-length t c)
+lowered-length t (suc n) c = omega (arith, lowered-length t n (casteljauStep t c), casteljau-length t c)
 
 lowered-add : (t : Float) (m n : ℕ) (c : List Float) → casteljauSteps t m (casteljauSteps t n c) ≡ casteljauSteps t (n + m) c
 unfolding casteljauSteps
@@ -63,13 +63,13 @@ module _ (t : Float) (u : List Float) where
   u₃ = casteljauStep t u₂
 
   one-less : length u₁ ≡ length u - 1
-  one-less = lower-length t u
+  one-less = casteljau-length t u
 
   two-less : length u₂ ≡ length u - 2
-  two-less = omega (arith, lower-length t u₁, lower-length t u)
+  two-less = omega (arith, casteljau-length t u₁, casteljau-length t u)
 
   three-less : length u₃ ≡ length u - 3
-  three-less = omega (arith, lower-length t u₂, two-less)
+  three-less = omega (arith, casteljau-length t u₂, two-less)
 
   pub start : (n : ℕ) (v : List Float) (second last0 last1 last2 l₁ l₂ last3 : Float) → n + 4 ≡ length u → 4 < length u → n ≤ length v
       → second ≡ mix t (getD u 1 nan) (getD u 2 nan) → last0 ≡ getD u 3 nan → last1 ≡ mix t (getD u 2 nan) last0 → last2 ≡ mix t second last1
@@ -113,7 +113,7 @@ module _ (t : Float) (u : List Float) where
           at1 = a₁ ∙ ap (λ (j : ℕ). getD u₁ j nan) (omega arith);
           at2 = a₂ ∙ ap (λ (j : ℕ). getD u₂ j nan) (omega arith);
           at3 = a₃;
-          done = rw a₄ (laid-more v₀ (casteljauSteps t 4 u) v i nan (w .done) (omega arith) g);
+          done = rw a₄ (front-more v₀ (casteljauSteps t 4 u) v i nan (w .done) (omega arith) g);
         }
 
     pub finish : n ≤ i → v ≡ casteljauSteps t 4 u ++ drop (length u - 4) v₀
@@ -121,7 +121,7 @@ module _ (t : Float) (u : List Float) where
         let b : i ≤ n = w .within in
         let c : n + 4 ≡ length u = w .count in
         let e : i ≡ length (casteljauSteps t 4 u) = omega (arith, lowered-length t 4 u) in
-        rw (← lowered-length t 4 u) (laid-all v₀ (casteljauSteps t 4 u) v i (w .done) e)
+        rw (← lowered-length t 4 u) (front-all v₀ (casteljauSteps t 4 u) v i (w .done) e)
 
 -- ---- the last few steps
 

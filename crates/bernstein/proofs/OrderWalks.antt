@@ -87,14 +87,14 @@ module _ (v₀ : List Float) (k : ℕ) (x : Float) (v : List Float) (y : Float) 
 
 -- ---- sorting
 
-pick-length : (t : Bool) (a b : List Float) (n : ℕ) → length a ≡ n → length b ≡ n → length (cond t a b) ≡ n
-pick-length true a b n h k = h
-pick-length false a b n h k = k
+cond-length : (t : Bool) (a b : List Float) (n : ℕ) → length a ≡ n → length b ≡ n → length (cond t a b) ≡ n
+cond-length true a b n h k = h
+cond-length false a b n h k = k
 
 pub insert-length : (x : Float) (l : List Float) → length (insert x l) ≡ suc (length l)
 unfolding insert
 insert-length x [] = refl
-insert-length x (y ∷ l) = pick-length (before x y) (x ∷ insert y l) (y ∷ insert x l) _ (ap suc (insert-length y l)) (ap suc (insert-length x l))
+insert-length x (y ∷ l) = cond-length (before x y) (x ∷ insert y l) (y ∷ insert x l) _ (ap suc (insert-length y l)) (ap suc (insert-length x l))
 
 sort-step : (s : List Float) (x : Float) (l : List Float) → sortOnto s (x ∷ l) ≡ sortOnto (insert x s) l
 unfolding sortOnto

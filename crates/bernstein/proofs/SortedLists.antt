@@ -23,15 +23,15 @@ never-back x y hx hy p =
     let u = ltb-true (key x) (key y) (sym (before-key x y hx hy) ∙ p) in
     before-key y x hy hx ∙ le-ltb (key y) (key x) (omega arith)
 
-pick-all : (P : Float → Type 0) (t : Bool) (a b : List Float) → All P a → All P b → All P (cond t a b)
-pick-all P true a b h k = h
-pick-all P false a b h k = k
+cond-all : (P : Float → Type 0) (t : Bool) (a b : List Float) → All P a → All P b → All P (cond t a b)
+cond-all P true a b h k = h
+cond-all P false a b h k = k
 
 insert-all : (P : Float → Type 0) (x : Float) (l : List Float) → P x → All P l → All P (insert x l)
 unfolding insert
 insert-all P x [] p h = (p, tt)
 insert-all P x (y ∷ l) p h =
-    pick-all P (before x y) (x ∷ insert y l) (y ∷ insert x l) (p, insert-all P y l (h .0) (h .1)) (h .0, insert-all P x l p (h .1))
+    cond-all P (before x y) (x ∷ insert y l) (y ∷ insert x l) (p, insert-all P y l (h .0) (h .1)) (h .0, insert-all P x l p (h .1))
 
 none-before : (x y : Float) → T (fits binary64 x) → T (fits binary64 y) → before x y ≡ true → (l : List Float) → Fit l → All (λ z. before z y ≡ false) l → All (λ z. before z x ≡ false) l
 none-before x y hx hy p [] f h = tt
@@ -52,15 +52,15 @@ sort-in-order s [] f g h = h
 sort-in-order s (x ∷ l) f g h =
     sort-in-order (insert x s) l (insert-all (λ y. T (fits binary64 y)) x s (g .0) f) (g .1) (insert-in-order x s (g .0) f h)
 
-pick-perm : (t : Bool) (a b l : List Float) → Perm a l → Perm b l → Perm (cond t a b) l
-pick-perm true a b l h k = h
-pick-perm false a b l h k = k
+cond-perm : (t : Bool) (a b l : List Float) → Perm a l → Perm b l → Perm (cond t a b) l
+cond-perm true a b l h k = h
+cond-perm false a b l h k = k
 
 insert-perm : (x : Float) (l : List Float) → Perm (insert x l) (x ∷ l)
 unfolding insert
 insert-perm x [] = Perm·refl (x ∷ [])
 insert-perm x (y ∷ l) =
-    pick-perm (before x y) (x ∷ insert y l) (y ∷ insert x l) (x ∷ y ∷ l)
+    cond-perm (before x y) (x ∷ insert y l) (y ∷ insert x l) (x ∷ y ∷ l)
     (Perm·cons x (insert-perm y l))
     (Perm·trans (Perm·cons y (insert-perm x l)) (Perm·swap x y l))
 

@@ -27,9 +27,9 @@ remains Spent = 0
 
 -- ---- between two knots
 
-pick-remains : (t : Bool) (x y : Bisected) (b n : ℕ) → b ≤ remains x + n → b ≤ remains y + n → b ≤ remains (cond t x y) + n
-pick-remains true x y b n h k = h
-pick-remains false x y b n h k = k
+cond-remains : (t : Bool) (x y : Bisected) (b n : ℕ) → b ≤ remains x + n → b ≤ remains y + n → b ≤ remains (cond t x y) + n
+cond-remains true x y b n h k = h
+cond-remains false x y b n h k = k
 
 bisect-spends : (c : List Float) (k : ℕ) (lo hi fl : Float) (b : ℕ) → b ≤ remains (bisectOf c k lo hi fl b) + k
 unfolding bisectOf
@@ -43,7 +43,7 @@ bisect-spends c (suc k) lo hi fl b =
     let g : b ≤ remains below + suc k = omega (arith, bisect-spends c k lo m fl (b - 1)) in
     let i : b ≤ (b - 1) + suc k = omega arith in
     start (eqb b 0) refl (cond (narrow lo hi) (At m (b - 1)) (cond (sameSign f fl) above below))
-    (pick-remains (narrow lo hi) (At m (b - 1)) (cond (sameSign f fl) above below) b (suc k) i (pick-remains (sameSign f fl) above below b (suc k) h g))
+    (cond-remains (narrow lo hi) (At m (b - 1)) (cond (sameSign f fl) above below) b (suc k) i (cond-remains (sameSign f fl) above below b (suc k) h g))
   where
     start : (t : Bool) → eqb b 0 ≡ t → (x : Bisected) → b ≤ remains x + suc k → b ≤ remains (cond t Spent x) + suc k
     start true e x h = omega (arith, eqb-true b 0 e)
@@ -56,9 +56,9 @@ unfolding withRoot
 with-left r (found l b) = refl
 with-left r (refused w b) = refl
 
-pick-left : (t : Bool) (o p : RootsResult) (b n : ℕ) → b ≤ left o + n → b ≤ left p + n → b ≤ left (cond t o p) + n
-pick-left true o p b n h k = h
-pick-left false o p b n h k = k
+cond-left : (t : Bool) (o p : RootsResult) (b n : ℕ) → b ≤ left o + n → b ≤ left p + n → b ≤ left (cond t o p) + n
+cond-left true o p b n h k = h
+cond-left false o p b n h k = k
 
 then-spends : (rest : ℕ → RootsResult) (x : Bisected) (b n : ℕ) → b ≤ remains x + 64 → ((b' : ℕ) → b' ≤ left (rest b') + n) → b ≤ left (andThen rest x) + (n + 64)
 unfolding andThen
@@ -74,7 +74,7 @@ module _ (c : List Float) (eps : Float) where
       let x = bisectOf c 64 lo hi (evaluateOf c lo) b in
       let n : 64 * suc (length l) ≡ 64 * length l + 64 = omega arith in
       let h : b ≤ left (rest b) + (64 * length l + 64) = omega (arith, pairs-spend hi l b) in
-      rw n (pick-left (noSignChange eps (evaluateOf c lo) (evaluateOf c hi)) (rest b) (andThen rest x) b (64 * length l + 64) h
+      rw n (cond-left (noSignChange eps (evaluateOf c lo) (evaluateOf c hi)) (rest b) (andThen rest x) b (64 * length l + 64) h
       (then-spends rest x b (64 * length l) (bisect-spends c 64 lo hi (evaluateOf c lo) b) (λ b'. pairs-spend hi l b')))
 
   brackets-spend : (l : List Float) (b n : ℕ) → length l ≤ n + 1 → b ≤ left (bisectBetween c eps l b) + 64 * n
@@ -82,10 +82,10 @@ module _ (c : List Float) (eps : Float) where
   brackets-spend [] b n h = omega arith
   brackets-spend (k ∷ l) b n h = omega (arith, pairs-spend k l b)
 
-settled-left : (z : List Float) (o : RootsResult) → left (sortedDedup (gathered z o)) ≡ left o
+sorted-dedup-left : (z : List Float) (o : RootsResult) → left (sortedDedup (gathered z o)) ≡ left o
 unfolding sortedDedup gathered
-settled-left z (found l b) = refl
-settled-left z (refused w b) = refl
+sorted-dedup-left z (found l b) = refl
+sorted-dedup-left z (refused w b) = refl
 
 -- with these roots of the derivative
 pub level-spends : (c ts : List Float) (b : ℕ) → b ≤ left (levelOf c ts b) + 64 * (length ts + 1)
@@ -93,7 +93,7 @@ unfolding levelOf
 level-spends c ts b =
     let eps = toleranceOf c in
     let o = bisectBetween c eps (knotsOf ts) b in
-    rw (settled-left (zerosOf c eps (knotsOf ts)) o) (brackets-spend c eps (knotsOf ts) b (length ts + 1) (omega (arith, knots-length ts)))
+    rw (sorted-dedup-left (zerosOf c eps (knotsOf ts)) o) (brackets-spend c eps (knotsOf ts) b (length ts + 1) (omega (arith, knots-length ts)))
 
 -- ---- all levels
 
@@ -108,7 +108,7 @@ square n = omega (arith, suc-mul n (suc n), mul-suc n n)
 pub at-spends : (n : ℕ) (c : List Float) (b : ℕ) → b ≤ left (rootsAt n c b) + 64 * ((n - 1) * (n - 1))
 unfolding rootsAt
 at-spends zero c b = omega arith
-at-spends (suc zero) c b = pick-left (allFinite c) _ (refused 20 b) b _ (pick-left (tiny c) (found [] b) (found [] b) b _ (omega arith) (omega arith)) (omega arith)
+at-spends (suc zero) c b = cond-left (allFinite c) _ (refused 20 b) b _ (cond-left (tiny c) (found [] b) (found [] b) b _ (omega arith) (omega arith)) (omega arith)
 at-spends (suc (suc n)) c b =
     let e : suc (suc n) - 1 ≡ suc n = omega arith in
     let k : suc n - 1 ≡ n = omega arith in
@@ -117,10 +117,10 @@ at-spends (suc (suc n)) c b =
     let q : count d ≤ 2 * n = rw k at (at-count (suc n) (derivativeOf c) b) in
     let t : left d ≤ left (onLevel c d) + 64 * (2 * n + 1) = on-spends c d (2 * n) q in
     let h : b ≤ left (onLevel c d) + 64 * (suc n * suc n) = rw (square n) (omega arith) in
-    rw e (pick-left (allFinite c) _ (refused 20 b) b _
-    (pick-left (tiny c) (found [] b) _ b _ (omega arith) (pick-left (eqb (suc n) 0) (found [] b) (onLevel c d) b _ (omega arith) h))
+    rw e (cond-left (allFinite c) _ (refused 20 b) b _
+    (cond-left (tiny c) (found [] b) _ b _ (omega arith) (cond-left (eqb (suc n) 0) (found [] b) (onLevel c d) b _ (omega arith) h))
     (omega arith))
 
 pub roots-spend : (c : List Float) (b : ℕ) → b ≤ left (rootsOf c b) + 64 * ((length c - 1) * (length c - 1))
 unfolding rootsOf
-roots-spend c b = pick-left (ltb 15 (length c)) (refused 20 b) (rootsAt (length c) c b) b _ (omega arith) (at-spends (length c) c b)
+roots-spend c b = cond-left (ltb 15 (length c)) (refused 20 b) (rootsAt (length c) c b) b _ (omega arith) (at-spends (length c) c b)

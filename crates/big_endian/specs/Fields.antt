@@ -34,7 +34,7 @@ fromLeBytes a b c d e f g h =
     a + b * 0x0000_0000_0000_0100 + (c * 0x0000_0000_0001_0000 + d * 0x0000_0000_0100_0000)
     + (e * 0x0000_0001_0000_0000 + f * 0x0000_0100_0000_0000 + (g * 0x0001_0000_0000_0000 + h * 0x0100_0000_0000_0000))
 
--- and the highest first
+-- eight bytes as one number, the highest first
 abbrev pub fromBeBytes : ℕ → ℕ → ℕ → ℕ → ℕ → ℕ → ℕ → ℕ → ℕ
 fromBeBytes a b c d e f g h =
     a * 0x0100_0000_0000_0000 + b * 0x0001_0000_0000_0000 + (c * 0x0000_0100_0000_0000 + d * 0x0000_0001_0000_0000)

@@ -32,7 +32,7 @@ Standing cs [] = Unit {0}
 Standing cs (p ∷ ps) = (endsAt (curveIn cs (p .curve)) ≡ some (p .from, p .to)) × Standing cs ps
 
 -- from the table cs below n to cs′ below n′: t became the pieces ps, the other curves are as they were, what else is new is a piece
-pub record Laid (n : ℕ) (cs : List Curve) (t : ℕ) (n′ : ℕ) (cs′ : List Curve) (ps : List Piece) : Type 0 where
+pub record PiecesAdded (n : ℕ) (cs : List Curve) (t : ℕ) (n′ : ℕ) (cs′ : List Curve) (ps : List Piece) : Type 0 where
   pub grows : n ≤ n′
   pub beside : (i : ℕ) → i < n → (i ≡ t → ⊥) → (curveIn cs′ i ≡ curveIn cs i) × (occurrences i (curveIds cs′) ≡ occurrences i (curveIds cs))
   pub stand : Standing cs′ ps
@@ -68,15 +68,15 @@ names-append i [] qs = omega arith
 names-append i (p ∷ ps) qs = let h = names-append i ps qs in omega arith
 
 -- ids go on rising
-pub laid-grow : {n : ℕ} {cs : List Curve} {t n′ : ℕ} {cs′ : List Curve} {ps : List Piece} (n″ : ℕ) → n′ ≤ n″ → Laid n cs t n′ cs′ ps → Laid n cs t n″ cs′ ps
-laid-grow n″ g l =
+pub pieces-added-grow : {n : ℕ} {cs : List Curve} {t n′ : ℕ} {cs′ : List Curve} {ps : List Piece} (n″ : ℕ) → n′ ≤ n″ → PiecesAdded n cs t n′ cs′ ps → PiecesAdded n cs t n″ cs′ ps
+pieces-added-grow n″ g l =
     record { grows = omega arith; beside = l .beside; stand = l .stand; low = l .low; high = l .high; once = l .once; below = λ i h. l .below i (omega arith) }
 
 -- the first piece: t itself, its kind changed or not
-pub laid-one :
+pub pieces-added-one :
     (n : ℕ) (cs : List Curve) (t n′ : ℕ) (cs′ : List Curve) (a b : ℕ) → Low n cs → n ≤ n′ → curveIds cs′ ≡ curveIds cs
-    → ((i : ℕ) → (i ≡ t → ⊥) → curveIn cs′ i ≡ curveIn cs i) → endsAt (curveIn cs′ t) ≡ some (a, b) → Laid n cs t n′ cs′ (link t a b ∷ [])
-laid-one n cs t n′ cs′ a b w g e o h =
+    → ((i : ℕ) → (i ≡ t → ⊥) → curveIn cs′ i ≡ curveIn cs i) → endsAt (curveIn cs′ t) ≡ some (a, b) → PiecesAdded n cs t n′ cs′ (link t a b ∷ [])
+pieces-added-one n cs t n′ cs′ a b w g e o h =
     record {
       grows = g;
       beside = λ i q ne. (o i ne, ap (occurrences i) e);
@@ -94,7 +94,7 @@ laid-one n cs t n′ cs′ a b w g e o h =
     there i q z = omega (arith, zero-at i q, subst (λ (j : ℕ). 0 < occurrences j (curveIds cs′)) (sym z) (stand-in cs′ t (a, b) h))
 
 -- one more piece, last
-module _ {n : ℕ} {cs : List Curve} {t n′ : ℕ} {cs′ : List Curve} {ps : List Piece} (l : Laid n cs t n′ cs′ ps) (k : CurveKind) (u : Bool) (a b : ℕ) (e : endsOf k ≡ some (a, b)) where
+module _ {n : ℕ} {cs : List Curve} {t n′ : ℕ} {cs′ : List Curve} {ps : List Piece} (l : PiecesAdded n cs t n′ cs′ ps) (k : CurveKind) (u : Bool) (a b : ℕ) (e : endsOf k ≡ some (a, b)) where
   count : (i : ℕ) → occurrences i (curveIds (cs′ ++ (newCurve n′ k u ∷ []))) ≡ occurrences i (curveIds cs′) + occurrences i (n′ ∷ [])
   count i = occ-ids i cs′ (newCurve n′ k u ∷ [])
 
@@ -105,8 +105,8 @@ module _ {n : ℕ} {cs : List Curve} {t n′ : ℕ} {cs′ : List Curve} {ps : L
   unfolding curveIn endsAt
   new-look = rw (look-right cs′ (newCurve n′ k u ∷ []) n′ (l .below n′ (omega arith)), eq-eqb n′ n′ refl) e
 
-  pub laid-add : Laid n cs t (suc n′) (cs′ ++ (newCurve n′ k u ∷ [])) (ps ++ (link n′ a b ∷ []))
-  laid-add =
+  pub pieces-added-more : PiecesAdded n cs t (suc n′) (cs′ ++ (newCurve n′ k u ∷ [])) (ps ++ (link n′ a b ∷ []))
+  pieces-added-more =
       record {
         grows = omega (arith, l .grows);
         beside = λ i q ne. (old-look i (λ z. omega (arith, l .grows)) ∙ l .beside i q ne .0, omega (arith, count i, l .beside i q ne .1, occ-other i n′ [] (λ z. omega (arith, l .grows))));
@@ -125,7 +125,7 @@ module _ {n : ℕ} {cs : List Curve} {t n′ : ℕ} {cs′ : List Curve} {ps : L
       once-at i q (no ne) = omega (arith, count i, l .once i q, occ-other i n′ [] ne)
 
 -- the swap: the first two pieces exchange their ids
-module _ {n : ℕ} {cs : List Curve} {t n′ : ℕ} {cs′ : List Curve} {ps : List Piece} (g a b c e : ℕ) (l : Laid n cs t n′ cs′ (link t a b ∷ link g c e ∷ ps)) (h : t < n) (x y : Curve) (ex : curveIn cs′ t ≡ some x) (ey : curveIn cs′ g ≡ some y) where
+module _ {n : ℕ} {cs : List Curve} {t n′ : ℕ} {cs′ : List Curve} {ps : List Piece} (g a b c e : ℕ) (l : PiecesAdded n cs t n′ cs′ (link t a b ∷ link g c e ∷ ps)) (h : t < n) (x y : Curve) (ex : curveIn cs′ t ≡ some x) (ey : curveIn cs′ g ≡ some y) where
   swapped : List Curve
   swapped = map (rekind g (x .kind)) (map (rekind t (y .kind)) cs′)
 
@@ -166,9 +166,9 @@ module _ {n : ℕ} {cs : List Curve} {t n′ : ℕ} {cs′ : List Curve} {ps : L
       ap endsAt (look-set-other g (x .kind) (map (rekind t (y .kind)) cs′) t (λ z. omega (arith, g-high)) ∙ look-set t (y .kind) cs′ t x ex)
       ∙ ap endsOf (rekind-same t (y .kind) x (look-some cs′ t x ex .1)) ∙ sym (ap endsAt ey) ∙ l .stand .1 .0
 
-  pub laid-swap : Laid n cs t n′ (map (rekind g (x .kind)) (map (rekind t (y .kind)) cs′)) (link g a b ∷ link t c e ∷ ps)
+  pub pieces-added-swap : PiecesAdded n cs t n′ (map (rekind g (x .kind)) (map (rekind t (y .kind)) cs′)) (link g a b ∷ link t c e ∷ ps)
   unfolding swapped
-  laid-swap =
+  pieces-added-swap =
       record {
         grows = l .grows;
         beside = λ i q ne. (look-swapped i ne (λ z. omega (arith, g-high)) ∙ l .beside i q ne .0, ap (occurrences i) ids-swapped ∙ l .beside i q ne .1);

@@ -1,7 +1,7 @@
 -- From pieces that are laid out, one of them removed or none, to the shape that chains need. Assumes nothing.
 use mathlib.Core.Path.{_≡_, refl, sym, ap, _∙_}
-use mathlib.Core.Bool.{Bool, false, not}
-use mathlib.Core.List.{List, [], _∷_, _++_, map, List·Memᴰ·head}
+use mathlib.Core.Bool.{false, not}
+use mathlib.Core.List.{List, [], _∷_, map, List·Memᴰ·head}
 use mathlib.Core.Option.{Option, some}
 use Prim.Native.Nat.{ℕ, _+_, _≤_, _<_}
 use native.Mathlib.Omega.{arith}
@@ -9,7 +9,6 @@ use native.Mathlib.Decide.{ℕ-discrete, decLt}
 use lib.Dec.{eqb}
 use borrow.Author.Tests.{eq-eqb, ne-eqb}
 use Rattle.sketch.specs.declared.Curve.{Curve}
-use Rattle.sketch.specs.Lookup.{among}
 use Rattle.sketch.specs.Drawing.{Drawing, curveIds, curveIn}
 use Rattle.edit_plan.specs.declared.Removed.{Removed}
 use Rattle.edit_plan.specs.Counts.{occurrences}
@@ -17,9 +16,10 @@ use Rattle.edit_plan.specs.Steps.{endsAt}
 use Rattle.edit_plan.proofs.Tables.{occ-append, occ-same, occ-other, look-none}
 use Rattle.agreement.specs.Families.{removedIds, added, Member, memberIds, Joined, ValidMemberAs, ValidMembers}
 use Rattle.agreement.specs.EditEffect.{Pieces, EditEffect}
-use Rattle.agreement.proofs.Counts.{there, away, at-most, kept, dropped}
+use Rattle.agreement.proofs.Counts.{away, at-most}
+use Rattle.agreement.proofs.Families.{added-old, added-new}
 use Rattle.chains.specs.CurveView.{ids, ends, curveView}
-use Rattle.chains.proofs.AddedPieces.{Piece, names, link, Standing, Laid, Low, stand-in}
+use Rattle.chains.proofs.AddedPieces.{Piece, names, link, Standing, PiecesAdded, Low, stand-in}
 
 gone-zero : (r : Removed) → occurrences 0 (removedIds r) ≡ 0
 gone-zero r = go (ℕ-discrete (r .curve) 0)
@@ -53,9 +53,6 @@ ids-marked g [] = refl
 ids-marked g (p ∷ ps) = ap (λ (l : List ℕ). p .curve ∷ l) (ids-marked g ps)
 
 module _ (d : Drawing) (w : Low (d .next) (d .curves)) (t : ℕ) (here : 0 < occurrences t (ids d)) where
-  abbrev new-id : ℕ → Bool
-  new-id i = not (among i (ids d))
-
   pub t-below : t < d .next
   t-below = go (decLt t (d .next))
     where
@@ -70,12 +67,12 @@ module _ (d : Drawing) (w : Low (d .next) (d .curves)) (t : ℕ) (here : 0 < occ
       go (yes q) = absurd (omega (arith, ap (λ (j : ℕ). occurrences j (ids d)) q, w .above))
       go (no ne) = omega arith
 
-  pub laid-zero : (n′ : ℕ) (cs′ : List Curve) (ps : List Piece) → Laid (d .next) (d .curves) t n′ cs′ ps → occurrences 0 (curveIds cs′) ≡ 0
-  laid-zero n′ cs′ ps l = l .beside 0 (omega (arith, t-below)) (λ e. omega (arith, t-above)) .1 ∙ w .above
+  pub pieces-added-zero : (n′ : ℕ) (cs′ : List Curve) (ps : List Piece) → PiecesAdded (d .next) (d .curves) t n′ cs′ ps → occurrences 0 (curveIds cs′) ≡ 0
+  pieces-added-zero n′ cs′ ps l = l .beside 0 (omega (arith, t-below)) (λ e. omega (arith, t-above)) .1 ∙ w .above
 
   -- t became ps in cs′, and of these g, where it is not 0, is gone from d″
   module _
-      (d″ : Drawing) (cs′ : List Curve) (ps : List Piece) (l : Laid (d .next) (d .curves) t (d″ .next) cs′ ps) (r : Removed)
+      (d″ : Drawing) (cs′ : List Curve) (ps : List Piece) (l : PiecesAdded (d .next) (d .curves) t (d″ .next) cs′ ps) (r : Removed)
       (look : (i : ℕ) → (i ≡ r .curve → ⊥) → curveIn (d″ .curves) i ≡ curveIn cs′ i)
       (same : (i : ℕ) → (i ≡ r .curve → ⊥) → occurrences i (ids d″) ≡ occurrences i (curveIds cs′))
       (went : occurrences (r .curve) (ids d″) ≡ 0)
@@ -93,19 +90,16 @@ module _ (d : Drawing) (w : Low (d .next) (d .curves)) (t : ℕ) (here : 0 < occ
           go (yes q) = ap (λ (j : ℕ). occurrences j (ids d″)) q ∙ went
           go (no ne) = same 0 ne ∙ l .beside 0 (omega (arith, t-below)) (λ e. omega (arith, t-above)) .1 ∙ w .above
 
-      added-occ : (i : ℕ) → occurrences i (ids d) ≡ 0 → occurrences i (added curveView d d″ r) ≡ occurrences i (ids d″) + occurrences i (removedIds r)
-      added-occ i z = kept new-id i (ids d″ ++ removedIds r) (ap not (away i (ids d) z)) ∙ occ-append i (ids d″) (removedIds r)
-
       old-count : (i : ℕ) → i < d .next → occurrences i (added curveView d d″ r) ≡ 0
       old-count i q = go (ℕ-discrete (occurrences i (ids d)) 0) (ℕ-discrete i 0)
         where
           go : Dec (occurrences i (ids d) ≡ 0) → Dec (i ≡ 0) → occurrences i (added curveView d d″ r) ≡ 0
-          go (no ne) u = dropped new-id i (ids d″ ++ removedIds r) (ap not (there i (ids d) (omega arith)))
-          go (yes z) (yes o) = added-occ i z ∙ ap (λ (j : ℕ). occurrences j (ids d″) + occurrences j (removedIds r)) o ∙ omega (arith, zero-stays, gone-zero r)
+          go (no ne) u = added-old curveView d d″ r i (omega arith)
+          go (yes z) (yes o) = added-new curveView d d″ r i z ∙ ap (λ (j : ℕ). occurrences j (ids d″) + occurrences j (removedIds r)) o ∙ omega (arith, zero-stays, gone-zero r)
           go (yes z) (no p) =
               let nt : i ≡ t → ⊥ = λ e. omega (arith, ap (λ (j : ℕ). occurrences j (ids d)) e) in
               let ng = not-gone i (omega arith) q nt in
-              omega (arith, added-occ i z, same i ng, l .beside i q nt .1, gone-above i r (omega arith), occ-other i (r .curve) [] ng)
+              omega (arith, added-new curveView d d″ r i z, same i ng, l .beside i q nt .1, gone-above i r (omega arith), occ-other i (r .curve) [] ng)
 
       new-count : (i : ℕ) → d .next ≤ i → occurrences i (added curveView d d″ r) ≡ occurrences i (names ps)
       new-count i q = go (ℕ-discrete i (r .curve))
@@ -117,7 +111,7 @@ module _ (d : Drawing) (w : Low (d .next) (d .curves)) (t : ℕ) (here : 0 < occ
           go (yes e) =
               omega (
                 arith,
-                added-occ i (w .below i q),
+                added-new curveView d d″ r i (w .below i q),
                 ap (λ (j : ℕ). occurrences j (ids d″)) e,
                 went,
                 gone-above i r pos,
@@ -128,7 +122,7 @@ module _ (d : Drawing) (w : Low (d .next) (d .curves)) (t : ℕ) (here : 0 < occ
                 ap (λ (j : ℕ). occurrences j (names ps)) e,
                 at (omega (arith, pos)),
               )
-          go (no ne) = omega (arith, added-occ i (w .below i q), same i ne, gone-above i r pos, occ-other i (r .curve) [] ne, l .high i q)
+          go (no ne) = omega (arith, added-new curveView d d″ r i (w .below i q), same i ne, gone-above i r pos, occ-other i (r .curve) [] ne, l .high i q)
 
       sum : (i : ℕ) → occurrences i (t ∷ added curveView d d″ r) ≡ occurrences i (t ∷ []) + occurrences i (added curveView d d″ r)
       sum i = occ-append i (t ∷ []) (added curveView d d″ r)
@@ -180,8 +174,8 @@ module _ (d : Drawing) (w : Low (d .next) (d .curves)) (t : ℕ) (here : 0 < occ
           go (yes e) = rw (eq-eqb (r .curve) (q .curve) e) (away (q .curve) (ids d″) (ap (λ (j : ℕ). occurrences j (ids d″)) (sym e) ∙ went), List·Memᴰ·head (is e))
           go (no ne) = rw (ne-eqb (r .curve) (q .curve) ne) (ap endsAt (look (q .curve) (λ e. ne (sym e))) ∙ h .0)
 
-      pub laid-pieces : (a b : ℕ) → Linked a ps b → Pieces curveView d t d″ r a b
-      laid-pieces a b j =
+      pub pieces-added-chain : (a b : ℕ) → Linked a ps b → Pieces curveView d t d″ r a b
+      pieces-added-chain a b j =
           record {
             list = marked (r .curve) ps;
             joined = joined-marked (r .curve) a b ps j;
@@ -191,13 +185,13 @@ module _ (d : Drawing) (w : Low (d .next) (d .curves)) (t : ℕ) (here : 0 < occ
             new = fresh;
           }
 
-      pub laid-shape : ((a b : ℕ) → ends d t ≡ some (a, b) → Linked a ps b) → EditEffect curveView d t d″ r
-      laid-shape j =
+      pub pieces-added-effect : ((a b : ℕ) → ends d t ≡ some (a, b) → Linked a ps b) → EditEffect curveView d t d″ r
+      pieces-added-effect j =
           record {
             grows = l .grows;
             stood = here;
             others = λ i q ne. beside-at i q ne (ℕ-discrete i 0);
-            pieces = λ a b e. laid-pieces a b (j a b e);
+            pieces = λ a b e. pieces-added-chain a b (j a b e);
           }
         where
           beside-at : (i : ℕ) → i < d .next → (i ≡ t → ⊥) → Dec (i ≡ 0) → (ends d″ i ≡ ends d i) × (occurrences i (ids d″) ≡ occurrences i (ids d))
@@ -217,11 +211,10 @@ module _ (d : Drawing) (w : Low (d .next) (d .curves)) (t : ℕ) (here : 0 < occ
     none-added i = go (ℕ-discrete (occurrences i (ids d)) 0)
       where
         go : Dec (occurrences i (ids d) ≡ 0) → occurrences i (added curveView d d″ (link t 0 0)) ≡ 0
-        go (no ne) = dropped new-id i (ids d″ ++ removedIds (link t 0 0)) (ap not (there i (ids d) (omega arith)))
+        go (no ne) = added-old curveView d d″ (link t 0 0) i (omega arith)
         go (yes z) =
             let nt : i ≡ t → ⊥ = λ e. omega (arith, here, ap (λ (j : ℕ). occurrences j (ids d)) e) in
-            kept new-id i (ids d″ ++ removedIds (link t 0 0)) (ap not (away i (ids d) z)) ∙ occ-append i (ids d″) (removedIds (link t 0 0))
-            ∙ omega (arith, same i nt, gone-at i nt (ℕ-discrete i 0))
+            added-new curveView d d″ (link t 0 0) i z ∙ omega (arith, same i nt, gone-at i nt (ℕ-discrete i 0))
           where
             gone-at : (i : ℕ) → (i ≡ t → ⊥) → Dec (i ≡ 0) → occurrences i (removedIds (link t 0 0)) ≡ 0
             gone-at i nt (yes e) = ap (λ (j : ℕ). occurrences j (removedIds (link t 0 0))) e ∙ gone-zero (link t 0 0)

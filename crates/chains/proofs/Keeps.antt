@@ -22,7 +22,7 @@ use Rattle.edit_plan.specs.Tables.{setKind, movePoint}
 use Rattle.edit_plan.specs.Steps.{endsOf, endsAt, releaseExtent, splitAt, pin, pinAll, tie, swap, removal}
 use Rattle.edit_plan.specs.ApplyPlan.{removePiece, cut, divide, checkMet, moveEnd, applyPlanTo, applyPlanAt, applyPlan}
 use Rattle.edit_plan.specs.Suited.{Pinned}
-use Rattle.edit_plan.proofs.Tables.{Holds, holds-then, holds-need, look-some, look-set-other}
+use Rattle.edit_plan.proofs.Tables.{Holds, holds-then, holds-guard, look-some, look-set-other}
 use Rattle.chains.proofs.Grown.{has, sortOn, alike, soundKind, grown-refl, grown-trans}
 use Rattle.chains.proofs.Steps.{grown-set, valid-set, grown-move, valid-move}
 use Rattle.chains.proofs.Released.{curve-sound, curve-ok, grown-release, valid-release}
@@ -102,11 +102,11 @@ module _ (m : Limits) where
         go (some e) q =
             let p : ℕ = ite at-end (e .1) (e .0) in
             let g = grown-move m d v p s in
-            holds-need Ok _ 24 _ λ o.
+            holds-guard Ok _ 24 _ λ o.
             holds-then (λ d′ x. Kept m (movePoint p s d) d′) Ok (pin m (movePoint p s d) p w) _
             (keep-pin m (movePoint p s d) p w (valid-move m d v p s o)
             (g .points p (end-of at-end e (ends-there m d v (c .id) e (ap endsAt at ∙ q)))) (lies-grown d (movePoint p s d) g w f)) λ d′ x k.
-            holds-need Ok _ 19 _ λ z. k .valid
+            holds-guard Ok _ 19 _ λ z. k .valid
 
     keep-cut : (ws : List PinnedPoint) (first-goes : Bool) → AllLie d ws → Holds Ok (cut m d c ws first-goes)
     keep-cut ws first-goes f =

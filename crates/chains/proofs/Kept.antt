@@ -14,7 +14,7 @@ use Rattle.sketch.specs.Facts.{Valid}
 use Rattle.sketch.proofs.Bools.{both}
 use Rattle.edit_plan.specs.Tables.{addPoint, addRelation}
 use Rattle.edit_plan.specs.Steps.{addPoints}
-use Rattle.edit_plan.proofs.Tables.{Holds, holds-then, holds-need}
+use Rattle.edit_plan.proofs.Tables.{Holds, holds-then, holds-guard}
 use Rattle.chains.proofs.Grown.{has, sortOn, Grown, grown-refl, grown-trans}
 use Rattle.chains.proofs.Steps.{grown-point, new-point, valid-point, grown-relation, valid-relation}
 
@@ -44,7 +44,7 @@ module _ (m : Limits) where
 
   keep-point : (d : Drawing) (s : Vec2) → Valid m d → Holds (PointHeld d) (addPoint m d s)
   keep-point d s v =
-      holds-need (PointHeld d) _ 23 _ λ a. holds-need (PointHeld d) _ 22 _ λ b. holds-need (PointHeld d) _ 24 _ λ c.
+      holds-guard (PointHeld d) _ 23 _ λ a. holds-guard (PointHeld d) _ 22 _ λ b. holds-guard (PointHeld d) _ 24 _ λ c.
       record {
         held = record { valid = valid-point m d v s (ltb-true _ _ a) (ltb-true _ _ b) c; grown = grown-point m d v s };
         there = new-point m d v s;
@@ -73,4 +73,4 @@ module _ (m : Limits) where
 
   pub keep-relation : (d : Drawing) (r : Relation) → Valid m d → okRelation r ≡ true → soundRelation (has d) (sortOn d) r ≡ true → Holds (λ d′ u. Kept m d d′) (addRelation m d r)
   keep-relation d r v o s =
-      holds-need (λ d′ u. Kept m d d′) _ 22 _ λ a. record { valid = valid-relation m d v r (ltb-true _ _ a) o s; grown = grown-relation m d v r }
+      holds-guard (λ d′ u. Kept m d d′) _ 22 _ λ a. record { valid = valid-relation m d v r (ltb-true _ _ a) o s; grown = grown-relation m d v r }

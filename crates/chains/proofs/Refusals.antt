@@ -49,13 +49,13 @@ module _ (ns : List ℕ) where
   by-next : {D A B : Type 0} (o : Outcome D A) (f : D → A → Outcome D B) → By ns o → ((d : D) (a : A) → By ns (f d a)) → By ns (o then f)
   by-next o f t k = by-then (λ d a. Unit {0}) o f (any o) t (λ d a u. k d a)
 
-  by-need : {D A : Type 0} (b : Bool) (n : ℕ) (o : Outcome D A) → among n ns ≡ true → By ns o → By ns (guard b n o)
+  by-guard : {D A : Type 0} (b : Bool) (n : ℕ) (o : Outcome D A) → among n ns ≡ true → By ns o → By ns (guard b n o)
   unfolding guard
-  by-need true n o m t = t
-  by-need false n o m t = m
+  by-guard true n o m t = t
+  by-guard false n o m t = m
 
   by-relation : among 22 ns ≡ true → (m : Limits) (d : Drawing) (r : Relation) → By ns (addRelation m d r)
-  by-relation h m d r = by-need _ 22 _ h tt
+  by-relation h m d r = by-guard _ 22 _ h tt
 
   by-pin : among 22 ns ≡ true → (m : Limits) (d : Drawing) (p : ℕ) (w : Pin) → By ns (pin m d p w)
   unfolding pin
@@ -83,7 +83,7 @@ by-extend : (met : Drawing → Bool) (m : Limits) (d : Drawing) (b : Bool) (v : 
 unfolding moveEnd checkMet
 by-extend met m d b v w e =
     let p : ℕ = ite b (e .1) (e .0) in
-    by-need moving _ 24 _ refl (by-next moving (pin m (movePoint p v d) p w) _ (by-pin moving refl m (movePoint p v d) p w) λ d′ u. by-need moving _ 19 _ refl tt)
+    by-guard moving _ 24 _ refl (by-next moving (pin m (movePoint p v d) p w) _ (by-pin moving refl m (movePoint p v d) p w) λ d′ u. by-guard moving _ 19 _ refl tt)
 
 -- ---- cuts
 
@@ -115,10 +115,10 @@ count-pieces (Conic a p b rho) ps h z = never h
 
 module _ (m : Limits) where
   by-point : (d : Drawing) (v : Vec2) → By cutting (addPoint m d v)
-  by-point d v = by-need cutting _ 23 _ refl (by-need cutting _ 22 _ refl (by-need cutting _ 24 _ refl tt))
+  by-point d v = by-guard cutting _ 23 _ refl (by-guard cutting _ 22 _ refl (by-guard cutting _ 24 _ refl tt))
 
   by-curve : (d : Drawing) (k : CurveKind) (u : Bool) → By cutting (addCurve m d k u)
-  by-curve d k u = by-need cutting _ 23 _ refl (by-need cutting _ 22 _ refl tt)
+  by-curve d k u = by-guard cutting _ 23 _ refl (by-guard cutting _ 22 _ refl tt)
 
   by-points : (d : Drawing) (vs : List Vec2) → By cutting (addPoints m d vs)
   by-points d [] = tt
@@ -140,15 +140,15 @@ module _ (m : Limits) where
       holds-then (λ d′ i. Unit {0}) (λ d′ is. length is ≡ length (k ∷ ks)) (addCurve m d k u) _ (any (addCurve m d k u)) λ d′ i x.
       holds-then (λ d″ is. length is ≡ length ks) (λ d″ is. length is ≡ length (k ∷ ks)) (addCurves m d′ ks u) _ (count-curves d′ ks u) λ d″ is h. ap suc h
 
-  by-lay : (d : Drawing) (t : ℕ) (u : Bool) (ps : List ℕ) (ks : List CurveKind) → 0 < length ks → By cutting (addPieces m d t u ps ks)
+  by-add-pieces : (d : Drawing) (t : ℕ) (u : Bool) (ps : List ℕ) (ks : List CurveKind) → 0 < length ks → By cutting (addPieces m d t u ps ks)
   unfolding addPieces
-  by-lay d t u ps [] h = absurd (omega arith)
-  by-lay d t u ps (k ∷ ks) h = by-next cutting (addCurves m (setKind t k d) ks u) _ (by-curves (setKind t k d) ks u) λ d′ is. tt
+  by-add-pieces d t u ps [] h = absurd (omega arith)
+  by-add-pieces d t u ps (k ∷ ks) h = by-next cutting (addCurves m (setKind t k d) ks u) _ (by-curves (setKind t k d) ks u) λ d′ is. tt
 
-  count-lay : (d : Drawing) (t : ℕ) (u : Bool) (ps : List ℕ) (ks : List CurveKind) → Holds (λ d′ q. suc (length (q .pieces)) ≡ length ks) (addPieces m d t u ps ks)
+  count-added-pieces : (d : Drawing) (t : ℕ) (u : Bool) (ps : List ℕ) (ks : List CurveKind) → Holds (λ d′ q. suc (length (q .pieces)) ≡ length ks) (addPieces m d t u ps ks)
   unfolding addPieces
-  count-lay d t u ps [] = tt
-  count-lay d t u ps (k ∷ ks) =
+  count-added-pieces d t u ps [] = tt
+  count-added-pieces d t u ps (k ∷ ks) =
       holds-then (λ d′ is. length is ≡ length ks) (λ d′ q. suc (length (q .pieces)) ≡ length (k ∷ ks)) (addCurves m (setKind t k d) ks u) _ (count-curves (setKind t k d) ks u) λ d′ is h. ap suc h
 
   module _ (d : Drawing) (c : Curve) (vs : List Vec2) (h : cuttable (c .kind) (length vs) ≡ true) (z : 0 < length vs) where
@@ -158,13 +158,13 @@ module _ (m : Limits) where
     by-split : By cutting (splitAt m d c vs)
     by-split =
         by-then cutting (λ d′ ps. length ps ≡ length vs) (addPoints m d vs) _ (count-points d vs) (by-points d vs) λ d′ ps e.
-        by-lay d′ (c .id) (c .construction) ps (piecesOf (c .kind) ps) (omega (arith, many ps e))
+        by-add-pieces d′ (c .id) (c .construction) ps (piecesOf (c .kind) ps) (omega (arith, many ps e))
 
     count-split : Holds (λ d′ q. 0 < length (q .pieces)) (splitAt m d c vs)
     count-split =
         holds-then (λ d′ ps. length ps ≡ length vs) (λ d′ q. 0 < length (q .pieces)) (addPoints m d vs) _ (count-points d vs) λ d′ ps e.
         holds-map (λ d″ q. suc (length (q .pieces)) ≡ length (piecesOf (c .kind) ps)) (λ d″ q. 0 < length (q .pieces)) (addPieces m d′ (c .id) (c .construction) ps (piecesOf (c .kind) ps))
-        (λ d″ q x. omega (arith, many ps e)) (count-lay d′ (c .id) (c .construction) ps (piecesOf (c .kind) ps))
+        (λ d″ q x. omega (arith, many ps e)) (count-added-pieces d′ (c .id) (c .construction) ps (piecesOf (c .kind) ps))
 
   by-pins : (d : Drawing) (ps : List ℕ) (ws : List PinnedPoint) → By cutting (pinAll m d ps ws)
   by-pins d [] ws = tt

@@ -19,7 +19,7 @@ use Rattle.sketch.specs.Valid.{okCurve, okRelation, differ, distinct, soundCurv
 use Rattle.sketch.specs.Facts.{Every, Valid}
 use Rattle.sketch.proofs.Bools.{and-left, and-right, both}
 use Rattle.edit_plan.specs.Steps.{lineEnds, isSome, dropIf, measured, releaseRelation, releaseExtent}
-use Rattle.edit_plan.proofs.Every.{every-spread, every-at, length-spread, member-look}
+use Rattle.edit_plan.proofs.Every.{every-concat-map, every-at, length-concat-map, member-look}
 use Rattle.chains.proofs.Grown.{has, sortOn, soundKind, Grown}
 
 drop-every : (f : Relation → Bool) (b : Bool) (r : Relation) → f r ≡ true → Every f (dropIf b r)
@@ -101,16 +101,16 @@ module _ (m : Limits) (d : Drawing) (v : Valid m d) where
         record {
           points-fit = v .points-fit;
           curves-fit = v .curves-fit;
-          relations-fit = omega (arith, v .relations-fit, length-spread (releaseRelation t (lineEnds (c .kind))) (d .relations) (released-one (lineEnds (c .kind))));
+          relations-fit = omega (arith, v .relations-fit, length-concat-map (releaseRelation t (lineEnds (c .kind))) (d .relations) (released-one (lineEnds (c .kind))));
           next-low = v .next-low;
           next-high = v .next-high;
           points-rise = v .points-rise;
           curves-rise = v .curves-rise;
           points-ok = v .points-ok;
           curves-ok = v .curves-ok;
-          relations-ok = every-spread okRelation okRelation (releaseRelation t (lineEnds (c .kind))) (d .relations) (released-each okRelation (lineEnds (c .kind)) (λ e l x q h. h)) (v .relations-ok);
+          relations-ok = every-concat-map okRelation okRelation (releaseRelation t (lineEnds (c .kind))) (d .relations) (released-each okRelation (lineEnds (c .kind)) (λ e l x q h. h)) (v .relations-ok);
           curves-sound = v .curves-sound;
           relations-sound =
-              every-spread (soundRelation (has d) (sortOn d)) (soundRelation (has d) (sortOn d)) (releaseRelation t (lineEnds (c .kind))) (d .relations)
+              every-concat-map (soundRelation (has d) (sortOn d)) (soundRelation (has d) (sortOn d)) (releaseRelation t (lineEnds (c .kind))) (d .relations)
               (released-each (soundRelation (has d) (sortOn d)) (lineEnds (c .kind)) as-distance) (v .relations-sound);
         }

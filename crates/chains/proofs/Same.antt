@@ -16,7 +16,7 @@ use Rattle.edit_plan.specs.declared.PinnedPoint.{PinnedPoint}
 use Rattle.edit_plan.specs.Outcome.{accepted}
 use Rattle.edit_plan.specs.Tables.{addPoint, addRelation}
 use Rattle.edit_plan.specs.Steps.{addPoints, pin, pinAll, lineAt, tieRelation, tie}
-use Rattle.edit_plan.proofs.Tables.{Holds, holds-map, holds-then, holds-need}
+use Rattle.edit_plan.proofs.Tables.{Holds, holds-map, holds-then, holds-guard}
 
 pub record Same (d d′ : Drawing) : Type 0 where
   pub curves : d′ .curves ≡ d .curves
@@ -30,7 +30,7 @@ same-trans p q = record { curves = q .curves ∙ p .curves; grows = omega arith 
 
 same-point : (m : Limits) (d : Drawing) (s : Vec2) → Holds (λ d′ p. Same d d′) (addPoint m d s)
 same-point m d s =
-    holds-need (λ d′ p. Same d d′) _ 23 _ λ a. holds-need (λ d′ p. Same d d′) _ 22 _ λ b. holds-need (λ d′ p. Same d d′) _ 24 _ λ c.
+    holds-guard (λ d′ p. Same d d′) _ 23 _ λ a. holds-guard (λ d′ p. Same d d′) _ 22 _ λ b. holds-guard (λ d′ p. Same d d′) _ 24 _ λ c.
     record { curves = refl; grows = omega arith }
 
 pub same-points : (m : Limits) (d : Drawing) (ss : List Vec2) → Holds (λ d′ ps. Same d d′) (addPoints m d ss)
@@ -40,7 +40,7 @@ same-points m d (s ∷ ss) =
     holds-then (λ d″ ps. Same d′ d″) (λ d″ ps. Same d d″) (addPoints m d′ ss) _ (same-points m d′ ss) λ d″ ps k. same-trans h k
 
 same-relation : (m : Limits) (d : Drawing) (r : Relation) → Holds (λ d′ u. Same d d′) (addRelation m d r)
-same-relation m d r = holds-need (λ d′ u. Same d d′) _ 22 _ λ a. record { curves = refl; grows = omega arith }
+same-relation m d r = holds-guard (λ d′ u. Same d d′) _ 22 _ λ a. record { curves = refl; grows = omega arith }
 
 pub same-pin : (m : Limits) (d : Drawing) (p : ℕ) (w : Pin) → Holds (λ d′ u. Same d d′) (pin m d p w)
 unfolding pin

@@ -21,13 +21,13 @@ use Rattle.edit_plan.specs.Outcome.{_then_}
 use Rattle.edit_plan.specs.Tables.{setKind, movePoint, others, remove}
 use Rattle.edit_plan.specs.Steps.{endsOf, endsAt, releaseExtent, links, piecesOf, addPoints, addPieces, splitAt, pin, pinAll, tie, swapKinds, swap, reported, nothing, removal}
 use Rattle.edit_plan.specs.ApplyPlan.{removePiece, cut, divide, checkMet, moveEnd, applyPlanTo, applyPlanAt, applyPlan}
-use Rattle.edit_plan.proofs.Tables.{occ-same, Holds, holds-map, holds-then, holds-need, look-some, occ-gone, occ-stays, look-stays}
+use Rattle.edit_plan.proofs.Tables.{occ-same, Holds, holds-map, holds-then, holds-guard, look-some, occ-gone, occ-stays, look-stays}
 use Rattle.agreement.specs.EditEffect.{Pieces, EditEffect}
 use Rattle.chains.specs.CurveView.{ids, ends, curveView}
-use Rattle.chains.proofs.AddedPieces.{Piece, names, link, Laid, Low, laid-one, laid-swap}
-use Rattle.chains.proofs.Close.{Linked, laid-shape, laid-pieces, lone-ring, laid-zero, t-below}
+use Rattle.chains.proofs.AddedPieces.{Piece, names, link, PiecesAdded, Low, pieces-added-one, pieces-added-swap}
+use Rattle.chains.proofs.Close.{Linked, pieces-added-effect, pieces-added-chain, lone-ring, pieces-added-zero, t-below}
 use Rattle.chains.proofs.Same.{Same, same-trans, same-points, same-pin, same-pins, same-tie}
-use Rattle.chains.proofs.Rows.{Parted, laid-same, lay-links}
+use Rattle.chains.proofs.Rows.{Parted, pieces-added-same, add-pieces-linked}
 
 pub swap-is : (t g : ℕ) (d : Drawing) (x y : Curve) → curveIn (d .curves) t ≡ some x → curveIn (d .curves) g ≡ some y → swap t g d ≡ setKind g (x .kind) (setKind t (y .kind) d)
 unfolding swapKinds
@@ -56,24 +56,24 @@ module _ (met : Drawing → Bool) (m : Limits) (d : Drawing) (w : Low (d .next) 
     here : 0 < occurrences t (ids d)
     here = look-some (d .curves) t c at .0
 
-    lay-cut : (k : CurveKind) (d′ : Drawing) → Same d d′ → (u : Bool) (ps : List ℕ) → Holds (λ d″ q. PartedOf k t d″ (q .pieces)) (addPieces m d′ t u ps (piecesOf k ps))
+    add-pieces-cut : (k : CurveKind) (d′ : Drawing) → Same d d′ → (u : Bool) (ps : List ℕ) → Holds (λ d″ q. PartedOf k t d″ (q .pieces)) (addPieces m d′ t u ps (piecesOf k ps))
     unfolding piecesOf addPieces endsOf
-    lay-cut (Line a b) d′ s u ps =
+    add-pieces-cut (Line a b) d′ s u ps =
         holds-map (λ d″ q. Parted d t d″ (q .pieces) a b) (λ d″ q. PartedOf (Line a b) t d″ (q .pieces)) (addPieces m d′ t u ps (links Line a ps b))
         (λ d″ q h. record { a = a; b = b; cut-is = h; whose = pair a b; round = λ e. let z : _≡_ {A = ℕ} 0 1 = cc in absurd (omega arith) })
-        (lay-links d t Line (λ x y. refl) u m w c at d′ s ps a ps b)
-    lay-cut (Arc o a b) d′ s u ps =
+        (add-pieces-linked d t Line (λ x y. refl) u m w c at d′ s ps a ps b)
+    add-pieces-cut (Arc o a b) d′ s u ps =
         holds-map (λ d″ q. Parted d t d″ (q .pieces) a b) (λ d″ q. PartedOf (Arc o a b) t d″ (q .pieces)) (addPieces m d′ t u ps (links (Arc o) a ps b))
         (λ d″ q h. record { a = a; b = b; cut-is = h; whose = pair a b; round = λ e. let z : _≡_ {A = ℕ} 0 1 = cc in absurd (omega arith) })
-        (lay-links d t (Arc o) (λ x y. refl) u m w c at d′ s ps a ps b)
-    lay-cut (Circle o r) d′ s u [] = tt
-    lay-cut (Circle o r) d′ s u (p ∷ []) = tt
-    lay-cut (Circle o r) d′ s u (p ∷ q ∷ ps) =
+        (add-pieces-linked d t (Arc o) (λ x y. refl) u m w c at d′ s ps a ps b)
+    add-pieces-cut (Circle o r) d′ s u [] = tt
+    add-pieces-cut (Circle o r) d′ s u (p ∷ []) = tt
+    add-pieces-cut (Circle o r) d′ s u (p ∷ q ∷ ps) =
         holds-map (λ d″ q. Parted d t d″ (q .pieces) p p) (λ d″ q. PartedOf (Circle o r) t d″ (q .pieces)) (addPieces m d′ t u (p ∷ q ∷ ps) (links (Arc o) p (q ∷ ps) p))
         (λ d″ q h. record { a = p; b = p; cut-is = h; whose = λ x y e. let z : _≡_ {A = ℕ} 0 1 = cc in absurd (omega arith); round = λ e. refl })
-        (lay-links d t (Arc o) (λ x y. refl) u m w c at d′ s (p ∷ q ∷ ps) p (q ∷ ps) p)
-    lay-cut (Bezier n) d′ s u ps = tt
-    lay-cut (Conic a p b rho) d′ s u ps = tt
+        (add-pieces-linked d t (Arc o) (λ x y. refl) u m w c at d′ s (p ∷ q ∷ ps) p (q ∷ ps) p)
+    add-pieces-cut (Bezier n) d′ s u ps = tt
+    add-pieces-cut (Conic a p b rho) d′ s u ps = tt
 
     -- the pieces that a table has, as the chain wants them
     linked-as : (k : CurveKind) (a b x y : ℕ) (ps : List Piece) → ((x y : ℕ) → endsOf k ≡ some (x, y) → (a ≡ x) × (b ≡ y)) → Linked a ps b → endsOf k ≡ some (x, y) → Linked x ps y
@@ -92,28 +92,28 @@ module _ (met : Drawing → Bool) (m : Limits) (d : Drawing) (w : Low (d .next) 
     way a b ps h o j = record { line = λ x y e. linked-as (c .kind) a b x y ps h j e; loop = λ e. (a, subst (λ (z : ℕ). Linked a ps z) (sym (o e)) j) }
 
     -- none removed
-    close : (d′ : Drawing) (ps : List Piece) → Laid (d .next) (d .curves) t (d′ .next) (d′ .curves) ps → Way ps → ShapeAt t d′ nothing
+    close : (d′ : Drawing) (ps : List Piece) → PiecesAdded (d .next) (d .curves) t (d′ .next) (d′ .curves) ps → Way ps → ShapeAt t d′ nothing
     close d′ ps l j =
-        let z = laid-zero d w t here (d′ .next) (d′ .curves) ps l in
+        let z = pieces-added-zero d w t here (d′ .next) (d′ .curves) ps l in
         record {
-          shape = laid-shape d w t here d′ (d′ .curves) ps l nothing (λ i ne. refl) (λ i ne. refl) z (λ p. absurd (omega arith)) (λ p. absurd (omega arith)) (λ x y e. j .line x y (sym ends-here ∙ e));
+          shape = pieces-added-effect d w t here d′ (d′ .curves) ps l nothing (λ i ne. refl) (λ i ne. refl) z (λ p. absurd (omega arith)) (λ p. absurd (omega arith)) (λ x y e. j .line x y (sym ends-here ∙ e));
           ring = λ e.
               let (p, k) = j .loop (sym ends-here ∙ e) in
-              (p, laid-pieces d w t here d′ (d′ .curves) ps l nothing (λ i ne. refl) (λ i ne. refl) z (λ p. absurd (omega arith)) (λ p. absurd (omega arith)) p p k);
+              (p, pieces-added-chain d w t here d′ (d′ .curves) ps l nothing (λ i ne. refl) (λ i ne. refl) z (λ p. absurd (omega arith)) (λ p. absurd (omega arith)) p p k);
         }
 
     -- the piece g removed
-    close-without : (g : ℕ) (d′ : Drawing) (ps : List Piece) → Laid (d .next) (d .curves) t (d′ .next) (d′ .curves) ps → (f h : ℕ) → endsAt (curveIn (d′ .curves) g) ≡ some (f, h) → 0 < occurrences g (names ps) → Way ps → ShapeAt t (remove g d′) (reported g (endsAt (curveIn (d′ .curves) g)))
+    close-without : (g : ℕ) (d′ : Drawing) (ps : List Piece) → PiecesAdded (d .next) (d .curves) t (d′ .next) (d′ .curves) ps → (f h : ℕ) → endsAt (curveIn (d′ .curves) g) ≡ some (f, h) → 0 < occurrences g (names ps) → Way ps → ShapeAt t (remove g d′) (reported g (endsAt (curveIn (d′ .curves) g)))
     unfolding reported
     close-without g d′ ps l f h e o j =
         let look : (i : ℕ) → (i ≡ g → ⊥) → curveIn (others g (d′ .curves)) i ≡ curveIn (d′ .curves) i = λ i ne. look-stays g i (d′ .curves) ne in
         let same : (i : ℕ) → (i ≡ g → ⊥) → occurrences i (curveIds (others g (d′ .curves))) ≡ occurrences i (curveIds (d′ .curves)) = λ i ne. occ-stays g i (d′ .curves) ne in
         rw e
         (record {
-          shape = laid-shape d w t here (remove g d′) (d′ .curves) ps l (link g f h) look same (occ-gone g (d′ .curves)) (λ p. e) (λ p. o) (λ x y e. j .line x y (sym ends-here ∙ e));
+          shape = pieces-added-effect d w t here (remove g d′) (d′ .curves) ps l (link g f h) look same (occ-gone g (d′ .curves)) (λ p. e) (λ p. o) (λ x y e. j .line x y (sym ends-here ∙ e));
           ring = λ n.
               let (p, k) = j .loop (sym ends-here ∙ n) in
-              (p, laid-pieces d w t here (remove g d′) (d′ .curves) ps l (link g f h) look same (occ-gone g (d′ .curves)) (λ p. e) (λ p. o) p p k);
+              (p, pieces-added-chain d w t here (remove g d′) (d′ .curves) ps l (link g f h) look same (occ-gone g (d′ .curves)) (λ p. e) (λ p. o) p p k);
         })
 
     some-of : (o : Option Curve) (e : ℕ × ℕ) → endsAt o ≡ some e → (x : Curve) × (o ≡ some x)
@@ -123,12 +123,12 @@ module _ (met : Drawing → Bool) (m : Limits) (d : Drawing) (w : Low (d .next) 
 
     -- the second piece goes, after the swap where it was the first
     without-at :
-        (d′ : Drawing) (a b mid : ℕ) (g : Piece) (gs : List Piece) (js : List ℕ) → Laid (d .next) (d .curves) t (d′ .next) (d′ .curves) (link t a mid ∷ g ∷ gs) → Linked mid (g ∷ gs) b
+        (d′ : Drawing) (a b mid : ℕ) (g : Piece) (gs : List Piece) (js : List ℕ) → PiecesAdded (d .next) (d .curves) t (d′ .next) (d′ .curves) (link t a mid ∷ g ∷ gs) → Linked mid (g ∷ gs) b
         → ((x y : ℕ) → endsOf (c .kind) ≡ some (x, y) → (a ≡ x) × (b ≡ y)) → (endsOf (c .kind) ≡ none → a ≡ b) → (first-goes : Bool) → Holds (ShapeAt t) (removePiece m t first-goes (g .curve ∷ js) d′)
     unfolding removePiece swapKinds
     without-at d′ a b mid g gs js l j h o false =
         holds-then (λ d″ u. Same d′ d″) (ShapeAt t) (tie m d′ t js) _ (same-tie m d′ t js) λ d″ u s.
-        let k = laid-same s l in
+        let k = pieces-added-same s l in
         close-without (g .curve) d″ (link t a mid ∷ g ∷ gs) k (g .from) (g .to) (k .stand .1 .0) (omega (arith, occ-same (g .curve) (names gs)))
         (way a b (link t a mid ∷ g ∷ gs) h o (refl, j))
     without-at d′ a b mid g gs js l j h o true =
@@ -136,24 +136,24 @@ module _ (met : Drawing → Bool) (m : Limits) (d : Drawing) (w : Low (d .next) 
         let (y, ey) = some-of (curveIn (d′ .curves) (g .curve)) (g .from, g .to) (l .stand .1 .0) in
         let e = swap-is t (g .curve) d′ x y ex ey in
         let d₁ : Drawing = setKind (g .curve) (x .kind) (setKind t (y .kind) d′) in
-        let k = laid-swap (g .curve) a mid (g .from) (g .to) l (t-below d w t here) x y ex ey in
+        let k = pieces-added-swap (g .curve) a mid (g .from) (g .to) l (t-below d w t here) x y ex ey in
         subst (λ (z : Drawing). Holds (ShapeAt t) (tie m z t js then (λ d″ u. removal (g .curve) d″))) (sym e)
         (holds-then (λ d″ u. Same d₁ d″) (ShapeAt t) (tie m d₁ t js) _ (same-tie m d₁ t js) λ d″ u s.
-        let q : Laid (d .next) (d .curves) t (d″ .next) (d″ .curves) (link (g .curve) a mid ∷ link t (g .from) (g .to) ∷ gs) = laid-same s k in
+        let q : PiecesAdded (d .next) (d .curves) t (d″ .next) (d″ .curves) (link (g .curve) a mid ∷ link t (g .from) (g .to) ∷ gs) = pieces-added-same s k in
         close-without (g .curve) d″ (link (g .curve) a mid ∷ link t (g .from) (g .to) ∷ gs) q a mid (q .stand .0) (omega (arith, occ-same (g .curve) (t ∷ names gs)))
         (way a b (link (g .curve) a mid ∷ link t (g .from) (g .to) ∷ gs) h o (refl, j)))
 
     without-shape : (d′ : Drawing) (is : List ℕ) (first-goes : Bool) → PartedOf (c .kind) t d′ is → Holds (ShapeAt t) (removePiece m t first-goes is d′)
     unfolding removePiece
-    without-shape d′ is u q = go (q .cut-is .rest) (q .cut-is .laid) (q .cut-is .named) (q .cut-is .linked) is
+    without-shape d′ is u q = go (q .cut-is .rest) (q .cut-is .pieces-added) (q .cut-is .named) (q .cut-is .linked) is
       where
-        go : (rest : List Piece) → Laid (d .next) (d .curves) t (d′ .next) (d′ .curves) (link t (q .a) (q .cut-is .mid) ∷ rest) → names rest ≡ is → Linked (q .cut-is .mid) rest (q .b) → (js : List ℕ) → Holds (ShapeAt t) (removePiece m t u is d′)
+        go : (rest : List Piece) → PiecesAdded (d .next) (d .curves) t (d′ .next) (d′ .curves) (link t (q .a) (q .cut-is .mid) ∷ rest) → names rest ≡ is → Linked (q .cut-is .mid) rest (q .b) → (js : List ℕ) → Holds (ShapeAt t) (removePiece m t u is d′)
         go [] l e j js = subst (λ (z : List ℕ). Holds (ShapeAt t) (removePiece m t u z d′)) e tt
         go (g ∷ gs) l e j js = subst (λ (z : List ℕ). Holds (ShapeAt t) (removePiece m t u z d′)) e (without-at d′ (q .a) (q .b) (q .cut-is .mid) g gs (names gs) l j (q .whose) (q .round) u)
 
     -- the curve as it was
-    start : (a b : ℕ) → endsOf (c .kind) ≡ some (a, b) → Laid (d .next) (d .curves) t (d .next) (d .curves) (link t a b ∷ [])
-    start a b e = laid-one (d .next) (d .curves) t (d .next) (d .curves) a b w (omega arith) refl (λ i ne. refl) (ends-here ∙ e)
+    start : (a b : ℕ) → endsOf (c .kind) ≡ some (a, b) → PiecesAdded (d .next) (d .curves) t (d .next) (d .curves) (link t a b ∷ [])
+    start a b e = pieces-added-one (d .next) (d .curves) t (d .next) (d .curves) a b w (omega arith) refl (λ i ne. refl) (ends-here ∙ e)
 
     way-start : (a b : ℕ) → endsOf (c .kind) ≡ some (a, b) → Way (link t a b ∷ [])
     way-start a b e = way a b (link t a b ∷ []) (λ x y f. pair a b x y (sym e ∙ f)) (λ f. let z : _≡_ {A = ℕ} 0 1 = cc in absurd (omega arith)) (refl, refl)
@@ -186,11 +186,11 @@ module _ (met : Drawing → Bool) (m : Limits) (d : Drawing) (w : Low (d .next) 
         go none q = tt
         go (some (a, b)) q =
             let i : ℕ = ite at-end b a in
-            holds-need (ShapeAt t) _ 24 _ λ u.
+            holds-guard (ShapeAt t) _ 24 _ λ u.
             holds-then (λ d′ v. Same (movePoint i s d) d′) (ShapeAt t) (pin m (movePoint i s d) i p) _ (same-pin m (movePoint i s d) i p) λ d′ v h.
-            holds-need (ShapeAt t) _ 19 _ λ z.
-            let l : Laid (d .next) (d .curves) t (movePoint i s d .next) (movePoint i s d .curves) (link t a b ∷ []) = start a b q in
-            close d′ (link t a b ∷ []) (laid-same h l) (way-start a b q)
+            holds-guard (ShapeAt t) _ 19 _ λ z.
+            let l : PiecesAdded (d .next) (d .curves) t (movePoint i s d .next) (movePoint i s d .curves) (link t a b ∷ []) = start a b q in
+            close d′ (link t a b ∷ []) (pieces-added-same h l) (way-start a b q)
 
     release-same : Same d (releaseExtent t (c .kind) d)
     release-same = record { curves = refl; grows = omega arith }
@@ -198,14 +198,14 @@ module _ (met : Drawing → Bool) (m : Limits) (d : Drawing) (w : Low (d .next) 
     split-cut : (ss : List Vec2) (u : Bool) → Holds (λ d″ q. PartedOf (c .kind) t d″ (q .pieces)) (addPoints m (releaseExtent t (c .kind) d) ss then (λ d′ ps. addPieces m d′ t u ps (piecesOf (c .kind) ps)))
     split-cut ss u =
         holds-then (λ d′ ps. Same (releaseExtent t (c .kind) d) d′) (λ d″ q. PartedOf (c .kind) t d″ (q .pieces)) (addPoints m (releaseExtent t (c .kind) d) ss) _ (same-points m (releaseExtent t (c .kind) d) ss) λ d′ ps s.
-        lay-cut (c .kind) d′ (same-trans release-same s) u ps
+        add-pieces-cut (c .kind) d′ (same-trans release-same s) u ps
 
     cut-same : {is : List ℕ} (d′ d″ : Drawing) → Same d′ d″ → PartedOf (c .kind) t d′ is → PartedOf (c .kind) t d″ is
     cut-same d′ d″ s q =
         record {
           a = q .a;
           b = q .b;
-          cut-is = record { mid = q .cut-is .mid; rest = q .cut-is .rest; laid = laid-same s (q .cut-is .laid); named = q .cut-is .named; linked = q .cut-is .linked };
+          cut-is = record { mid = q .cut-is .mid; rest = q .cut-is .rest; pieces-added = pieces-added-same s (q .cut-is .pieces-added); named = q .cut-is .named; linked = q .cut-is .linked };
           whose = q .whose;
           round = q .round;
         }
@@ -221,7 +221,7 @@ module _ (met : Drawing → Bool) (m : Limits) (d : Drawing) (w : Low (d .next) 
       holds-then (λ d′ q. PartedOf (c .kind) (c .id) d′ (q .pieces)) (ShapeAt (c .id)) (splitAt m (releaseExtent (c .id) (c .kind) d) c vs) _ (split-cut (c .id) c at vs (c .construction)) λ d′ q h.
       holds-then (λ d″ u. Same d′ d″) (ShapeAt (c .id)) (tie m d′ (c .id) (q .pieces)) _ (same-tie m d′ (c .id) (q .pieces)) λ d″ u s.
       let k = cut-same (c .id) c at d′ d″ s h in
-      close (c .id) c at d″ (link (c .id) (k .a) (k .cut-is .mid) ∷ k .cut-is .rest) (k .cut-is .laid) (way (c .id) c at (k .a) (k .b) (link (c .id) (k .a) (k .cut-is .mid) ∷ k .cut-is .rest) (k .whose) (k .round) (refl, k .cut-is .linked))
+      close (c .id) c at d″ (link (c .id) (k .a) (k .cut-is .mid) ∷ k .cut-is .rest) (k .cut-is .pieces-added) (way (c .id) c at (k .a) (k .b) (link (c .id) (k .a) (k .cut-is .mid) ∷ k .cut-is .rest) (k .whose) (k .round) (refl, k .cut-is .linked))
 
   applied-shape : (c : Curve) → curveIn (d .curves) (c .id) ≡ some c → (plan : Plan) → Holds (ShapeAt (c .id)) (applyPlanTo met m d c plan)
   unfolding applyPlanTo

@@ -20,7 +20,7 @@ use Rattle.sketch.proofs.Bools.{never, and-left, and-right, both}
 use Rattle.edit_plan.specs.Outcome.{_then_}
 use Rattle.edit_plan.specs.Tables.{newCurve, addCurve, setKind}
 use Rattle.edit_plan.specs.Steps.{links, piecesOf, addPoints, addCurves, Parts, addPieces}
-use Rattle.edit_plan.proofs.Tables.{Holds, holds-map, holds-then, holds-need, look-some}
+use Rattle.edit_plan.proofs.Tables.{Holds, holds-map, holds-then, holds-guard, look-some}
 use Rattle.edit_plan.proofs.Every.{or-right, or-cases, among-same, rising-look, every-in, differ-is, is-differ, every-imp, rising-among}
 use Rattle.chains.proofs.Grown.{has, sortOn, alike, soundKind}
 use Rattle.chains.proofs.Steps.{grown-curve, new-curve, valid-curve, grown-set, valid-set}
@@ -73,7 +73,7 @@ module _ (m : Limits) where
     keep-curve : (d : Drawing) (x y : ℕ) (u : Bool) → Valid m d → w .Vertex (has d) x → w .Vertex (has d) y → (x ≡ y → ⊥) → Holds (CurveHeld d) (addCurve m d (f x y) u)
     unfolding sortAt
     keep-curve d x y u v p q ne =
-        holds-need (CurveHeld d) _ 23 _ λ a. holds-need (CurveHeld d) _ 22 _ λ b.
+        holds-guard (CurveHeld d) _ 23 _ λ a. holds-guard (CurveHeld d) _ 22 _ λ b.
         record {
           held = record { valid = valid-curve m d v (f x y) u (ltb-true _ _ a) (ltb-true _ _ b) (w .ok x y (d .next) u) (w .sound (has d) x y p q ne); grown = grown-curve m d v (f x y) u };
           sort-is = ap sortAt (new-curve m d v (f x y) u) ∙ w .sort x y;
@@ -110,7 +110,7 @@ module _ (m : Limits) where
             grown = grown-set m d v t (f x y) c at (same-sort x y);
           }
 
-      record LaidHeld (ps : List ℕ) (d′ : Drawing) (q : Parts) : Type 0 where
+      record PiecesHeld (ps : List ℕ) (d′ : Drawing) (q : Parts) : Type 0 where
         held : Kept m d d′
         sort-is : sortOn d′ t ≡ s
         sorted : Sorted d′ s (q .pieces)
@@ -121,14 +121,14 @@ module _ (m : Limits) where
       unfolding sortAt
       here-sort = ap sortAt at ∙ sc
 
-      keep-lay : (u : Bool) (ps : List ℕ) (a : ℕ) (qs : List ℕ) (b : ℕ) → Walk (has d) a qs b → Holds (LaidHeld ps) (addPieces m d t u ps (links f a qs b))
+      keep-add-pieces : (u : Bool) (ps : List ℕ) (a : ℕ) (qs : List ℕ) (b : ℕ) → Walk (has d) a qs b → Holds (PiecesHeld ps) (addPieces m d t u ps (links f a qs b))
       unfolding addPieces Walk
-      keep-lay u ps a [] b x =
+      keep-add-pieces u ps a [] b x =
           let g = set-held a b (x .0) (x .1) (x .2) in
           record { held = g; sort-is = sort-grown d (setKind t (f a b) d) (g .grown) s (w .solid) t here-sort; sorted = tt; up = tt; same = refl }
-      keep-lay u ps a (q ∷ qs) b x =
+      keep-add-pieces u ps a (q ∷ qs) b x =
           let g = set-held a q (x .0) (x .1) (x .2) in
-          holds-then (CurvesHeld (setKind t (f a q) d)) (LaidHeld ps) (addCurves m (setKind t (f a q) d) (links f q qs b) u) _ (keep-curves (setKind t (f a q) d) q qs b u (g .valid) (x .3)) λ d′ is k.
+          holds-then (CurvesHeld (setKind t (f a q) d)) (PiecesHeld ps) (addCurves m (setKind t (f a q) d) (links f q qs b) u) _ (keep-curves (setKind t (f a q) d) q qs b u (g .valid) (x .3)) λ d′ is k.
           record {
             held = kept-trans m g (k .held);
             sort-is = sort-grown (setKind t (f a q) d) d′ (k .held .grown) s (w .solid) t (sort-grown d (setKind t (f a q) d) (g .grown) s (w .solid) t here-sort);
@@ -201,7 +201,7 @@ module _ (m : Limits) where
       new : (p : ℕ) → among p ps ≡ true → has d₁ p ≡ true
       new p q = every-in (has d₁) ps p (h .there) q
 
-      to-split : {s : ℕ} {f : ℕ → ℕ → CurveKind} (w : Maker s f) (sc : sortOf (c .kind) ≡ s) (d₂ : Drawing) (q : Parts) → LaidHeld w d₁ (h .held .valid) t c at₁ sc ps d₂ q → SplitHeld d t d₂ q
+      to-split : {s : ℕ} {f : ℕ → ℕ → CurveKind} (w : Maker s f) (sc : sortOf (c .kind) ≡ s) (d₂ : Drawing) (q : Parts) → PiecesHeld w d₁ (h .held .valid) t c at₁ sc ps d₂ q → SplitHeld d t d₂ q
       to-split {s} w sc d₂ q k =
           record {
             sort = s;
@@ -216,8 +216,8 @@ module _ (m : Limits) where
       round-split : (o a : ℕ) (qs : List ℕ) (b : ℕ) (ks : List CurveKind) → links (Arc o) a qs b ≡ ks → sortOf (c .kind) ≡ 2 → Walk (arcs o) (has d₁) a qs b → Holds (SplitHeld d t) (addPieces m d₁ t u ps ks)
       round-split o a qs b ks e sc x =
           subst (λ (z : List CurveKind). Holds (SplitHeld d t) (addPieces m d₁ t u ps z)) e
-          (holds-map (LaidHeld (arcs o) d₁ (h .held .valid) t c at₁ sc ps) (SplitHeld d t) (addPieces m d₁ t u ps (links (Arc o) a qs b)) (to-split (arcs o) sc)
-          (keep-lay (arcs o) d₁ (h .held .valid) t c at₁ sc u ps a qs b x))
+          (holds-map (PiecesHeld (arcs o) d₁ (h .held .valid) t c at₁ sc ps) (SplitHeld d t) (addPieces m d₁ t u ps (links (Arc o) a qs b)) (to-split (arcs o) sc)
+          (keep-add-pieces (arcs o) d₁ (h .held .valid) t c at₁ sc u ps a qs b x))
 
       keep-pieces : (k : CurveKind) → c .kind ≡ k → Holds (SplitHeld d t) (addPieces m d₁ t u ps (piecesOf k ps))
       unfolding piecesOf addPieces usesOf distinct sortOf Walk lines arcs
@@ -227,8 +227,8 @@ module _ (m : Limits) where
           let ha = and-left (has d a) (has d b && true) y in
           let hb = and-left (has d b) true (and-right (has d a) (has d b && true) y) in
           let sc : sortOf (c .kind) ≡ 1 = ap sortOf e in
-          holds-map (LaidHeld lines d₁ (h .held .valid) t c at₁ sc ps) (SplitHeld d t) (addPieces m d₁ t u ps (links Line a ps b)) (to-split lines sc)
-          (keep-lay lines d₁ (h .held .valid) t c at₁ sc u ps a ps b
+          holds-map (PiecesHeld lines d₁ (h .held .valid) t c at₁ sc ps) (SplitHeld d t) (addPieces m d₁ t u ps (links Line a ps b)) (to-split lines sc)
+          (keep-add-pieces lines d₁ (h .held .valid) t c at₁ sc u ps a ps b
           (walk-up lines (has d₁) (d .next) a ps b (point-low a ha) (point-low b hb) (differ-is a b (and-right (has d a && (has d b && true)) (differ a b) x)) (old a ha) (old b hb) new (h .up)))
       keep-pieces (Arc o a b) e =
           let x = sound-as (Arc o a b) e in

@@ -58,7 +58,7 @@ module _ {A : Type 0} where
       let g : suc i + (n - suc i) ≡ n = omega arith in
       rw (← g) (any-more p (suc i) (n - suc i) f (any-rows p i f ∙ rw e (or-true (any p (rows i f)))))
 
--- the same test of the same rows, in two tables
+-- two tests that agree row by row agree on both tables
 pub any-across : {A B : Type 0} (p : A → Bool) (q : B → Bool) (n : ℕ) (f : ℕ → A) (g : ℕ → B) → ((i : ℕ) → i < n → p (f i) ≡ q (g i)) → any p (rows n f) ≡ any q (rows n g)
 unfolding rows any
 any-across p q zero f g h = refl

@@ -30,8 +30,8 @@ use Rattle.edit_plan.specs.Suited.{PinHolds}
 use Rattle.edit_plan.specs.Changes.{isCircle, isWhole, startOf, endOf, pieceOf, keptPiece, gonePiece, pinRelation, cutMiddle, changeFor, extentOf, staying, unusedBy, candidatesFor}
 use Rattle.edit_plan.specs.Room.{mkAdditions, additionsFor, roomWith}
 use Rattle.edit_plan.proofs.Leaves.{or-false}
-use Rattle.edit_plan.proofs.Bridge.{unlessRefused, needPoint, needCurve, needRelation, freed, isOpen, openLaid, middleLaid, cut-chain, middle-chain, room-one, room-middle}
-use Rattle.edit_plan.proofs.Finals.{same, Given, stays, laid, swapped, removal-is, used-is, kept-used, added-used, tie-stays, pin-stays, none-go, end-used, report-is, far-alone, middle-used}
+use Rattle.edit_plan.proofs.Bridge.{unlessRefused, guardPoint, guardCurve, guardRelation, freed, isOpen, openAdded, middleAdded, cut-chain, middle-chain, room-one, room-middle}
+use Rattle.edit_plan.proofs.Finals.{same, Given, stays, withPieces, swapped, removal-is, used-is, kept-used, added-used, tie-stays, pin-stays, none-go, end-used, report-is, far-alone, middle-used}
 use Rattle.edit_plan.proofs.AtOnce.{finalOf, orphansOf, roomNumber, left-cut, freed-is, given, sound, start-old, end-old, target-old, pin-apart, old-other}
 
 module _ {m : Limits} {d : Drawing} (v : Valid m d) (c : Curve) (found : curveIn (d .curves) (c .id) ≡ some c) where
@@ -69,8 +69,8 @@ module _ {m : Limits} {d : Drawing} (v : Valid m d) (c : Curve) (found : curveIn
       either : (isOpen (c .kind) || isCircle (c .kind)) ≡ true
       either = rw o
 
-      swap-is : (x : Bool) → let l = laid d c (suc i) at-g ps rs (suc (suc i)) (pieceOf (c .kind) a i) (pieceOf (c .kind) i z) in
-          ite x (swap (c .id) (suc i) l) l ≡ laid d c (suc i) at-g ps rs (suc (suc i)) (keptPiece (c .kind) x a i z) (gonePiece (c .kind) x a i z)
+      swap-is : (x : Bool) → let l = withPieces d c (suc i) at-g ps rs (suc (suc i)) (pieceOf (c .kind) a i) (pieceOf (c .kind) i z) in
+          ite x (swap (c .id) (suc i) l) l ≡ withPieces d c (suc i) at-g ps rs (suc (suc i)) (keptPiece (c .kind) x a i z) (gonePiece (c .kind) x a i z)
       swap-is true = swapped d c (suc i) at-g ps rs (suc (suc i)) (pieceOf (c .kind) a i) (pieceOf (c .kind) i z)
       swap-is false = refl
 
@@ -98,13 +98,13 @@ module _ {m : Limits} {d : Drawing} (v : Valid m d) (c : Curve) (found : curveIn
           let nc = length (d .curves) in
           let nr = length (freed c (d .relations)) in
           let r : Outcome Drawing Removed = accepted (finalOf d c h e (orphansOf d c (Cut w b))) (h .removed) in
-          let ends : removal (suc i) (ite b (swap (c .id) (suc i) (openLaid met m d c found o (w .at) (freed c (d .relations) ++ rs))) (openLaid met m d c found o (w .at) (freed c (d .relations) ++ rs))) ≡ r =
+          let ends : removal (suc i) (ite b (swap (c .id) (suc i) (openAdded met m d c found o (w .at) (freed c (d .relations) ++ rs))) (openAdded met m d c found o (w .at) (freed c (d .relations) ++ rs))) ≡ r =
           ap (removal (suc i)) (swap-is b) ∙ removal-is d c (suc i) at-g ps rs (suc (suc i)) kept gone [] refl pinned-stays
           ∙ ap (λ l. accepted (record { next = suc (suc i); points = keep (λ p. staying os (p .id)) ps; curves = map (rekind (c .id) kept) (d .curves) ++ []; relations = l ++ rs }) (reported (suc i) (endsOf gone))) (left-cut c (Cut w b) os (d .relations) refl)
           ∙ ap (λ x. accepted (finalOf d c h e x) (reported (suc i) (endsOf gone))) orphans-are
           ∙ ap (accepted (finalOf d c h e (orphansOf d c (Cut w b)))) (report-is b (c .kind) (suc i) a i z either) in
           cut-chain met m d c found o w (pin-apart v c found (w .pin) i held (omega arith)) b
-          ∙ ap (λ x. needPoint m i np (w .at) (needCurve m (suc i) nc (needRelation m nr x))) ends
+          ∙ ap (λ x. guardPoint m i np (w .at) (guardCurve m (suc i) nc (guardRelation m nr x))) ends
           ∙ sym (room-one m i np nc nr r (w .at))
           ∙ ap (λ x. unlessRefused (roomWith m i np nc (not (ltb (x + 0) (m .relations))) (mkAdditions (w .at) (w .at) 0 0 0)) r) (sym (freed-is c (Cut w b) (d .relations)))
 
@@ -182,16 +182,16 @@ module _ {m : Limits} {d : Drawing} (v : Valid m d) (c : Curve) (found : curveIn
           let r : Outcome Drawing Removed = accepted (finalOf d c h e []) (h .removed) in
           let cs = map (rekind (c .id) first) (d .curves) in
           let g-piece = newCurve g middle (c .construction) in
-          let laid-is : middleLaid met m d c found o (w .at) (u .at) (((fs ++ (pinRelation (w .pin) i ∷ [])) ++ (pinRelation (u .pin) j ∷ [])) ++ (tieRelation (isLine (c .kind)) (c .id) (suc g) ∷ [])) ≡ record { next = suc (suc g); points = points; curves = cs ++ (g-piece ∷ ys); relations = fs ++ relations } =
+          let added-is : middleAdded met m d c found o (w .at) (u .at) (((fs ++ (pinRelation (w .pin) i ∷ [])) ++ (pinRelation (u .pin) j ∷ [])) ++ (tieRelation (isLine (c .kind)) (c .id) (suc g) ∷ [])) ≡ record { next = suc (suc g); points = points; curves = cs ++ (g-piece ∷ ys); relations = fs ++ relations } =
           same _ _ _ _ _ _ _ _ refl (append-assoc (d .points) (newPoint i (w .at) ∷ []) (newPoint j (u .at) ∷ [])) (append-assoc cs (g-piece ∷ []) ys)
           (ap (λ l. l ++ (tieRelation (isLine (c .kind)) (c .id) (suc g) ∷ [])) (append-assoc fs (pinRelation (w .pin) i ∷ []) (pinRelation (u .pin) j ∷ [])) ∙ append-assoc fs (pinRelation (w .pin) i ∷ pinRelation (u .pin) j ∷ []) (tieRelation (isLine (c .kind)) (c .id) (suc g) ∷ [])) in
-          let ends : removal g (middleLaid met m d c found o (w .at) (u .at) (((fs ++ (pinRelation (w .pin) i ∷ [])) ++ (pinRelation (u .pin) j ∷ [])) ++ (tieRelation (isLine (c .kind)) (c .id) (suc g) ∷ []))) ≡ r =
-          ap (removal g) laid-is ∙ removal-is d c g free points relations (suc (suc g)) first middle ys apart-last all-stay
+          let ends : removal g (middleAdded met m d c found o (w .at) (u .at) (((fs ++ (pinRelation (w .pin) i ∷ [])) ++ (pinRelation (u .pin) j ∷ [])) ++ (tieRelation (isLine (c .kind)) (c .id) (suc g) ∷ []))) ≡ r =
+          ap (removal g) added-is ∙ removal-is d c g free points relations (suc (suc g)) first middle ys apart-last all-stay
           ∙ ap (λ l. accepted (record { next = suc (suc g); points = keep (λ p. staying unused (p .id)) points; curves = cs ++ ys; relations = l ++ relations }) (reported g (endsOf middle))) (left-cut c plan unused (d .relations) refl)
           ∙ ap (λ x. accepted (finalOf d c h e x) (reported g (endsOf middle))) none-unused
           ∙ ap (accepted (finalOf d c h e [])) report-middle in
           middle-chain met m d c found o w u (pin-apart v c found (w .pin) i held (omega arith)) (pin-apart v c found (u .pin) j held′ (omega arith))
-          ∙ ap (λ x. needPoint m i np (w .at) (needPoint m j (suc np) (u .at) (needCurve m g nc (needCurve m (suc g) (suc nc) (needRelation m nr (needRelation m (suc nr) (needRelation m (suc (suc nr)) x))))))) ends
+          ∙ ap (λ x. guardPoint m i np (w .at) (guardPoint m j (suc np) (u .at) (guardCurve m g nc (guardCurve m (suc g) (suc nc) (guardRelation m nr (guardRelation m (suc nr) (guardRelation m (suc (suc nr)) x))))))) ends
           ∙ sym (room-middle m i np nc nr r (w .at) (u .at))
           ∙ ap (λ x. unlessRefused (roomWith m i np nc (not (ltb (x + 2) (m .relations))) (mkAdditions (w .at) (u .at) 1 1 2)) r) (sym (freed-is c plan (d .relations)))
           ∙ rw circle

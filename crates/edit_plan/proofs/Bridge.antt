@@ -32,10 +32,10 @@ use Rattle.edit_plan.proofs.Leaves.{add-none, add-two}
 
 -- ---- tests go to the front
 
-pub need-then : {D A B : Type 0} (b : Bool) (n : ℕ) (o : Outcome D A) (f : D → A → Outcome D B) → (guard b n o then f) ≡ guard b n (o then f)
+pub guard-then : {D A B : Type 0} (b : Bool) (n : ℕ) (o : Outcome D A) (f : D → A → Outcome D B) → (guard b n o then f) ≡ guard b n (o then f)
 unfolding guard
-need-then true n o f = refl
-need-then false n o f = refl
+guard-then true n o f = refl
+guard-then false n o f = refl
 
 -- what a number decides: 0 accepts
 unfoldable pub unlessRefused : {D A : Type 0} → ℕ → Outcome D A → Outcome D A
@@ -60,22 +60,22 @@ module _ {D A : Type 0} where
   again true n o = refl
   again false n o = refl
 
-  need-in : (b : Bool) (n : ℕ) (o o′ : Outcome D A) → (b ≡ true → o ≡ o′) → guard b n o ≡ guard b n o′
+  guard-in : (b : Bool) (n : ℕ) (o o′ : Outcome D A) → (b ≡ true → o ≡ o′) → guard b n o ≡ guard b n o′
   unfolding guard
-  need-in true n o o′ h = h refl
-  need-in false n o o′ h = refl
+  guard-in true n o o′ h = h refl
+  guard-in false n o o′ h = refl
 
-  abbrev pub needPoint : Limits → ℕ → ℕ → Vec2 → Outcome D A → Outcome D A
-  needPoint m i n v o = guard (ltb i (m .ids)) 23 (guard (ltb n (m .points)) 22 (guard (okPosition v) 24 o))
+  abbrev pub guardPoint : Limits → ℕ → ℕ → Vec2 → Outcome D A → Outcome D A
+  guardPoint m i n v o = guard (ltb i (m .ids)) 23 (guard (ltb n (m .points)) 22 (guard (okPosition v) 24 o))
 
-  abbrev pub needCurve : Limits → ℕ → ℕ → Outcome D A → Outcome D A
-  needCurve m i n o = guard (ltb i (m .ids)) 23 (guard (ltb n (m .curves)) 22 o)
+  abbrev pub guardCurve : Limits → ℕ → ℕ → Outcome D A → Outcome D A
+  guardCurve m i n o = guard (ltb i (m .ids)) 23 (guard (ltb n (m .curves)) 22 o)
 
-  abbrev pub needRelation : Limits → ℕ → Outcome D A → Outcome D A
-  needRelation m n o = guard (ltb n (m .relations)) 22 o
+  abbrev pub guardRelation : Limits → ℕ → Outcome D A → Outcome D A
+  guardRelation m n o = guard (ltb n (m .relations)) 22 o
 
   module _ (m : Limits) where
-    point-again : (i n : ℕ) (v : Vec2) (o : Outcome D A) → needPoint m i n v (needPoint m i n v o) ≡ needPoint m i n v o
+    point-again : (i n : ℕ) (v : Vec2) (o : Outcome D A) → guardPoint m i n v (guardPoint m i n v o) ≡ guardPoint m i n v o
     unfolding guard
     point-again i n v o = go (ltb i (m .ids)) (ltb n (m .points)) (okPosition v)
       where
@@ -85,7 +85,7 @@ module _ {D A : Type 0} where
         go true false c = refl
         go false b c = refl
 
-    curve-again : (i n : ℕ) (o : Outcome D A) → needCurve m i n (needCurve m i n o) ≡ needCurve m i n o
+    curve-again : (i n : ℕ) (o : Outcome D A) → guardCurve m i n (guardCurve m i n o) ≡ guardCurve m i n o
     unfolding guard
     curve-again i n o = go (ltb i (m .ids)) (ltb n (m .curves))
       where
@@ -94,7 +94,7 @@ module _ {D A : Type 0} where
         go true false = refl
         go false b = refl
 
-    relation-lower : (a b : ℕ) (o : Outcome D A) → a ≤ b → needRelation m a (needRelation m b o) ≡ needRelation m b o
+    relation-lower : (a b : ℕ) (o : Outcome D A) → a ≤ b → guardRelation m a (guardRelation m b o) ≡ guardRelation m b o
     unfolding guard
     relation-lower a b o h = go (ltb b (m .relations)) refl
       where
@@ -110,7 +110,7 @@ module _ {D A : Type 0} where
     room-needs :
         (i np nc nr : ℕ) (v u : Vec2) (p q r : ℕ) (o : Outcome D A)
         → unlessRefused (roomWith m i np nc (not (ltb (nr + r) (m .relations))) (mkAdditions v u p q r)) o
-        ≡ needPoint m i np v (needPoint m (i + p) (np + p) u (needCurve m (suc (i + p)) nc (needCurve m (suc (i + p) + q) (nc + q) (needRelation m (nr + r) o))))
+        ≡ guardPoint m i np v (guardPoint m (i + p) (np + p) u (guardCurve m (suc (i + p)) nc (guardCurve m (suc (i + p) + q) (nc + q) (guardRelation m (nr + r) o))))
     unfolding roomWith
     room-needs i np nc nr v u p q r o = simp (unless-refused-guard, unless-refused-none, not-not)
       where
@@ -120,18 +120,18 @@ module _ {D A : Type 0} where
 
     module _ (i np nc nr : ℕ) (o : Outcome D A) where
       -- one place: a point, a curve and a relation
-      pub room-one : (v : Vec2) → unlessRefused (roomWith m i np nc (not (ltb (nr + 0) (m .relations))) (mkAdditions v v 0 0 0)) o ≡ needPoint m i np v (needCurve m (suc i) nc (needRelation m nr o))
+      pub room-one : (v : Vec2) → unlessRefused (roomWith m i np nc (not (ltb (nr + 0) (m .relations))) (mkAdditions v v 0 0 0)) o ≡ guardPoint m i np v (guardCurve m (suc i) nc (guardRelation m nr o))
       room-one v = room-needs i np nc nr v v 0 0 0 o ∙ simp (add-none, point-again, curve-again)
 
       -- two places of a circle: two points, a curve, and one or two relations
-      pub room-circle : (v u : Vec2) → unlessRefused (roomWith m i np nc (not (ltb (nr + 0) (m .relations))) (mkAdditions v u 1 0 0)) o ≡ needPoint m i np v (needPoint m (suc i) (suc np) u (needCurve m (suc (suc i)) nc (needRelation m nr o)))
+      pub room-circle : (v u : Vec2) → unlessRefused (roomWith m i np nc (not (ltb (nr + 0) (m .relations))) (mkAdditions v u 1 0 0)) o ≡ guardPoint m i np v (guardPoint m (suc i) (suc np) u (guardCurve m (suc (suc i)) nc (guardRelation m nr o)))
       room-circle v u = room-needs i np nc nr v u 1 0 0 o ∙ simp (add-none, add-one, curve-again)
 
-      pub room-pinned : (v u : Vec2) → unlessRefused (roomWith m i np nc (not (ltb (nr + 1) (m .relations))) (mkAdditions v u 1 0 1)) o ≡ needPoint m i np v (needPoint m (suc i) (suc np) u (needCurve m (suc (suc i)) nc (needRelation m nr (needRelation m (suc nr) o))))
+      pub room-pinned : (v u : Vec2) → unlessRefused (roomWith m i np nc (not (ltb (nr + 1) (m .relations))) (mkAdditions v u 1 0 1)) o ≡ guardPoint m i np v (guardPoint m (suc i) (suc np) u (guardCurve m (suc (suc i)) nc (guardRelation m nr (guardRelation m (suc nr) o))))
       room-pinned v u = room-needs i np nc nr v u 1 0 1 o ∙ simp (add-none, add-one, curve-again, relation-lower nr (suc nr) o (omega arith))
 
       -- two places of a line or an arc: two points, two curves and three relations
-      pub room-middle : (v u : Vec2) → unlessRefused (roomWith m i np nc (not (ltb (nr + 2) (m .relations))) (mkAdditions v u 1 1 2)) o ≡ needPoint m i np v (needPoint m (suc i) (suc np) u (needCurve m (suc (suc i)) nc (needCurve m (suc (suc (suc i))) (suc nc) (needRelation m nr (needRelation m (suc nr) (needRelation m (suc (suc nr)) o))))))
+      pub room-middle : (v u : Vec2) → unlessRefused (roomWith m i np nc (not (ltb (nr + 2) (m .relations))) (mkAdditions v u 1 1 2)) o ≡ guardPoint m i np v (guardPoint m (suc i) (suc np) u (guardCurve m (suc (suc i)) nc (guardCurve m (suc (suc (suc i))) (suc nc) (guardRelation m nr (guardRelation m (suc nr) (guardRelation m (suc (suc nr)) o))))))
       room-middle v u =
           room-needs i np nc nr v u 1 1 2 o
           ∙ simp (add-one, add-two, relation-lower (suc nr) (suc (suc nr)) o (omega arith), relation-lower nr (suc (suc nr)) o (omega arith))
@@ -194,8 +194,8 @@ line-piece (Bezier n) p q = refl
 line-piece (Conic a u b rho) p q = refl
 
 -- the target's sort after its first piece was set and others were added
-pub line-laid : (cs ys : List Curve) (t : ℕ) (c : Curve) (p q : ℕ) → curveIn cs t ≡ some c → lineAt (curveIn (map (rekind (c .id) (pieceOf (c .kind) p q)) cs ++ ys) t) ≡ isLine (c .kind)
-line-laid cs ys t c p q e =
+pub line-added : (cs ys : List Curve) (t : ℕ) (c : Curve) (p q : ℕ) → curveIn cs t ≡ some c → lineAt (curveIn (map (rekind (c .id) (pieceOf (c .kind) p q)) cs ++ ys) t) ≡ isLine (c .kind)
+line-added cs ys t c p q e =
     let k = pieceOf (c .kind) p q in
     ap lineAt (look-front (map (rekind (c .id) k) cs) ys t (rekind (c .id) k c) (look-set (c .id) k cs t c e))
     ∙ rw (eq-eqb (c .id) (c .id) refl) (line-piece (c .kind) p q)
@@ -231,8 +231,8 @@ module _ (met : Drawing → Bool) (m : Limits) (d : Drawing) (c : Curve) (found 
   nr = length (freed c (d .relations))
 
   -- the target with the kind k, then a piece g of the kind q
-  abbrev pub curvesLaid : CurveKind → ℕ → CurveKind → List Curve
-  curvesLaid k g q = map (rekind (c .id) k) (d .curves) ++ (newCurve g q (c .construction) ∷ [])
+  abbrev pub curvesAdded : CurveKind → ℕ → CurveKind → List Curve
+  curvesAdded k g q = map (rekind (c .id) k) (d .curves) ++ (newCurve g q (c .construction) ∷ [])
 
   module _ (o : isOpen (c .kind) ≡ true) where
     abbrev a : ℕ
@@ -241,39 +241,39 @@ module _ (met : Drawing → Bool) (m : Limits) (d : Drawing) (c : Curve) (found 
     abbrev b : ℕ
     b = endOf (c .kind)
 
-    abbrev pub openLaid : Vec2 → List Relation → Drawing
-    openLaid v rs =
+    abbrev pub openAdded : Vec2 → List Relation → Drawing
+    openAdded v rs =
         record {
           next = suc (suc i);
           points = d .points ++ (newPoint i v ∷ []);
-          curves = curvesLaid (pieceOf (c .kind) a i) (suc i) (pieceOf (c .kind) i b);
+          curves = curvesAdded (pieceOf (c .kind) a i) (suc i) (pieceOf (c .kind) i b);
           relations = rs;
         }
 
     pub divide-chain :
         (v : Vec2) → applyPlanTo met m d c (Divide v)
-        ≡ needPoint m i np v (needCurve m (suc i) nc (needRelation m nr (accepted (openLaid v (freed c (d .relations) ++ (tieRelation (isLine (c .kind)) (c .id) (suc i) ∷ []))) nothing)))
+        ≡ guardPoint m i np v (guardCurve m (suc i) nc (guardRelation m nr (accepted (openAdded v (freed c (d .relations) ++ (tieRelation (isLine (c .kind)) (c .id) (suc i) ∷ []))) nothing)))
     unfolding applyPlanTo addPieces
-    divide-chain v = simp (need-then, two-pieces (c .kind) i o, length-map, line-laid)
+    divide-chain v = simp (guard-then, two-pieces (c .kind) i o, length-map, line-added)
 
     module _ (w : PinnedPoint) (apart : Apart i (w .pin)) where
       pinned-there : (e : Drawing) → pin m e i (w .pin) ≡ addRelation m e (pinRelation (w .pin) i)
       pinned-there e = pin-is m e i (w .pin) apart
 
       pub cut-chain :
-          (first-goes : Bool) → let l = openLaid (w .at) (freed c (d .relations) ++ (pinRelation (w .pin) i ∷ [])) in
+          (first-goes : Bool) → let l = openAdded (w .at) (freed c (d .relations) ++ (pinRelation (w .pin) i ∷ [])) in
           applyPlanTo met m d c (Cut w first-goes)
-          ≡ needPoint m i np (w .at) (needCurve m (suc i) nc (needRelation m nr (removal (suc i) (ite first-goes (swap (c .id) (suc i) l) l))))
+          ≡ guardPoint m i np (w .at) (guardCurve m (suc i) nc (guardRelation m nr (removal (suc i) (ite first-goes (swap (c .id) (suc i) l) l))))
       unfolding applyPlanTo addPieces removePiece
-      cut-chain first-goes = simp (need-then, two-pieces (c .kind) i o, length-map, pinned-there)
+      cut-chain first-goes = simp (guard-then, two-pieces (c .kind) i o, length-map, pinned-there)
 
     -- two cuts: the last piece is new, too
-    abbrev pub middleLaid : Vec2 → Vec2 → List Relation → Drawing
-    middleLaid v u rs =
+    abbrev pub middleAdded : Vec2 → Vec2 → List Relation → Drawing
+    middleAdded v u rs =
         record {
           next = suc (suc (suc (suc i)));
           points = (d .points ++ (newPoint i v ∷ [])) ++ (newPoint (suc i) u ∷ []);
-          curves = curvesLaid (pieceOf (c .kind) a i) (suc (suc i)) (pieceOf (c .kind) i (suc i)) ++ (newCurve (suc (suc (suc i))) (pieceOf (c .kind) (suc i) b) (c .construction) ∷ []);
+          curves = curvesAdded (pieceOf (c .kind) a i) (suc (suc i)) (pieceOf (c .kind) i (suc i)) ++ (newCurve (suc (suc (suc i))) (pieceOf (c .kind) (suc i) b) (c .construction) ∷ []);
           relations = rs;
         }
 
@@ -284,36 +284,36 @@ module _ (met : Drawing → Bool) (m : Limits) (d : Drawing) (c : Curve) (found 
       second-there : (e : Drawing) → pin m e (suc i) (v .pin) ≡ addRelation m e (pinRelation (v .pin) (suc i))
       second-there e = pin-is m e (suc i) (v .pin) apart′
 
-      line-there : lineAt (curveIn (middleLaid (w .at) (v .at) [] .curves) (c .id)) ≡ isLine (c .kind)
+      line-there : lineAt (curveIn (middleAdded (w .at) (v .at) [] .curves) (c .id)) ≡ isLine (c .kind)
       line-there =
           let x = newCurve (suc (suc i)) (pieceOf (c .kind) i (suc i)) (c .construction) in
           let y = newCurve (suc (suc (suc i))) (pieceOf (c .kind) (suc i) b) (c .construction) in
           ap (λ l. lineAt (curveIn l (c .id))) (append-assoc (map (rekind (c .id) (pieceOf (c .kind) a i)) (d .curves)) (x ∷ []) (y ∷ []))
-          ∙ line-laid (d .curves) (x ∷ y ∷ []) (c .id) c a i found
+          ∙ line-added (d .curves) (x ∷ y ∷ []) (c .id) c a i found
 
       pub middle-chain :
           applyPlanTo met m d c (CutTwo w v false)
-          ≡ needPoint m i np (w .at) (needPoint m (suc i) (suc np) (v .at) (needCurve m (suc (suc i)) nc (needCurve m (suc (suc (suc i))) (suc nc)
-          (needRelation m nr (needRelation m (suc nr) (needRelation m (suc (suc nr))
-          (removal (suc (suc i)) (middleLaid (w .at) (v .at) (((freed c (d .relations) ++ (pinRelation (w .pin) i ∷ [])) ++ (pinRelation (v .pin) (suc i) ∷ [])) ++ (tieRelation (isLine (c .kind)) (c .id) (suc (suc (suc i))) ∷ []))))))))))
+          ≡ guardPoint m i np (w .at) (guardPoint m (suc i) (suc np) (v .at) (guardCurve m (suc (suc i)) nc (guardCurve m (suc (suc (suc i))) (suc nc)
+          (guardRelation m nr (guardRelation m (suc nr) (guardRelation m (suc (suc nr))
+          (removal (suc (suc i)) (middleAdded (w .at) (v .at) (((freed c (d .relations) ++ (pinRelation (w .pin) i ∷ [])) ++ (pinRelation (v .pin) (suc i) ∷ [])) ++ (tieRelation (isLine (c .kind)) (c .id) (suc (suc (suc i))) ∷ []))))))))))
       unfolding applyPlanTo addPieces removePiece
-      middle-chain = simp (need-then, three-pieces (c .kind) i (suc i) o, length-map, length-end, first-there, second-there, line-there)
+      middle-chain = simp (guard-then, three-pieces (c .kind) i (suc i) o, length-map, length-end, first-there, second-there, line-there)
 
   module _ (o : isCircle (c .kind) ≡ true) where
-    abbrev pub circleLaid : Vec2 → Vec2 → List Relation → Drawing
-    circleLaid v u rs =
+    abbrev pub circleAdded : Vec2 → Vec2 → List Relation → Drawing
+    circleAdded v u rs =
         record {
           next = suc (suc (suc i));
           points = (d .points ++ (newPoint i v ∷ [])) ++ (newPoint (suc i) u ∷ []);
-          curves = curvesLaid (pieceOf (c .kind) i (suc i)) (suc (suc i)) (pieceOf (c .kind) (suc i) i);
+          curves = curvesAdded (pieceOf (c .kind) i (suc i)) (suc (suc i)) (pieceOf (c .kind) (suc i) i);
           relations = rs;
         }
 
     pub divide-circle-chain :
         (v u : Vec2) → applyPlanTo met m d c (DivideTwo v u)
-        ≡ needPoint m i np v (needPoint m (suc i) (suc np) u (needCurve m (suc (suc i)) nc (needRelation m nr (accepted (circleLaid v u (freed c (d .relations) ++ (tieRelation (isLine (c .kind)) (c .id) (suc (suc i)) ∷ []))) nothing))))
+        ≡ guardPoint m i np v (guardPoint m (suc i) (suc np) u (guardCurve m (suc (suc i)) nc (guardRelation m nr (accepted (circleAdded v u (freed c (d .relations) ++ (tieRelation (isLine (c .kind)) (c .id) (suc (suc i)) ∷ []))) nothing))))
     unfolding applyPlanTo addPieces
-    divide-circle-chain v u = simp (need-then, circle-pieces (c .kind) i (suc i) o, length-map, length-end, line-laid)
+    divide-circle-chain v u = simp (guard-then, circle-pieces (c .kind) i (suc i) o, length-map, length-end, line-added)
 
     module _ (w v : PinnedPoint) (apart : Apart i (w .pin)) (apart′ : Apart (suc i) (v .pin)) where
       first-pinned : (e : Drawing) → pin m e i (w .pin) ≡ addRelation m e (pinRelation (w .pin) i)
@@ -323,9 +323,9 @@ module _ (met : Drawing → Bool) (m : Limits) (d : Drawing) (c : Curve) (found 
       second-pinned e = pin-is m e (suc i) (v .pin) apart′
 
       pub cut-circle-chain :
-          (first-goes : Bool) → let l = circleLaid (w .at) (v .at) ((freed c (d .relations) ++ (pinRelation (w .pin) i ∷ [])) ++ (pinRelation (v .pin) (suc i) ∷ [])) in
+          (first-goes : Bool) → let l = circleAdded (w .at) (v .at) ((freed c (d .relations) ++ (pinRelation (w .pin) i ∷ [])) ++ (pinRelation (v .pin) (suc i) ∷ [])) in
           applyPlanTo met m d c (CutTwo w v first-goes)
-          ≡ needPoint m i np (w .at) (needPoint m (suc i) (suc np) (v .at) (needCurve m (suc (suc i)) nc (needRelation m nr (needRelation m (suc nr)
+          ≡ guardPoint m i np (w .at) (guardPoint m (suc i) (suc np) (v .at) (guardCurve m (suc (suc i)) nc (guardRelation m nr (guardRelation m (suc nr)
           (removal (suc (suc i)) (ite first-goes (swap (c .id) (suc (suc i)) l) l))))))
       unfolding applyPlanTo addPieces removePiece
-      cut-circle-chain first-goes = simp (need-then, circle-pieces (c .kind) i (suc i) o, length-map, length-end, first-pinned, second-pinned)
+      cut-circle-chain first-goes = simp (guard-then, circle-pieces (c .kind) i (suc i) o, length-map, length-end, first-pinned, second-pinned)

@@ -1,4 +1,4 @@
--- What the code leaves is what applying comes to. Assumes nothing.
+-- The code leaves the drawing that applying the plan gives. Assumes nothing.
 use mathlib.Core.Path.{_≡_, refl, sym, ap, _∙_}
 use mathlib.Core.Bool.{Bool, true, false}
 use mathlib.Core.List.{List, [], _++_, map}

@@ -10,7 +10,7 @@ use Rattle.sketch.specs.declared.Sketch.{Sketch}
 use Rattle.sketch.specs.Lists.{ite}
 use Rattle.sketch.specs.Drawing.{view, limits}
 use Rattle.sketch.proofs.Bools.{never}
-use Rattle.sketch.proofs.Facts.{rule-none}
+use Rattle.sketch.proofs.Facts.{guard-number-none}
 use Rattle.edit_plan.specs.declared.Plan.{Plan}
 use Rattle.edit_plan.specs.declared.Plan.the-variants.{Whole, Cut, CutTwo, Divide, DivideTwo, Move}
 use Rattle.edit_plan.specs.declared.Additions.{Additions}
@@ -35,17 +35,17 @@ module _ (s : Sketch) (e : Extent) where
   unfolding roomWith
   space d h =
       let full = not (ltb (leftOver e (view s .relations) + d .relations) 256) in
-      let a = rule-none (ltb (s .next) (limits .ids)) 23 _ (omega arith) h in
-      let b = rule-none (ltb (s .npoints) 512) 22 _ (omega arith) (a .1) in
-      let c = rule-none (okPosition (d .first)) 24 _ (omega arith) (b .1) in
-      let i = rule-none (ltb (s .next + d .points) (limits .ids)) 23 _ (omega arith) (c .1) in
-      let j = rule-none (ltb (s .npoints + d .points) 512) 22 _ (omega arith) (i .1) in
-      let k = rule-none (okPosition (d .second)) 24 _ (omega arith) (j .1) in
-      let l = rule-none (ltb (suc (s .next + d .points)) (limits .ids)) 23 _ (omega arith) (k .1) in
-      let m = rule-none (ltb (s .ncurves) 128) 22 _ (omega arith) (l .1) in
-      let n = rule-none (ltb (suc (s .next + d .points) + d .curves) (limits .ids)) 23 _ (omega arith) (m .1) in
-      let o = rule-none (ltb (s .ncurves + d .curves) 128) 22 _ (omega arith) (n .1) in
-      let p = rule-none (not full) 22 0 (omega arith) (o .1) in
+      let a = guard-number-none (ltb (s .next) (limits .ids)) 23 _ (omega arith) h in
+      let b = guard-number-none (ltb (s .npoints) 512) 22 _ (omega arith) (a .1) in
+      let c = guard-number-none (okPosition (d .first)) 24 _ (omega arith) (b .1) in
+      let i = guard-number-none (ltb (s .next + d .points) (limits .ids)) 23 _ (omega arith) (c .1) in
+      let j = guard-number-none (ltb (s .npoints + d .points) 512) 22 _ (omega arith) (i .1) in
+      let k = guard-number-none (okPosition (d .second)) 24 _ (omega arith) (j .1) in
+      let l = guard-number-none (ltb (suc (s .next + d .points)) (limits .ids)) 23 _ (omega arith) (k .1) in
+      let m = guard-number-none (ltb (s .ncurves) 128) 22 _ (omega arith) (l .1) in
+      let n = guard-number-none (ltb (suc (s .next + d .points) + d .curves) (limits .ids)) 23 _ (omega arith) (m .1) in
+      let o = guard-number-none (ltb (s .ncurves + d .curves) 128) 22 _ (omega arith) (n .1) in
+      let p = guard-number-none (not full) 22 0 (omega arith) (o .1) in
       record {
         ids = ltb-true _ _ (n .0);
         points = ltb-true _ _ (j .0);

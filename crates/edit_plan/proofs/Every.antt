@@ -61,9 +61,9 @@ module _ {A : Type 0} where
       go true q k ih = (k a (List·Memᴰ·head refl) q (h .0), ih (λ x m. k x (List·Memᴰ·tail m)) (h .1))
       go false q k ih = ih k (h .1)
 
-  pub every-spread : (f g : A → Bool) (s : A → List A) (l : List A) → ((a : A) → f a ≡ true → Every g (s a)) → Every f l → Every g (concatMap s l)
-  every-spread f g s [] k h = tt
-  every-spread f g s (a ∷ l) k h = every-append g (s a) (concatMap s l) (k a (h .0)) (every-spread f g s l k (h .1))
+  pub every-concat-map : (f g : A → Bool) (s : A → List A) (l : List A) → ((a : A) → f a ≡ true → Every g (s a)) → Every f l → Every g (concatMap s l)
+  every-concat-map f g s [] k h = tt
+  every-concat-map f g s (a ∷ l) k h = every-append g (s a) (concatMap s l) (k a (h .0)) (every-concat-map f g s l k (h .1))
 
   pub every-at : (f : A → Bool) (l : List A) (a : A) → List·Memᴰ a l → Every f l → f a ≡ true
   every-at f [] a m h = absurd (List·Memᴰ·not-nil m)
@@ -73,9 +73,9 @@ module _ {A : Type 0} where
   every-both f g [] h k = tt
   every-both f g (a ∷ l) h k = (both (f a) (g a) (h .0) (k .0), every-both f g l (h .1) (k .1))
 
-  pub length-spread : (s : A → List A) (l : List A) → ((a : A) → length (s a) ≤ 1) → length (concatMap s l) ≤ length l
-  length-spread s [] k = omega arith
-  length-spread s (a ∷ l) k = simp length-append (omega (arith, k a, length-spread s l k))
+  pub length-concat-map : (s : A → List A) (l : List A) → ((a : A) → length (s a) ≤ 1) → length (concatMap s l) ≤ length l
+  length-concat-map s [] k = omega arith
+  length-concat-map s (a ∷ l) k = simp length-append (omega (arith, k a, length-concat-map s l k))
 
   pub length-keep : (p : A → Bool) (l : List A) → length (keep p l) ≤ length l
   length-keep p [] = omega arith

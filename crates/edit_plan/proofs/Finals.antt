@@ -1,4 +1,4 @@
--- The end of the chain, at once: what is left where a piece that was laid goes. Assumes nothing.
+-- The end of the chain, at once: what is left where a piece that was added is removed. Assumes nothing.
 use mathlib.Core.Path.{_≡_, refl, sym, ap, _∙_}
 use mathlib.Core.Bool.{Bool, true, false, not, _&&_, _||_}
 use mathlib.Core.List.{List, [], _∷_, _++_, map}
@@ -31,7 +31,7 @@ use Rattle.edit_plan.proofs.Loops.{map-append}
 use Rattle.edit_plan.proofs.Leaves.{among-append, or-true, or-two}
 use Rattle.edit_plan.proofs.Unused.{keep-append, uses-append}
 use Rattle.edit_plan.proofs.Fresh.{unnamed}
-use Rattle.edit_plan.proofs.Gone.{keep-spread, keep-every, in-use-stays, rekind-none, rekind-twice, remove-laid, uses-rekind, keep-unnamed, freed-unnamed}
+use Rattle.edit_plan.proofs.Gone.{keep-concat-map, keep-every, in-use-stays, rekind-none, rekind-twice, remove-added, uses-rekind, keep-unnamed, freed-unnamed}
 use Rattle.edit_plan.proofs.Bridge.{look-front, isOpen, freed}
 
 pub same : (n n′ : ℕ) (p p′ : List Point) (c c′ : List Curve) (r r′ : List Relation) → n ≡ n′ → p ≡ p′ → c ≡ c′ → r ≡ r′ → _≡_ {A = Drawing} (record { next = n; points = p; curves = c; relations = r }) (record { next = n′; points = p′; curves = c′; relations = r′ })
@@ -52,8 +52,8 @@ stays g os r = unnamed g r && every (staying os) (pointsOf r)
 
 module _ (d : Drawing) (c : Curve) (g : ℕ) (z : Given d c g) (ps : List Point) (rs : List Relation) (n : ℕ) where
   -- the target has the kind k, then come the piece g of the kind q, and ys
-  abbrev pub laid : CurveKind → CurveKind → Drawing
-  laid k q = record { next = n; points = ps; curves = map (rekind (c .id) k) (d .curves) ++ (newCurve g q (c .construction) ∷ []); relations = freed c (d .relations) ++ rs }
+  abbrev pub withPieces : CurveKind → CurveKind → Drawing
+  withPieces k q = record { next = n; points = ps; curves = map (rekind (c .id) k) (d .curves) ++ (newCurve g q (c .construction) ∷ []); relations = freed c (d .relations) ++ rs }
 
   new-set : (k : CurveKind) → occurrences g (curveIds (map (rekind (c .id) k) (d .curves))) ≡ 0
   new-set k = ap (occurrences g) (ids-set (c .id) k (d .curves)) ∙ z .new
@@ -63,12 +63,12 @@ module _ (d : Drawing) (c : Curve) (g : ℕ) (z : Given d c g) (ps : List Point)
   look-gone k q ys = look-right (map (rekind (c .id) k) (d .curves)) (newCurve g q (c .construction) ∷ ys) g (new-set k) ∙ rw (eq-eqb g g refl)
 
   -- the swap
-  pub swapped : (k q : CurveKind) → swap (c .id) g (laid k q) ≡ laid q k
+  pub swapped : (k q : CurveKind) → swap (c .id) g (withPieces k q) ≡ withPieces q k
   unfolding swapKinds
   swapped k q =
       let t = c .id in
       let r : Curve = rekind t k c in
-      let e1 : curveIn (laid k q .curves) t ≡ some r = look-front (map (rekind t k) (d .curves)) (newCurve g q (c .construction) ∷ []) t r (look-set t k (d .curves) t c (z .found)) in
+      let e1 : curveIn (withPieces k q .curves) t ≡ some r = look-front (map (rekind t k) (d .curves)) (newCurve g q (c .construction) ∷ []) t r (look-set t k (d .curves) t c (z .found)) in
       let e3 : r .kind ≡ k = rekind-same t k c refl in
       rw (e1, look-gone k q [], e3)
       (ap (λ l. record { next = n; points = ps; curves = l; relations = freed c (d .relations) ++ rs })
@@ -91,7 +91,7 @@ module _ (d : Drawing) (c : Curve) (g : ℕ) (z : Given d c g) (ps : List Point)
         ∙ ap (λ l. keep (stays g os) (freed c (d .relations)) ++ l) (keep-every (stays g os) rs st)
         ∙ ap (λ l. l ++ rs)
         (keep-unnamed g (λ r. every (staying os) (pointsOf r)) (freed c (d .relations)) (freed-unnamed g (c .id) (lineEnds (c .kind)) (d .relations) (z .names))
-        ∙ keep-spread (λ r. every (staying os) (pointsOf r)) (releaseRelation (c .id) (lineEnds (c .kind))) (d .relations))
+        ∙ keep-concat-map (λ r. every (staying os) (pointsOf r)) (releaseRelation (c .id) (lineEnds (c .kind))) (d .relations))
 
     -- the piece g goes again
     pub removal-is :
@@ -109,7 +109,7 @@ module _ (d : Drawing) (c : Curve) (g : ℕ) (z : Given d c g) (ps : List Point)
     removal-is st =
         let l : Drawing = record { next = n; points = ps; curves = map (rekind (c .id) k) (d .curves) ++ (newCurve g q (c .construction) ∷ ys); relations = freed c (d .relations) ++ rs } in
         let r : Drawing = record { next = n; points = keep (λ p. staying os (p .id)) ps; curves = cs; relations = concatMap (λ v. keep (λ r. every (staying os) (pointsOf r)) (releaseRelation (c .id) (lineEnds (c .kind)) v)) (d .relations) ++ rs } in
-        let e : remove g l ≡ r = remove-laid g q (c .construction) (map (rekind (c .id) k) (d .curves)) ys (new-set k) ny n ps (freed c (d .relations) ++ rs)
+        let e : remove g l ≡ r = remove-added g q (c .construction) (map (rekind (c .id) k) (d .curves)) ys (new-set k) ny n ps (freed c (d .relations) ++ rs)
         ∙ same n n _ _ cs cs _ _ refl refl refl (relations-left st) in
         ap (λ x. accepted x (reported g (endsAt (curveIn (l .curves) g)))) e ∙ ap (λ x. accepted r (reported g (endsAt x))) (look-gone k q ys)
 

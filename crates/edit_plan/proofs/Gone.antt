@@ -1,4 +1,4 @@
--- A piece that was laid and goes again leaves nothing: what the removal of a curve that only this edit added comes to. Assumes nothing.
+-- A piece that was added and removed again leaves nothing: the removal of a curve that only this edit added. Assumes nothing.
 use mathlib.Core.Path.{_≡_, refl, sym, ap, _∙_}
 use mathlib.Core.Bool.{Bool, true, false, not, _&&_, _||_}
 use mathlib.Core.List.{List, [], _∷_, _++_, map, append-nil}
@@ -29,9 +29,9 @@ use Rattle.edit_plan.proofs.Fresh.{unnamed}
 -- ---- lists
 
 -- two walks are one
-pub keep-spread : {A B : Type 0} (f : B → Bool) (g : A → List B) (l : List A) → keep f (concatMap g l) ≡ concatMap (λ a. keep f (g a)) l
-keep-spread f g [] = refl
-keep-spread f g (a ∷ l) = keep-append f (g a) (concatMap g l) ∙ ap (λ t. keep f (g a) ++ t) (keep-spread f g l)
+pub keep-concat-map : {A B : Type 0} (f : B → Bool) (g : A → List B) (l : List A) → keep f (concatMap g l) ≡ concatMap (λ a. keep f (g a)) l
+keep-concat-map f g [] = refl
+keep-concat-map f g (a ∷ l) = keep-append f (g a) (concatMap g l) ∙ ap (λ t. keep f (g a) ++ t) (keep-concat-map f g l)
 
 pub keep-every : {A : Type 0} (f : A → Bool) (l : List A) → Every f l → keep f l ≡ l
 keep-every f [] h = refl
@@ -74,24 +74,24 @@ module _ (g : ℕ) where
       go false q z ih = rw q (ap (λ t. c ∷ t) (ih (omega arith)))
 
   module _ (k : CurveKind) (b : Bool) (xs ys : List Curve) (zx : occurrences g (curveIds xs) ≡ 0) (zy : occurrences g (curveIds ys) ≡ 0) where
-    others-laid : others g (xs ++ (newCurve g k b ∷ ys)) ≡ xs ++ ys
-    others-laid = keep-append (λ (c : Curve). not (eqb g (c .id))) xs (newCurve g k b ∷ ys) ∙ rw (eq-eqb g g refl, others-none xs zx, others-none ys zy)
+    others-added : others g (xs ++ (newCurve g k b ∷ ys)) ≡ xs ++ ys
+    others-added = keep-append (λ (c : Curve). not (eqb g (c .id))) xs (newCurve g k b ∷ ys) ∙ rw (eq-eqb g g refl, others-none xs zx, others-none ys zy)
 
-    of-laid : ofId g (xs ++ (newCurve g k b ∷ ys)) ≡ newCurve g k b ∷ []
-    of-laid = keep-append (λ (c : Curve). eqb g (c .id)) xs (newCurve g k b ∷ ys) ∙ rw (eq-eqb g g refl, of-none xs zx, of-none ys zy)
+    of-added : ofId g (xs ++ (newCurve g k b ∷ ys)) ≡ newCurve g k b ∷ []
+    of-added = keep-append (λ (c : Curve). eqb g (c .id)) xs (newCurve g k b ∷ ys) ∙ rw (eq-eqb g g refl, of-none xs zx, of-none ys zy)
 
-    orphans-laid : orphans g (xs ++ (newCurve g k b ∷ ys)) ≡ unusedBy (xs ++ ys) (usesOf k noSlots)
-    orphans-laid = rw (others-laid, of-laid, append-nil)
+    orphans-added : orphans g (xs ++ (newCurve g k b ∷ ys)) ≡ unusedBy (xs ++ ys) (usesOf k noSlots)
+    orphans-added = rw (others-added, of-added, append-nil)
 
-    pub remove-laid :
+    pub remove-added :
         (n : ℕ) (ps : List Point) (rs : List Relation)
         → let os = unusedBy (xs ++ ys) (usesOf k noSlots) in
         remove g (record { next = n; points = ps; curves = xs ++ (newCurve g k b ∷ ys); relations = rs })
         ≡ record { next = n; points = keep (λ q. staying os (q .id)) ps; curves = xs ++ ys; relations = keep (λ r. unnamed g r && every (staying os) (pointsOf r)) rs }
-    remove-laid n ps rs =
+    remove-added n ps rs =
         let cs = xs ++ (newCurve g k b ∷ ys) in
         let with-these : List ℕ → List Curve → Drawing = λ os l. record { next = n; points = keep (λ q. staying os (q .id)) ps; curves = l; relations = keep (λ r. unnamed g r && every (staying os) (pointsOf r)) rs } in
-        ap (with-these (orphans g cs)) others-laid ∙ ap (λ os. with-these os (xs ++ ys)) orphans-laid
+        ap (with-these (orphans g cs)) others-added ∙ ap (λ os. with-these os (xs ++ ys)) orphans-added
 
 -- a kind set twice
 pub rekind-twice : (t : ℕ) (k k′ : CurveKind) (cs : List Curve) → map (rekind t k′) (map (rekind t k) cs) ≡ map (rekind t k′) cs

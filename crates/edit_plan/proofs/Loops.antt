@@ -107,12 +107,12 @@ inside-slotted (r ∷ l) = ap (λ t. r ∷ t) (inside-slotted l)
 abbrev pub bySlot : (Relation → List Relation) → RelationSlot → List RelationSlot
 bySlot f q = slotted (f (q .relation))
 
-pub inside-spread : (f : Relation → List Relation) (l : List RelationSlot) → relationsIn (concatMap (bySlot f) l) ≡ concatMap f (relationsIn l)
-inside-spread f [] = refl
-inside-spread f (q ∷ l) =
+pub inside-concat-map : (f : Relation → List Relation) (l : List RelationSlot) → relationsIn (concatMap (bySlot f) l) ≡ concatMap f (relationsIn l)
+inside-concat-map f [] = refl
+inside-concat-map f (q ∷ l) =
     map-append (λ (q : RelationSlot). q .relation) (bySlot f q) (concatMap (bySlot f) l)
     ∙ ap (λ t. t ++ relationsIn (concatMap (bySlot f) l)) (inside-slotted (f (q .relation)))
-    ∙ ap (λ t. f (q .relation) ++ t) (inside-spread f l)
+    ∙ ap (λ t. f (q .relation) ++ t) (inside-concat-map f l)
 
 -- how many a walk will leave
 module _ (f : Relation → List Relation) (l : List RelationSlot) (n i : ℕ) where

@@ -27,8 +27,8 @@ use Rattle.edit_plan.specs.Suited.{PinHolds}
 use Rattle.edit_plan.specs.Changes.{isCircle, isWhole, pieceOf, keptPiece, gonePiece, pinRelation, halvesOf, halfCircles, cutOnce, divideOnce, changeFor, extentOf, staying, unusedBy, candidatesFor}
 use Rattle.edit_plan.specs.Room.{mkAdditions, additionsFor, roomWith}
 use Rattle.edit_plan.proofs.Leaves.{or-true}
-use Rattle.edit_plan.proofs.Bridge.{unlessRefused, needPoint, needCurve, needRelation, freed, isOpen, openLaid, circleLaid, divide-chain, divide-circle-chain, cut-circle-chain, room-one, room-circle, room-pinned}
-use Rattle.edit_plan.proofs.Finals.{same, Given, stays, laid, swapped, removal-is, kept-used, pin-stays, none-go, end-used, report-is, halves-alike}
+use Rattle.edit_plan.proofs.Bridge.{unlessRefused, guardPoint, guardCurve, guardRelation, freed, isOpen, openAdded, circleAdded, divide-chain, divide-circle-chain, cut-circle-chain, room-one, room-circle, room-pinned}
+use Rattle.edit_plan.proofs.Finals.{same, Given, stays, withPieces, swapped, removal-is, kept-used, pin-stays, none-go, end-used, report-is, halves-alike}
 use Rattle.edit_plan.proofs.AtOnce.{finalOf, orphansOf, roomNumber, nobody-goes, left-all, left-cut, freed-is, seam-used, given, pin-apart, old-other}
 
 module _ {m : Limits} {d : Drawing} (v : Valid m d) (c : Curve) (found : curveIn (d .curves) (c .id) ≡ some c) where
@@ -81,8 +81,8 @@ module _ {m : Limits} {d : Drawing} (v : Valid m d) (c : Curve) (found : curveIn
             (pin-stays d c g′ free′ points′ relations′ (suc g′) half other-half [] refl (u .pin) j′ held′ new (half-used j′ (end-used b (c .kind) i j′ i (c .slots) round)), tt),
           )
 
-      turned : (x : Bool) → let l = laid d c g′ free′ points′ relations′ (suc g′) (pieceOf (c .kind) i j′) (pieceOf (c .kind) j′ i) in
-          ite x (swap (c .id) g′ l) l ≡ laid d c g′ free′ points′ relations′ (suc g′) (keptPiece (c .kind) x i j′ i) (gonePiece (c .kind) x i j′ i)
+      turned : (x : Bool) → let l = withPieces d c g′ free′ points′ relations′ (suc g′) (pieceOf (c .kind) i j′) (pieceOf (c .kind) j′ i) in
+          ite x (swap (c .id) g′ l) l ≡ withPieces d c g′ free′ points′ relations′ (suc g′) (keptPiece (c .kind) x i j′ i) (gonePiece (c .kind) x i j′ i)
       turned true = swapped d c g′ free′ points′ relations′ (suc g′) (pieceOf (c .kind) i j′) (pieceOf (c .kind) j′ i)
       turned false = refl
 
@@ -99,17 +99,17 @@ module _ {m : Limits} {d : Drawing} (v : Valid m d) (c : Curve) (found : curveIn
           let nr = length fs in
           let r : Outcome Drawing Removed = accepted (finalOf d c h e []) (h .removed) in
           let cs = map (rekind (c .id) half) (d .curves) in
-          let l : Drawing = circleLaid met m d c found o (w .at) (u .at) ((fs ++ (pinRelation (w .pin) i ∷ [])) ++ (pinRelation (u .pin) j′ ∷ [])) in
-          let laid-is : l ≡ laid d c g′ free′ points′ relations′ (suc g′) (pieceOf (c .kind) i j′) (pieceOf (c .kind) j′ i) =
+          let l : Drawing = circleAdded met m d c found o (w .at) (u .at) ((fs ++ (pinRelation (w .pin) i ∷ [])) ++ (pinRelation (u .pin) j′ ∷ [])) in
+          let added-is : l ≡ withPieces d c g′ free′ points′ relations′ (suc g′) (pieceOf (c .kind) i j′) (pieceOf (c .kind) j′ i) =
           same _ _ _ _ _ _ _ _ refl (append-assoc (d .points) (newPoint i (w .at) ∷ []) (newPoint j′ (u .at) ∷ [])) refl (append-assoc fs (pinRelation (w .pin) i ∷ []) (pinRelation (u .pin) j′ ∷ [])) in
           let ends : removal g′ (ite b (swap (c .id) g′ l) l) ≡ r =
-          ap (λ x. removal g′ (ite b (swap (c .id) g′ x) x)) laid-is ∙ ap (removal g′) (turned b)
+          ap (λ x. removal g′ (ite b (swap (c .id) g′ x) x)) added-is ∙ ap (removal g′) (turned b)
           ∙ removal-is d c g′ free′ points′ relations′ (suc g′) half other-half [] refl both-stay
           ∙ ap (λ y. accepted (record { next = suc g′; points = keep (λ p. staying unused′ (p .id)) points′; curves = cs ++ []; relations = y ++ relations′ }) (reported g′ (endsOf other-half))) (left-cut c plan unused′ (d .relations) refl)
           ∙ ap (λ x. accepted (finalOf d c h e x) (reported g′ (endsOf other-half))) none-unused′
           ∙ ap (accepted (finalOf d c h e [])) (report-is b (c .kind) g′ i j′ i round) in
           cut-circle-chain met m d c found o w u (pin-apart v c found (w .pin) i held (omega arith)) (pin-apart v c found (u .pin) j′ held′ (omega arith)) b
-          ∙ ap (λ x. needPoint m i np (w .at) (needPoint m j′ (suc np) (u .at) (needCurve m g′ nc (needRelation m nr (needRelation m (suc nr) x))))) ends
+          ∙ ap (λ x. guardPoint m i np (w .at) (guardPoint m j′ (suc np) (u .at) (guardCurve m g′ nc (guardRelation m nr (guardRelation m (suc nr) x))))) ends
           ∙ sym (room-pinned m i np nc nr r (w .at) (u .at))
           ∙ ap (λ x. unlessRefused (roomWith m i np nc (not (ltb (x + 1) (m .relations))) (mkAdditions (w .at) (u .at) 1 0 1)) r) (sym (freed-is c plan (d .relations)))
           ∙ rw o
@@ -129,10 +129,10 @@ module _ {m : Limits} {d : Drawing} (v : Valid m d) (c : Curve) (found : curveIn
         let nr = length fs in
         let tie = tieRelation (isLine (c .kind)) (c .id) (suc i) ∷ [] in
         let r : Outcome Drawing Removed = accepted (finalOf d c h e []) nothing in
-        let ends : accepted (openLaid met m d c found o p (fs ++ tie)) nothing ≡ r =
+        let ends : accepted (openAdded met m d c found o p (fs ++ tie)) nothing ≡ r =
         ap (λ x. accepted x nothing) (same _ _ _ _ _ _ _ _ refl (sym (nobody-goes (d .points ++ (newPoint i p ∷ [])))) refl (ap (λ x. x ++ tie) (left-all c plan (d .relations) refl))) in
         divide-chain met m d c found o p
-        ∙ ap (λ x. needPoint m i np p (needCurve m (suc i) nc (needRelation m nr x))) ends
+        ∙ ap (λ x. guardPoint m i np p (guardCurve m (suc i) nc (guardRelation m nr x))) ends
         ∙ sym (room-one m i np nc nr r p)
         ∙ ap (λ x. unlessRefused (roomWith m i np nc (not (ltb (x + 0) (m .relations))) (mkAdditions p p 0 0 0)) r) (sym (freed-is c plan (d .relations)))
 
@@ -150,10 +150,10 @@ module _ {m : Limits} {d : Drawing} (v : Valid m d) (c : Curve) (found : curveIn
         let tie = tieRelation (isLine (c .kind)) (c .id) (suc (suc i)) ∷ [] in
         let new = newPoint i p ∷ newPoint (suc i) q ∷ [] in
         let r : Outcome Drawing Removed = accepted (finalOf d c h e []) nothing in
-        let ends : accepted (circleLaid met m d c found o p q (fs ++ tie)) nothing ≡ r =
+        let ends : accepted (circleAdded met m d c found o p q (fs ++ tie)) nothing ≡ r =
         ap (λ x. accepted x nothing)
         (same _ _ _ _ _ _ _ _ refl (append-assoc (d .points) (newPoint i p ∷ []) (newPoint (suc i) q ∷ []) ∙ sym (nobody-goes (d .points ++ new))) refl (ap (λ x. x ++ tie) (left-all c plan (d .relations) refl))) in
         divide-circle-chain met m d c found o p q
-        ∙ ap (λ x. needPoint m i np p (needPoint m (suc i) (suc np) q (needCurve m (suc (suc i)) nc (needRelation m nr x)))) ends
+        ∙ ap (λ x. guardPoint m i np p (guardPoint m (suc i) (suc np) q (guardCurve m (suc (suc i)) nc (guardRelation m nr x)))) ends
         ∙ sym (room-circle m i np nc nr r p q)
         ∙ ap (λ x. unlessRefused (roomWith m i np nc (not (ltb (x + 0) (m .relations))) (mkAdditions p q 1 0 0)) r) (sym (freed-is c plan (d .relations)))

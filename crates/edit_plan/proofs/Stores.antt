@@ -31,8 +31,8 @@ use Rattle.edit_plan.specs.Steps.{isSome, dropIf, measured, releaseRelat
 use Rattle.edit_plan.specs.Changes.{isCircle, chord, orphanList, staying, leftBy, leftOf}
 use Rattle.edit_plan.specs.Room.{mkAdditions, additionsFor, leftOver}
 use Rattle.edit_plan.specs.Contracts.{Fitting, Rewritten, Cleared, Without, relationsIn, slot, remainingRelations}
-use Rattle.edit_plan.proofs.Every.{length-spread, length-keep}
-use Rattle.edit_plan.proofs.Loops.{Walk, walk-end, bySlot, inside-spread}
+use Rattle.edit_plan.proofs.Every.{length-concat-map, length-keep}
+use Rattle.edit_plan.proofs.Loops.{Walk, walk-end, bySlot, inside-concat-map}
 
 -- ---- how many relations are left
 
@@ -58,7 +58,7 @@ released-one t e (ArcLength c v) = dropped-one (eqb c t) (ArcLength c v)
 released-one t e (ArcSweep c v) = dropped-one (eqb c t) (ArcSweep c v)
 
 left-fewer : (e : Extent) (rs : List Relation) → leftOver e rs ≤ length rs
-left-fewer e rs = length-spread (releaseRelation (e .id) (chord e)) rs (released-one (e .id) (chord e))
+left-fewer e rs = length-concat-map (releaseRelation (e .id) (chord e)) rs (released-one (e .id) (chord e))
 
 module _ (s : Sketch) (e : Extent) (more : ℕ) where
   pub left-at-most : leftOver e (view s .relations) ≤ s .nrelations
@@ -132,7 +132,7 @@ module _ (s t : Sketch) (k : ℕ) (e : Extent) (os : Orphans) (h : Change) (i j 
 
   module _ (w : Walk rule noSlot 256 (s .nrelations) (s .relations) (t .relations) i j) (o : s .nrelations ≤ i) where
     pub walked : relationsIn (take j (t .relations)) ≡ remainingRelations e os s
-    walked = ap relationsIn (walk-end rule noSlot 256 (s .nrelations) (s .relations) (t .relations) i j w o .0) ∙ inside-spread (leftOf e (orphanList os)) (take (s .nrelations) (s .relations))
+    walked = ap relationsIn (walk-end rule noSlot 256 (s .nrelations) (s .relations) (t .relations) i j w o .0) ∙ inside-concat-map (leftOf e (orphanList os)) (take (s .nrelations) (s .relations))
 
     left-below : e .whole ≡ false → j ≤ leftOver e (view s .relations)
     left-below q =

@@ -41,10 +41,10 @@ pub holds-map : {D A : Type 0} (P Q : D → A → Type 0) (o : Outcome D A) → 
 holds-map P Q (refused n) f h = tt
 holds-map P Q (accepted d a) f h = f d a h
 
-pub holds-need : {D A : Type 0} (P : D → A → Type 0) (b : Bool) (n : ℕ) (o : Outcome D A) → (b ≡ true → Holds P o) → Holds P (guard b n o)
+pub holds-guard : {D A : Type 0} (P : D → A → Type 0) (b : Bool) (n : ℕ) (o : Outcome D A) → (b ≡ true → Holds P o) → Holds P (guard b n o)
 unfolding guard
-holds-need P true n o h = h refl
-holds-need P false n o h = tt
+holds-guard P true n o h = h refl
+holds-guard P false n o h = tt
 
 pub holds-at : {D A : Type 0} (P : D → A → Type 0) (o : Outcome D A) (d : D) (a : A) → Holds P o → o ≡ accepted d a → P d a
 holds-at P o d a h e = subst (Holds P) e h

@@ -12,7 +12,7 @@ use Rattle.bernstein.specs.Roots.{allFinite, largestOf, tiny, toleranceOf, slop
 use Rattle.shape.proofs.Opened.{opened}
 use Rattle.sketch_geometry.specs.Geometry.{positionOf, shapeOf, shapeFrom}
 use Rattle.relations.specs.Met.{met, on}
-use Rattle.support.specs.Hits.{guardHits as hneed, overlaps, onPiece, shapeHits, endlessAlong}
+use Rattle.support.specs.Hits.{guardHits, overlaps, onPiece, shapeHits, endlessAlong}
 use Rattle.cuts.specs.Lists.{any, firstOr, lastOr}
 use Rattle.cuts.specs.Bounded.{lengthOrRadius, slack, inRange, onBounded}
 use Rattle.cuts.specs.Cuts.{endPoints, foundNear, cutsHere, cutStep, cutsOn, cutsBy, cutsAmong}
@@ -37,7 +37,7 @@ unfolding casteljauStep casteljauSteps evaluateOf middle narrow sameSign bisectO
 opened-roots = tt
 
 unfoldable opened-edits : Unit {0}
-unfolding curveIn usesOf pointsOf okCoordinate sortOf positionOf shapeOf shapeFrom any firstOr lastOr lengthOrRadius slack inRange onBounded endPoints foundNear cutsHere cutStep cutsOn cutsBy cutsAmong within interior insertCut sortCuts inOrder lastOne firstOne beside around bracket guard curvesOf endsOf endsAt measured releaseRelation piecesOf addPieces pin swapKinds reported removePiece applyPlanTo applyPlanAt cutterOf paramOfPick nearEnd pinTo between firstGoes trimAt trimPlan splitFull atEnd splitPlan guardPlan isCircle isFullArc noFreeform trimCurve splitCurve planOnCurve planOnFound applyPlanned gapOf boundary curveHits better bestOf continueWith nearestHit planMove isFixed extendEnd extendCurve checkMet moveEnd met on overlaps onPiece shapeHits endlessAlong hneed
+unfolding curveIn usesOf pointsOf okCoordinate sortOf positionOf shapeOf shapeFrom any firstOr lastOr lengthOrRadius slack inRange onBounded endPoints foundNear cutsHere cutStep cutsOn cutsBy cutsAmong within interior insertCut sortCuts inOrder lastOne firstOne beside around bracket guard curvesOf endsOf endsAt measured releaseRelation piecesOf addPieces pin swapKinds reported removePiece applyPlanTo applyPlanAt cutterOf paramOfPick nearEnd pinTo between firstGoes trimAt trimPlan splitFull atEnd splitPlan guardPlan isCircle isFullArc noFreeform trimCurve splitCurve planOnCurve planOnFound applyPlanned gapOf boundary curveHits better bestOf continueWith nearestHit planMove isFixed extendEnd extendCurve checkMet moveEnd met on overlaps onPiece shapeHits endlessAlong guardHits
 opened-edits = tt
 
 pub examples-hold : Examples

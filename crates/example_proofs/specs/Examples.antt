@@ -8,9 +8,10 @@ use Rattle.bernstein.specs.Roots as R
 use Rattle.bernstein.specs.Roots.{rootsOf, found}
 use Rattle.geom.specs.Plane.{vec}
 use Rattle.sketch.specs.declared.Relation.the-variants.{PointOnCurve, Collinear, Length, Distance}
-use Rattle.sketch.specs.Drawing.{Drawing, limits}
+use Rattle.sketch.specs.Drawing.{limits}
 use Rattle.message.specs.declared.Operation.the-variants.{Trim, Split, Extend}
 use Rattle.image.specs.Image as I
+use Rattle.image.specs.Decode.{emptyDrawing}
 use Rattle.image.specs.Encode.{encode}
 use Rattle.edit_plan.specs.declared.Removed.{Removed}
 use Rattle.edit_plan.specs.Outcome.{refused, accepted}
@@ -23,9 +24,6 @@ use Rattle.example_proofs.specs.Drawings.{mkVec, mkPoint, below, mkLine,
 -- an empty image, up to its version byte and from its next id on
 abbrev pub emptyImage : ℕ → List ℕ
 emptyImage version = 0x00 ∷ 0x00 ∷ 0x00 ∷ 0x0b ∷ version ∷ 0x00 ∷ 0x00 ∷ 0x00 ∷ 0x01 ∷ 0x00 ∷ 0x00 ∷ 0x00 ∷ 0x00 ∷ 0x00 ∷ 0x00 ∷ []
-
-abbrev pub emptyDrawing : Drawing
-emptyDrawing = mkDrawing 1 [] [] []
 
 -- ---- edits
 

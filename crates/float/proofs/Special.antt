@@ -75,9 +75,9 @@ unfolding ofFields
 fields-minus f zero t p = odd-minus (prec f) t 0 (low f) p
 fields-minus f (suc x) t p = cond-minus (eqb (suc x) (ones f)) (eqb t 0) (odd (prec f) true (hid f + t) x (low f)) (odd-minus (prec f) (hid f + t) x (low f)) p
 
-pick-inf : (b : Bool) → T (plus (cond b (inf false) nan)) → ⊥
-pick-inf true t = t
-pick-inf false t = t
+cond-inf : (b : Bool) → T (plus (cond b (inf false) nan)) → ⊥
+cond-inf true t = t
+cond-inf false t = t
 
 no-ones : (e : ℕ) → 0 ≡ 2 * e + 1 → ⊥
 no-ones e h = omega arith
@@ -86,7 +86,7 @@ fields-high : (f : Format) (x t : ℕ) → x ≡ ones f → T (plus (ofFields f 
 unfolding ofFields
 fields-high f zero t e p = no-ones (emax f) e
 fields-high f (suc x) t e p =
-    pick-inf (eqb t 0) (subst (λ (b : Bool). T (plus (cond b (cond (eqb t 0) (inf false) nan) (odd (prec f) false (hid f + t) x (low f))))) (eq-eqb (suc x) (ones f) e) p)
+    cond-inf (eqb t 0) (subst (λ (b : Bool). T (plus (cond b (cond (eqb t 0) (inf false) nan) (odd (prec f) false (hid f + t) x (low f))))) (eq-eqb (suc x) (ones f) e) p)
 
 pub high-not-plus : (f : Format) (b : ℕ) → ones f * hid f ≤ b → T (plus (ofBits f b)) → ⊥
 unfolding ofBits

@@ -24,7 +24,7 @@ use Rattle.image.specs.Records.{idsAt, slotsOf, usedSlots, curveFields, 
 use Rattle.image.specs.Encode.{bit, bits, kindByte, degreeOf, numberBits, slotIds, flagByte, encodeCurve}
 use Rattle.image.specs.Stored.{Each, Id, StoredKind, StoredCurve}
 use Rattle.image.proofs.Floats.{bits-back, radius-rejects, rho-rejects}
-use Rattle.image.proofs.Tables.{Spells, length-spread, sized-all}
+use Rattle.image.proofs.Tables.{Spells, length-concat-map, sized-all}
 
 -- ---- flags
 
@@ -78,7 +78,7 @@ ids-in (i ∷ l) s pre post at e k w =
     let t = ids-in l s (pre ++ bytes 4 i) post (at + 4) (e ∙ simp append-assoc) (length-append pre (bytes 4 i) ∙ rw (k, length-bytes 4 i)) (w .1) in
     rw (f, t)
 
--- and ids that were read are written as they were
+-- ids that were read are written as they were
 ids-back : (n : ℕ) (s : List ℕ) (at : ℕ) → Bytes s → at + n * 4 ≤ length s → concatMap (bytes 4) (idsAt s at n) ≡ part s at (n * 4)
 unfolding idsAt
 ids-back zero s at b h = refl
@@ -166,7 +166,7 @@ fields-there (Conic a p b rho) f s t h = rw (le-leb f 7 h)
 -- ---- the record there
 
 pub length-slots : (k : CurveKind) (s : List ℕ) → length s ≡ 8 → length (concatMap (bytes 4) (slotIds k s)) ≡ 32
-length-slots k s h = length-spread (bytes 4) 4 (slotIds k s) (sized-all (bytes 4) 4 (length-bytes 4) (slotIds k s)) ∙ rw (eight-ids k s h)
+length-slots k s h = length-concat-map (bytes 4) 4 (slotIds k s) (sized-all (bytes 4) 4 (length-bytes 4) (slotIds k s)) ∙ rw (eight-ids k s h)
 
 pub length-curve : (c : Curve) → length (c .slots) ≡ 8 → length (encodeCurve c) ≡ curveSize
 unfolding encodeCurve

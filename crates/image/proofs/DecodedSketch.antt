@@ -12,7 +12,7 @@ use Rattle.sketch.specs.Lists.{every}
 use Rattle.sketch.specs.Drawing.{view, limits}
 use Rattle.sketch.specs.declared.Sketch.{Sketch}
 use Rattle.sketch.specs.Valid.{okPoint, okCurve, okRelation, faultOf, sketchFault}
-use Rattle.sketch.proofs.Facts.{none-rule}
+use Rattle.sketch.proofs.Facts.{none-guard-number}
 use Rattle.sketch.proofs.Bools.{and-both}
 use Rattle.image.specs.Records.{pointForm, pointOf, curveForm, curveOf, relationForm, relationOf, curveSize, pointSize, relationSize}
 use Rattle.image.specs.Image.{nextAt, rowsAt, pointCount, curveCount, relationCount, pointRows, curveRows, relationRows, drawingOf, recordsFault, imageFault, headerSize}
@@ -58,7 +58,7 @@ module _ (s : List ℕ) (e : imageFault s ≡ 0) where
   pub sketch-good : Bytes s → (sk : Sketch) → view sk ≡ drawingOf s → sk .npoints ≡ pointCount s → sk .ncurves ≡ curveCount s → sk .nrelations ≡ relationCount s → sketchFault sk ≡ 0
   sketch-good b sk v p q r =
       let h = image-kept s e .head in
-      none-rule (leb (sk .npoints) 512 && leb (sk .ncurves) 128 && leb (sk .nrelations) 256) 3 (faultOf limits (view sk))
+      none-guard-number (leb (sk .npoints) 512 && leb (sk .ncurves) 128 && leb (sk .nrelations) 256) 3 (faultOf limits (view sk))
       (rw (p, q, r, le-leb (pointCount s) 512 (h .few-points), le-leb (curveCount s) 128 (h .few-curves), le-leb (relationCount s) 256 (h .few-relations)))
       (ap (faultOf limits) v ∙ drawing-good b)
 

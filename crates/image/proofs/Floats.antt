@@ -44,7 +44,7 @@ no-nan ok e nan h = let z : _≡_ {A = ℕ} 0 1 = cc in absurd (omega arith)
 no-nan ok e (inf s) h = refl
 no-nan ok e (fin s m k) h = refl
 
--- and bits of a NaN do not pass
+-- bits of a NaN do not pass
 pub nan-fails : (ok : Float → Bool) → Rejects ok → (b : ℕ) → not (nanBits binary64 b) ≡ false → ok (ofBits binary64 b) ≡ false
 unfolding isNan
 nan-fails ok e b h = go (ofBits binary64 b) (is (nanBits binary64 b) h) (nanBits-is binary64 b)
@@ -58,7 +58,7 @@ nan-fails ok e b h = go (ofBits binary64 b) (is (nanBits binary64 b) h) (nanBits
     go (inf s) h k = let z : _≡_ {A = ℕ} 0 1 = cc in absurd (omega arith)
     go (fin s m j) h k = let z : _≡_ {A = ℕ} 0 1 = cc in absurd (omega arith)
 
--- and what passes has bits
+-- what passes has bits
 pub number-float : (ok : Float → Bool) → Rejects ok → (x : Float) → ok x ≡ true → T (not (isNan x))
 number-float ok e x h = subst (λ (t : Bool). T (not t)) (sym (no-nan ok e x h)) tt
 

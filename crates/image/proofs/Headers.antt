@@ -10,7 +10,7 @@ use borrow.Author.Tests.{leb-true, eqb-true, le-leb, eq-eqb}
 use Rattle.big_endian.specs.Fields.{field, bytes, part}
 use Rattle.big_endian.specs.Laws.{Bytes, length-bytes, field-in, field-lt, bytes-field, part-join}
 use Rattle.sketch.specs.Lists.{guardNumber}
-use Rattle.sketch.proofs.Facts.{rule-kept}
+use Rattle.sketch.proofs.Facts.{guard-number-kept}
 use Rattle.sketch.proofs.Bools.{and-both}
 use Rattle.image.specs.Image.{version, nextAt, pointCount, curveCount, relationCount, sizeOf, curvesFrom, relationsFrom, headFault, headerSize}
 use Rattle.image.specs.Encode.{header}
@@ -30,11 +30,11 @@ pub record Head (s : List ℕ) : Type 0 where
 pub head-kept : (s : List ℕ) (rest : ℕ) → headFault s rest ≡ 0 → Head s × (rest ≡ 0)
 unfolding headFault
 head-kept s rest e =
-    let k1 = rule-kept _ _ _ e in
-    let k2 = rule-kept _ _ _ (k1 .1) in
-    let k3 = rule-kept _ _ _ (k2 .1) in
-    let k4 = rule-kept _ _ _ (k3 .1) in
-    let k5 = rule-kept _ _ _ (k4 .1) in
+    let k1 = guard-number-kept _ _ _ e in
+    let k2 = guard-number-kept _ _ _ (k1 .1) in
+    let k3 = guard-number-kept _ _ _ (k2 .1) in
+    let k4 = guard-number-kept _ _ _ (k3 .1) in
+    let k5 = guard-number-kept _ _ _ (k4 .1) in
     let a = and-both _ _ (k3 .0) in
     let b3 = and-both _ _ (k4 .0) in
     let b2 = and-both _ _ (b3 .0) in

@@ -19,7 +19,7 @@ use Rattle.image.specs.Records.{pointForm, pointOf, curveForm, curveOf, 
 use Rattle.image.specs.Image.{version, nextAt, pointCount, curveCount, relationCount, sizeOf, curvesFrom, relationsFrom, headFault, rowsAt, pointRows, curveRows, relationRows, drawingOf, rowId, recordsFault, imageFault, ParseResult, refused, accepted, resultOf, parse, headerSize}
 use Rattle.image.specs.Encode.{encodePoint, encodeCurve, encodeRelation, header, drawingSize, encode}
 use Rattle.image.specs.Stored.{Each, Stored, StoredPoint, StoredCurve, StoredRelation, Id}
-use Rattle.image.proofs.Tables.{length-rows, rows-join, rows-proper, spread-back, Sized, sized-all, length-spread, rows-spread, Spells, of-rows, table-there, list-there, every-true, table-whole, list-whole}
+use Rattle.image.proofs.Tables.{length-rows, rows-join, rows-proper, concat-map-back, Sized, sized-all, length-concat-map, rows-concat-map, Spells, of-rows, table-there, list-there, every-true, table-whole, list-whole}
 use Rattle.image.proofs.Points.{length-point, point-there, point-back}
 use Rattle.image.proofs.Curves.{length-curve, curve-there, curve-back}
 use Rattle.image.proofs.Relations.{length-relation, relation-there, relation-back}
@@ -93,28 +93,28 @@ module _ (s : List ℕ) (d : Drawing) (w : Stored d)
   length-image =
       ap length e
       ∙ simp (length-append, length-header)
-      (rw (length-spread encodePoint pointSize (d .points) written-points, length-spread encodeCurve curveSize (d .curves) written-curves, length-spread encodeRelation relationSize (d .relations) written-relations) (omega arith))
+      (rw (length-concat-map encodePoint pointSize (d .points) written-points, length-concat-map encodeCurve curveSize (d .curves) written-curves, length-concat-map encodeRelation relationSize (d .relations) written-relations) (omega arith))
 
   point-rows : pointRows s ≡ map encodePoint (d .points)
   point-rows =
       rw (fields .points-are)
-      (rows-spread encodePoint pointSize (d .points) written-points s (header (d .next) (length (d .points)) (length (d .curves)) (length (d .relations)))
+      (rows-concat-map encodePoint pointSize (d .points) written-points s (header (d .next) (length (d .points)) (length (d .curves)) (length (d .relations)))
       (concatMap encodeCurve (d .curves) ++ concatMap encodeRelation (d .relations)) headerSize e (length-header _ _ _ _))
 
   curve-rows : curveRows s ≡ map encodeCurve (d .curves)
   curve-rows =
       rw (fields .points-are, fields .curves-are)
-      (rows-spread encodeCurve curveSize (d .curves) written-curves s (header (d .next) (length (d .points)) (length (d .curves)) (length (d .relations)) ++ concatMap encodePoint (d .points))
+      (rows-concat-map encodeCurve curveSize (d .curves) written-curves s (header (d .next) (length (d .points)) (length (d .curves)) (length (d .relations)) ++ concatMap encodePoint (d .points))
       (concatMap encodeRelation (d .relations)) (curvesFrom (length (d .points))) (e ∙ simp append-assoc)
-      (simp (length-append, length-header) (rw (length-spread encodePoint pointSize (d .points) written-points))))
+      (simp (length-append, length-header) (rw (length-concat-map encodePoint pointSize (d .points) written-points))))
 
   relation-rows : relationRows s ≡ map encodeRelation (d .relations)
   relation-rows =
       rw (fields .points-are, fields .curves-are, fields .relations-are)
-      (rows-spread encodeRelation relationSize (d .relations) written-relations s
+      (rows-concat-map encodeRelation relationSize (d .relations) written-relations s
       (header (d .next) (length (d .points)) (length (d .curves)) (length (d .relations)) ++ (concatMap encodePoint (d .points) ++ concatMap encodeCurve (d .curves)))
       [] (relationsFrom (length (d .points)) (length (d .curves))) (e ∙ simp (append-assoc, append-nil))
-      (simp (length-append, length-header) (rw (length-spread encodePoint pointSize (d .points) written-points, length-spread encodeCurve curveSize (d .curves) written-curves) (omega arith))))
+      (simp (length-append, length-header) (rw (length-concat-map encodePoint pointSize (d .points) written-points, length-concat-map encodeCurve curveSize (d .curves) written-curves) (omega arith))))
 
   points-again : map pointOf (pointRows s) ≡ d .points
   points-again = rw point-rows (of-rows encodePoint pointOf pointForm okPoint (λ p. true) (d .points) (each-map point-there (d .points) (w .points-fit)))
@@ -233,11 +233,11 @@ encode-back s b w =
     let lc : length (map curveOf (curveRows s)) ≡ nc = length-map (curveRows s) curveOf ∙ length-rows curveSize nc s (curvesFrom np) in
     let lr : length (map relationOf (relationRows s)) ≡ nr = length-map (relationRows s) relationOf ∙ length-rows relationSize nr s (relationsFrom np nc) in
     let p : concatMap encodePoint (map pointOf (pointRows s)) ≡ part s headerSize (np * pointSize) =
-    spread-back encodePoint pointOf pointForm okPoint pointSize point-back (pointRows s) (rows-proper pointSize np s headerSize b (omega arith)) (w .points-pass) ∙ rows-join pointSize np s headerSize in
+    concat-map-back encodePoint pointOf pointForm okPoint pointSize point-back (pointRows s) (rows-proper pointSize np s headerSize b (omega arith)) (w .points-pass) ∙ rows-join pointSize np s headerSize in
     let c : concatMap encodeCurve (map curveOf (curveRows s)) ≡ part s (curvesFrom np) (nc * curveSize) =
-    spread-back encodeCurve curveOf curveForm okCurve curveSize curve-back (curveRows s) (rows-proper curveSize nc s (curvesFrom np) b (omega arith)) (w .curves-pass) ∙ rows-join curveSize nc s (curvesFrom np) in
+    concat-map-back encodeCurve curveOf curveForm okCurve curveSize curve-back (curveRows s) (rows-proper curveSize nc s (curvesFrom np) b (omega arith)) (w .curves-pass) ∙ rows-join curveSize nc s (curvesFrom np) in
     let r : concatMap encodeRelation (map relationOf (relationRows s)) ≡ part s (relationsFrom np nc) (nr * relationSize) =
-    spread-back encodeRelation relationOf relationForm okRelation relationSize relation-back (relationRows s) (rows-proper relationSize nr s (relationsFrom np nc) b (omega arith)) (w .relations-pass)
+    concat-map-back encodeRelation relationOf relationForm okRelation relationSize relation-back (relationRows s) (rows-proper relationSize nr s (relationsFrom np nc) b (omega arith)) (w .relations-pass)
     ∙ rows-join relationSize nr s (relationsFrom np nc) in
     rw (
       lp,

@@ -74,18 +74,18 @@ module _ {A : Type 0} (enc : A → List ℕ) (size : ℕ) where
   sized-all h [] = tt
   sized-all h (a ∷ l) = (h a, sized-all h l)
 
-  pub length-spread : (l : List A) → Sized l → length (concatMap enc l) ≡ length l * size
-  length-spread [] w = omega arith
-  length-spread (a ∷ l) w = length-append (enc a) (concatMap enc l) ∙ rw (w .0, length-spread l (w .1), suc-mul) (omega arith)
+  pub length-concat-map : (l : List A) → Sized l → length (concatMap enc l) ≡ length l * size
+  length-concat-map [] w = omega arith
+  length-concat-map (a ∷ l) w = length-append (enc a) (concatMap enc l) ∙ rw (w .0, length-concat-map l (w .1), suc-mul) (omega arith)
 
   -- the rows of what was written are the records' bytes
-  pub rows-spread : (l : List A) → Sized l → (s pre post : List ℕ) (at : ℕ) → s ≡ pre ++ (concatMap enc l ++ post) → length pre ≡ at
+  pub rows-concat-map : (l : List A) → Sized l → (s pre post : List ℕ) (at : ℕ) → s ≡ pre ++ (concatMap enc l ++ post) → length pre ≡ at
       → rowsAt size (length l) s at ≡ map enc l
   unfolding rowsAt
-  rows-spread [] w s pre post at e k = refl
-  rows-spread (a ∷ l) w s pre post at e k =
+  rows-concat-map [] w s pre post at e k = refl
+  rows-concat-map (a ∷ l) w s pre post at e k =
       let r : part s at size ≡ enc a = rw (e, drop-at pre (concatMap enc (a ∷ l) ++ post) at k, append-assoc (enc a) (concatMap enc l) post, take-at (enc a) (concatMap enc l ++ post) size (w .0)) in
-      let t = rows-spread l (w .1) s (pre ++ enc a) post (at + size) (e ∙ simp append-assoc) (length-append pre (enc a) ∙ rw (k, w .0)) in
+      let t = rows-concat-map l (w .1) s (pre ++ enc a) post (at + size) (e ∙ simp append-assoc) (length-append pre (enc a) ∙ rw (k, w .0)) in
       rw (r, t)
 
 -- ---- records there and back
@@ -113,18 +113,18 @@ module _ {A : Type 0} (enc : A → List ℕ) (of : List ℕ → A) (form : List 
         rw (w .0 .tested, named (enc a), w .0 .spelled, table-there next (id a) rest l (w .1))
 
 -- rows that pass are what their values are written as
-pub spread-back : {A : Type 0} (enc : A → List ℕ) (of : List ℕ → A) (form : List ℕ → Bool) (ok : A → Bool) (size : ℕ)
+pub concat-map-back : {A : Type 0} (enc : A → List ℕ) (of : List ℕ → A) (form : List ℕ → Bool) (ok : A → Bool) (size : ℕ)
     → ((r : List ℕ) → Bytes r → length r ≡ size → form r ≡ true → ok (of r) ≡ true → enc (of r) ≡ r)
     → (rows : List (List ℕ)) → Each (Proper size) rows → every (λ r. form r && ok (of r)) rows ≡ true → concatMap enc (map of rows) ≡ concatMap (λ r. r) rows
-spread-back enc of form ok size back [] w h = refl
-spread-back enc of form ok size back (r ∷ rows) w h =
+concat-map-back enc of form ok size back [] w h = refl
+concat-map-back enc of form ok size back (r ∷ rows) w h =
     let k = and-both (form r && ok (of r)) _ h in
     let t = and-both (form r) _ (k .0) in
-    rw (back r (w .0 .are-bytes) (w .0 .long) (t .0) (t .1), spread-back enc of form ok size back rows (w .1) (k .1))
+    rw (back r (w .0 .are-bytes) (w .0 .long) (t .0) (t .1), concat-map-back enc of form ok size back rows (w .1) (k .1))
 
-pub spread-append : {A B : Type 0} (f : A → List B) (l m : List A) → concatMap f (l ++ m) ≡ concatMap f l ++ concatMap f m
-spread-append f [] m = refl
-spread-append f (a ∷ l) m = rw (spread-append f l m, append-assoc)
+pub concat-map-append : {A B : Type 0} (f : A → List B) (l m : List A) → concatMap f (l ++ m) ≡ concatMap f l ++ concatMap f m
+concat-map-append f [] m = refl
+concat-map-append f (a ∷ l) m = rw (concat-map-append f l m, append-assoc)
 
 pub every-true : {A : Type 0} (f : A → Bool) (l : List A) → Every f l → every f l ≡ true
 every-true f [] w = refl
@@ -187,7 +187,7 @@ module _ {A S : Type 0} (enc : A → List ℕ) (size : ℕ) (seen : List S → L
       let a = concatMap enc (seen (take i items)) in
       let m : (i + 1) * size ≡ i * size + size = rw (add-mul, one-mul) in
       let n : from + i * size ≡ from + length a = rw (w .so-long) in
-      let t : concatMap enc (seen (take (i + 1) items)) ≡ a ++ x = rw (add-one, take-suc items i none h, snoc, spread-append enc (seen (take i items)) (value (getD items i none) ∷ []), append-nil) in
+      let t : concatMap enc (seen (take (i + 1) items)) ≡ a ++ x = rw (add-one, take-suc items i none h, snoc, concat-map-append enc (seen (take i items)) (value (getD items i none) ∷ []), append-nil) in
       let la : length a ≡ i * size = w .so-long in
       let lx : length (a ++ x) ≡ (i + 1) * size = length-append a x ∙ omega arith in
       let r : then ≡ over l from (a ++ x) = e ∙ rw (w .written, n) (over-over l from a x (omega arith)) in

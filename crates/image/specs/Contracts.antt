@@ -39,7 +39,7 @@ pub record RowsTested (good sound : List ℕ → Bool) (next : ℕ) (rows : List
   pub long : length ids ≡ length before
   pub column : r ≡ 0 → take (length rows) ids ≡ map rowId rows
 
--- and a column beside it was filled
+-- the column of curves' sorts was filled beside the ids where no rule is broken
 pub record SortsFilled (rows : List (List ℕ)) (was sorts : List ℕ) (r : ℕ) : Type 0 where
   pub as-long : length sorts ≡ length was
   pub beside : r ≡ 0 → take (length rows) sorts ≡ map rowSort rows

@@ -11,7 +11,7 @@ use lib.Dec.{leb, eqb}
 use borrow.Author.Tests.{le-leb, lt-leb, ne-eqb, eq-eqb}
 use Rattle.big_endian.specs.Fields.{over}
 use Rattle.big_endian.specs.Laws.{Run, run-over}
-use Rattle.image.proofs.Tables.{every-true, sized-all, length-spread}
+use Rattle.image.proofs.Tables.{every-true, sized-all, length-concat-map}
 use Rattle.image.proofs.Points.{length-point}
 use Rattle.image.proofs.Relations.{length-relation}
 use Rattle.image.proofs.Headers.{length-header}
@@ -89,8 +89,8 @@ module _ (sk : Sketch) (before : List ℕ) {r : ℕ} (e : r ≡ sketchFault sk) 
         let lp : length ps ≡ np = length-take-le np (sk .points) (omega (arith, w .few-points)) in
         let lc : length (take nc (sk .curves)) ≡ nc = length-take-le nc (sk .curves) (omega (arith, w .few-curves)) in
         let lr : length rs ≡ nr = length-map (take nr (sk .relations)) (λ r. r .relation) ∙ length-take-le nr (sk .relations) (omega (arith, w .few-relations)) in
-        let n2 : length (concatMap encodePoint ps) ≡ np * pointSize = length-spread encodePoint pointSize ps (sized-all encodePoint pointSize length-point ps) ∙ rw lp in
-        let n4 : length (concatMap encodeRelation rs) ≡ nr * relationSize = length-spread encodeRelation relationSize rs (sized-all encodeRelation relationSize length-relation rs) ∙ rw lr in
+        let n2 : length (concatMap encodePoint ps) ≡ np * pointSize = length-concat-map encodePoint pointSize ps (sized-all encodePoint pointSize length-point ps) ∙ rw lp in
+        let n4 : length (concatMap encodeRelation rs) ≡ nr * relationSize = length-concat-map encodeRelation relationSize rs (sized-all encodeRelation relationSize length-relation rs) ∙ rw lr in
         let r1 : Run before 0 headerSize (header (sk .next) np nc nr) b1 = record { is = e1; long = length-header (sk .next) np nc nr } in
         let r2 = run-over before 0 headerSize (np * pointSize) (header (sk .next) np nc nr) (concatMap encodePoint ps) b1 b2 (omega arith) n2 r1 e2 in
         let r3 = run-over before 0 (headerSize + np * pointSize) (nc * curveSize) (header (sk .next) np nc nr ++ concatMap encodePoint ps) (concatMap encodeCurve (take nc (sk .curves))) b2 b3 (omega arith) n3 r2 (rw zero-add e3) in

@@ -19,7 +19,7 @@ use Rattle.message.specs.declared.MessageRead.the-variants.{Accepted, Re
 use Rattle.message.specs.Stored.{StoredMessage}
 use Rattle.sketch.specs.Drawing.{idSize}
 use Rattle.message.specs.Message.{editNumberSize, editNumberAt, operationAt, curveAt, xAt, yAt, version, messageFault, operationOf, operationByte, messageOf, resultOf, parse, encode, messageLength, messageSize}
-use Rattle.sketch.proofs.Facts.{rule-kept}
+use Rattle.sketch.proofs.Facts.{guard-number-kept}
 
 -- ---- the operation's byte
 
@@ -101,10 +101,10 @@ pub record Sound (s : List ℕ) : Type 0 where
 pub message-kept : (s : List ℕ) → messageFault s ≡ 0 → Sound s
 unfolding messageFault
 message-kept s e =
-    let k1 = rule-kept _ _ _ e in
-    let k2 = rule-kept _ _ _ (k1 .1) in
-    let k3 = rule-kept _ _ _ (k2 .1) in
-    let k4 = rule-kept _ _ _ (k3 .1) in
+    let k1 = guard-number-kept _ _ _ e in
+    let k2 = guard-number-kept _ _ _ (k1 .1) in
+    let k3 = guard-number-kept _ _ _ (k2 .1) in
+    let k4 = guard-number-kept _ _ _ (k3 .1) in
     let a = and-both _ _ (k3 .0) in
     let b2 = and-both _ _ (k4 .0) in
     let b1 = and-both _ _ (b2 .1) in

@@ -36,7 +36,7 @@ use Rattle.modify.specs.declared.Target.{Target}
 use Rattle.modify.specs.Planning.{guardPlan, cutsOf, paramOfPick, trimPlan, splitFull, atEnd, splitPlan}
 use Rattle.modify.specs.Edits.{isFullArc, noFreeform, trimCurve, splitCurve, planOnCurve, planOnFound, applyPlanned, editOf, editSketch, EditAnswer}
 use Rattle.modify.specs.Contracts.{CurveIndex, TargetFound, TargetTested, isExtend, isSplit}
-use Rattle.modify.proofs.Suits.{trim-chosen, split-chosen}
+use Rattle.modify.proofs.Suits.{trim-curve-suited, split-curve-suited}
 use Rattle.modify.proofs.Planned.{edit-valid}
 
 -- ---- the tests that all edits begin with
@@ -80,18 +80,18 @@ module _ (op : Operation) (s : Sketch) (t : ℕ) (p : Vec2) where
       }
 
 -- a test that turns away, or what comes after it
-unless-number : (b : Bool) (m : ℕ) (o : PlanResult) (n : ℕ) → (m ≡ 0 → ⊥) → (o ≡ Refused n → n ≡ 0 → ⊥) → guardPlan b m o ≡ Refused n → n ≡ 0 → ⊥
+guard-plan-number : (b : Bool) (m : ℕ) (o : PlanResult) (n : ℕ) → (m ≡ 0 → ⊥) → (o ≡ Refused n → n ≡ 0 → ⊥) → guardPlan b m o ≡ Refused n → n ≡ 0 → ⊥
 unfolding guardPlan
-unless-number true m o n h k e z = k e z
-unless-number false m o n h k e z = let q : m ≡ n = cc in h (q ∙ z)
+guard-plan-number true m o n h k e z = k e z
+guard-plan-number false m o n h k e z = let q : m ≡ n = cc in h (q ∙ z)
 
 module _ (d : Drawing) (p : Vec2) (c : Curve) where
   trim-number : (o : Option Shape) (n : ℕ) → trimCurve d p c o ≡ Refused n → n ≡ 0 → ⊥
   unfolding trimCurve
   trim-number none n e z = let q : 10 ≡ n = cc in omega arith
   trim-number (some sh) n e z =
-      unless-number (not (c .infinite || isFullArc c sh)) 10 (guardPlan (noFreeform d) 11 (Accepted (trimPlan d (c .id) sh p))) n (λ z. omega arith)
-      (unless-number (noFreeform d) 11 (Accepted (trimPlan d (c .id) sh p)) n (λ z. omega arith) (λ q y. let u : _≡_ {A = ℕ} 0 1 = cc in omega arith)) e z
+      guard-plan-number (not (c .infinite || isFullArc c sh)) 10 (guardPlan (noFreeform d) 11 (Accepted (trimPlan d (c .id) sh p))) n (λ z. omega arith)
+      (guard-plan-number (noFreeform d) 11 (Accepted (trimPlan d (c .id) sh p)) n (λ z. omega arith) (λ q y. let u : _≡_ {A = ℕ} 0 1 = cc in omega arith)) e z
 
   full-number : (sh : Shape) (cuts : List Cut) (n : ℕ) → splitFull sh cuts ≡ Refused n → n ≡ 0 → ⊥
   unfolding splitFull
@@ -112,8 +112,8 @@ module _ (d : Drawing) (p : Vec2) (c : Curve) where
   unfolding splitCurve
   split-number none n e z = let q : 10 ≡ n = cc in omega arith
   split-number (some sh) n e z =
-      unless-number (not (isFullArc c sh)) 10 (guardPlan (not (isCircle (c .kind)) || noFreeform d) 11 (splitPlan d (c .id) sh p)) n (λ z. omega arith)
-      (unless-number (not (isCircle (c .kind)) || noFreeform d) 11 (splitPlan d (c .id) sh p) n (λ z. omega arith) (plan-number sh n)) e z
+      guard-plan-number (not (isFullArc c sh)) 10 (guardPlan (not (isCircle (c .kind)) || noFreeform d) 11 (splitPlan d (c .id) sh p)) n (λ z. omega arith)
+      (guard-plan-number (not (isCircle (c .kind)) || noFreeform d) 11 (splitPlan d (c .id) sh p) n (λ z. omega arith) (plan-number sh n)) e z
 
   abbrev op : Bool → Operation
   op splits = cond splits Split Trim
@@ -125,8 +125,8 @@ module _ (d : Drawing) (p : Vec2) (c : Curve) where
 
   curve-suited : (splits : Bool) (plan : Plan) → planOnCurve (op splits) d p c ≡ Accepted plan → Suited d c plan
   unfolding planOnCurve
-  curve-suited true plan e = split-chosen d p c plan e
-  curve-suited false plan e = trim-chosen d p c plan e
+  curve-suited true plan e = split-curve-suited d p c plan e
+  curve-suited false plan e = trim-curve-suited d p c plan e
 
 pub not-extend : (splits : Bool) → _≡_ {A = Operation} (cond splits Split Trim) Extend → ⊥
 not-extend true e = let z : _≡_ {A = ℕ} 0 1 = cc in omega arith
@@ -193,11 +193,11 @@ module _ {s : Sketch} {id : ℕ} {p : Vec2} {r : Target} (b : TargetFound s id p
   named : targetOf s (r .place) .id ≡ id
   named = look-some (view s .curves) id (targetOf s (r .place)) (b .found) .1
 
-  pub begun-found : curveIn (view s .curves) (targetOf s (r .place) .id) ≡ some (targetOf s (r .place))
-  begun-found = ap (curveIn (view s .curves)) named ∙ b .found
+  pub target-found-curve : curveIn (view s .curves) (targetOf s (r .place) .id) ≡ some (targetOf s (r .place))
+  target-found-curve = ap (curveIn (view s .curves)) named ∙ b .found
 
-  pub begun-answered : (op : Operation) {e : Edited} → EditAnswer op s (targetOf s (r .place) .id) p e → EditAnswer op s id p e
-  begun-answered op {e} a = subst (λ (i : ℕ). EditAnswer op s i p e) named a
+  pub target-found-answer : (op : Operation) {e : Edited} → EditAnswer op s (targetOf s (r .place) .id) p e → EditAnswer op s id p e
+  target-found-answer op {e} a = subst (λ (i : ℕ). EditAnswer op s i p e) named a
 
 -- a test of both coordinates
 pub ok-both : (p : Vec2) {a b : Bool} → a ≡ okCoordinate (p .x) → b ≡ okCoordinate (p .y) → {o : Bool} → (a && b) ≡ o → okPosition p ≡ o

@@ -37,8 +37,8 @@ pub record Seeking (cs : List Curve) (n id i : ℕ) : Type 0 where
   pub enough : n ≤ length cs
   pub same : curveIn (take n cs) id ≡ curveIn (drop i (take n cs)) id
 
-pub seek-start : (cs : List Curve) (n id : ℕ) → n ≤ length cs → Seeking cs n id 0
-seek-start cs n id h = record { within = omega arith; enough = h; same = refl }
+pub index-start : (cs : List Curve) (n id : ℕ) → n ≤ length cs → Seeking cs n id 0
+index-start cs n id h = record { within = omega arith; enough = h; same = refl }
 
 module _ {cs : List Curve} {n id i : ℕ} (w : Seeking cs n id i) (h : i < n) where
   head : drop i (take n cs) ≡ getD cs i noCurve ∷ drop (suc i) (take n cs)
@@ -46,18 +46,18 @@ module _ {cs : List Curve} {n id i : ℕ} (w : Seeking cs n id i) (h : i < n) wh
       let l : i < length (take n cs) = rw length-take (omega (arith, w .enough)) in
       drop-cons (take n cs) i noCurve l ∙ rw (getD-take n cs i noCurve h)
 
-  pub seek-here : getD cs i noCurve .id ≡ id → CurveIndex cs n id i
+  pub index-here : getD cs i noCurve .id ≡ id → CurveIndex cs n id i
   unfolding curveIn
-  seek-here e =
+  index-here e =
       record {
         within = omega arith;
         here = λ q. w .same ∙ rw (head, eq-eqb id (getD cs i noCurve .id) (sym e));
         nowhere = λ q. absurd (omega arith);
       }
 
-  pub seek-on : (getD cs i noCurve .id ≡ id → ⊥) → Seeking cs n id (i + 1)
+  pub index-on : (getD cs i noCurve .id ≡ id → ⊥) → Seeking cs n id (i + 1)
   unfolding curveIn
-  seek-on e =
+  index-on e =
       let z : i + 1 ≡ suc i = omega arith in
       record { within = omega arith; enough = w .enough; same = w .same ∙ rw (head, ne-eqb id (getD cs i noCurve .id) (λ u. e (sym u)), z) }
 
@@ -67,9 +67,9 @@ drop-past [] (suc i) h = refl
 drop-past (a ∷ l) zero h = absurd (omega arith)
 drop-past (a ∷ l) (suc i) h = drop-past l i (omega arith)
 
-pub seek-end : {cs : List Curve} {n id i : ℕ} → Seeking cs n id i → n ≤ i → CurveIndex cs n id n
+pub index-end : {cs : List Curve} {n id i : ℕ} → Seeking cs n id i → n ≤ i → CurveIndex cs n id n
 unfolding curveIn
-seek-end {cs} {n} {id} {i} w h =
+index-end {cs} {n} {id} {i} w h =
     record {
       within = omega arith;
       here = λ q. absurd (omega arith);

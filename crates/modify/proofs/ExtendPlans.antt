@@ -127,9 +127,9 @@ module _ (d : Drawing) (id : ℕ) (p : Vec2) (s : Support) (end : ℕ) {used : B
     end-stuck g = sym (free ∙ ap (λ b. guardPlan (not b) 14 chosen) g)
 
     module _ (g : fixed ≡ false) {sh : Shape} {t : Float} {foot : Vec2} (l : sh ≡ line) (m : t ≡ param sh p) (n : foot ≡ point sh t) where
-      pub end-sought : {x : Search} → x ≡ nearestHit (d .points) s foot (others id (d .curves)) none 1000000 → {r : PlanResult} → r ≡ planMove d (s .atB) x → r ≡ extendEnd d id p s end
+      pub end-by-nearest-hit : {x : Search} → x ≡ nearestHit (d .points) s foot (others id (d .curves)) none 1000000 → {r : PlanResult} → r ≡ planMove d (s .atB) x → r ≡ extendEnd d id p s end
       unfolding guardPlan
-      end-sought {x} e k =
+      end-by-nearest-hit {x} e k =
           let z : foot ≡ point line (param line p) = n ∙ ap (point sh) m ∙ ap (λ (y : Shape). point y (param y p)) l in
           k ∙ ap (planMove d (s .atB)) (e ∙ ap (λ (q : Vec2). nearestHit (d .points) s q (others id (d .curves)) none 1000000) z)
           ∙ sym (free ∙ ap (λ b. guardPlan (not b) 14 chosen) g)

@@ -40,8 +40,8 @@ use Rattle.modify.specs.declared.PlanResult.the-variants.{Refused, Accep
 use Rattle.modify.specs.Planning.{guardPlan, pinTo}
 use Rattle.modify.specs.Edits.{planOnCurve, planOnFound, planEdit, applyPlanned, editOf}
 use Rattle.modify.specs.Extend.{Support, Search, stopped, finished, nearestHit, planMove, isFixed, extendEnd, extendCurve}
-use Rattle.modify.proofs.Suits.{unless-chosen}
-use Rattle.modify.proofs.Moves.{extend-chosen}
+use Rattle.modify.proofs.Suits.{guard-plan-accepted}
+use Rattle.modify.proofs.Moves.{extend-moves-end}
 
 pub record Extended (d d′ : Drawing) (r : Removed) : Type 0 where
   pub end : ℕ
@@ -68,7 +68,7 @@ module _ (d : Drawing) (p : Vec2) (c : Curve) (plan : Plan) where
   move-goes atB (finished none) h = let z : _≡_ {A = ℕ} 0 1 = cc in absurd (omega arith)
   move-goes atB (finished (some b)) h =
       let w : Pin = pinTo (d .points) (b .at) (b .by) (endsAt (curveIn (d .curves) (b .by))) in
-      let u = unless-chosen (not (b .tied)) 17 (Accepted (P.Move atB (b .at) w)) plan h in
+      let u = guard-plan-accepted (not (b .tied)) 17 (Accepted (P.Move atB (b .at) w)) plan h in
       let q : P.Move atB (b .at) w ≡ plan = cc in
       record { place = b .at; pin = w; is = sym q }
 
@@ -79,7 +79,7 @@ module _ (d : Drawing) (p : Vec2) (c : Curve) (plan : Plan) where
       let line = S.Line (s .a) (s .b) in
       let x : Search = nearestHit (d .points) s (point line (param line p)) (others (c .id) (d .curves)) none 1000000 in
       let used = among end (uses (others (c .id) (d .curves))) in
-      let u = unless-chosen (not (used || isFixed (d .points) end)) 14 (planMove d (s .atB) x) plan h in
+      let u = guard-plan-accepted (not (used || isFixed (d .points) end)) 14 (planMove d (s .atB) x) plan h in
       (or-left-false used (isFixed (d .points) end) (not-true (used || isFixed (d .points) end) (u .0)), move-goes (s .atB) x (u .1))
 
   -- of a line
@@ -91,9 +91,9 @@ module _ (d : Drawing) (p : Vec2) (c : Curve) (plan : Plan) where
     pub alone : among (ite atB j i) (uses (others (c .id) (d .curves))) ≡ false
     pub goes : Goes atB plan
 
-  as-pick : (b : Bool) (i j : ℕ) → _≡_ {A = ℕ} (cond b j i) (ite b j i)
-  as-pick true i j = refl
-  as-pick false i j = refl
+  cond-ite : (b : Bool) (i j : ℕ) → _≡_ {A = ℕ} (cond b j i) (ite b j i)
+  cond-ite true i j = refl
+  cond-ite false i j = refl
 
   line-goes : (k : CurveKind) → extendCurve d p c k ≡ Accepted plan → LineGoes k
   unfolding extendCurve
@@ -102,9 +102,9 @@ module _ (d : Drawing) (p : Vec2) (c : Curve) (plan : Plan) where
       let b = positionOf (d .points) j in
       let atB = le (distance p b) (distance p a) in
       let s : Support = record { a = a; b = b; atB = atB } in
-      let u = unless-chosen (allMet d) 13 (extendEnd d (c .id) p s (cond atB j i)) plan h in
+      let u = guard-plan-accepted (allMet d) 13 (extendEnd d (c .id) p s (cond atB j i)) plan h in
       let v = end-goes s (cond atB j i) (u .1) in
-      record { atB = atB; i = i; j = j; line = refl; alone = ap (λ (e : ℕ). among e (uses (others (c .id) (d .curves)))) (sym (as-pick atB i j)) ∙ v .0; goes = v .1 }
+      record { atB = atB; i = i; j = j; line = refl; alone = ap (λ (e : ℕ). among e (uses (others (c .id) (d .curves)))) (sym (cond-ite atB i j)) ∙ v .0; goes = v .1 }
   line-goes (Arc m i j) h = let z : _≡_ {A = ℕ} 0 1 = cc in absurd (omega arith)
   line-goes (Circle m r) h = let z : _≡_ {A = ℕ} 0 1 = cc in absurd (omega arith)
   line-goes (Bezier n) h = let z : _≡_ {A = ℕ} 0 1 = cc in absurd (omega arith)
@@ -163,7 +163,7 @@ module _ (m : Limits) (d : Drawing) (p : Vec2) (d′ : Drawing) (r : Removed) wh
   move-applied c plan h q =
       let l = line-goes d p c plan (c .kind) h in
       let g = l .goes in
-      let w = extend-chosen d c p plan h .1 in
+      let w = extend-moves-end d c p plan h .1 in
       let e : P.Move (w .at-end) (w .place) (w .pin) ≡ P.Move (l .atB) (g .place) (g .pin) = sym (w .is) ∙ g .is in
       let same : w .pin ≡ g .pin = cc in
       move-pinned allMet m d′ r d (c .id) (ite (l .atB) (l .j) (l .i)) (g .place) (l .alone) (g .pin) (subst (PinHolds d (c .id)) same (w .held))
@@ -179,4 +179,4 @@ module _ (m : Limits) (d : Drawing) (p : Vec2) (d′ : Drawing) (r : Removed) wh
 
       go : (x : PlanResult) → planEdit Extend d t p ≡ x → applyPlanned allMet m d t x ≡ accepted d′ r → Extended d d′ r
       go (Refused n) e q = let z : _≡_ {A = ℕ} 0 1 = cc in absurd (omega arith)
-      go (Accepted plan) e q = found (curveIn (d .curves) t) plan (unless-chosen (okPosition p) 9 (planOnFound Extend d p (curveIn (d .curves) t)) plan e .1) q
+      go (Accepted plan) e q = found (curveIn (d .curves) t) plan (guard-plan-accepted (okPosition p) 9 (planOnFound Extend d p (curveIn (d .curves) t)) plan e .1) q

@@ -49,7 +49,7 @@ use Rattle.modify.specs.Extend.{extendCurve}
 use Rattle.modify.specs.Contracts.{TargetFound, TargetFoundAt}
 use Rattle.modify.specs.ExtendContracts.{planOf, EndInTable, MovedTo, CurveColumnsOf, MetChecked}
 use Rattle.modify.proofs.Answers.{answered-refused}
-use Rattle.modify.proofs.Moves.{extend-chosen}
+use Rattle.modify.proofs.Moves.{extend-moves-end}
 use Rattle.modify.proofs.Refusing as F
 use Rattle.modify.proofs.Refusing.{extend-number}
 use Rattle.modify.proofs.ExtendPlans.{others-than-line, not-line, unmet-line, target-found}
@@ -74,20 +74,20 @@ pub not-all : (d : Drawing) (k : ℕ) → unmetAt d k ≡ true → allMet d ≡ 
 not-all d k h = not-every (met (d .points) (d .curves)) (d .relations) k h
 
 module _ {s : Sketch} {e : Edited} where
-  pub settled-out : (e .refusal ≡ 0 → ⊥) → MetChecked s e e
-  settled-out h = record { when-refused = λ q. refl; met = λ q. absurd (h q); unmet = λ q. absurd (h q) }
+  pub met-checked-refused : (e .refusal ≡ 0 → ⊥) → MetChecked s e e
+  met-checked-refused h = record { when-refused = λ q. refl; met = λ q. absurd (h q); unmet = λ q. absurd (h q) }
 
   module _ (z : e .refusal ≡ 0) where
-    pub settled-unmet : {r : Edited} {k : ℕ} → unmetAt (view (e .sketch)) k ≡ true → r .sketch ≡ s → r .refusal ≡ 19 → r .removed ≡ nothing → r .place ≡ k → MetChecked s e r
-    settled-unmet {r} {k} u f g t p =
+    pub met-checked-unmet : {r : Edited} {k : ℕ} → unmetAt (view (e .sketch)) k ≡ true → r .sketch ≡ s → r .refusal ≡ 19 → r .removed ≡ nothing → r .place ≡ k → MetChecked s e r
+    met-checked-unmet {r} {k} u f g t p =
         record {
           when-refused = λ y. absurd (y z);
           met = λ y a. never (sym (not-all (view (e .sketch)) k u) ∙ a);
           unmet = λ y a. record { number = g; sketch = f; nothing-gone = t; place = ap (unmetAt (view (e .sketch))) p ∙ u };
         }
 
-    pub settled-met : allMet (view (e .sketch)) ≡ true → MetChecked s e e
-    settled-met u = record { when-refused = λ y. absurd (y z); met = λ y a. refl; unmet = λ y a. never (sym a ∙ u) }
+    pub met-checked-met : allMet (view (e .sketch)) ≡ true → MetChecked s e e
+    met-checked-met u = record { when-refused = λ y. absurd (y z); met = λ y a. refl; unmet = λ y a. never (sym a ∙ u) }
 
 -- ---- a move is refused by 24 or 22; else it alters no curve, and no point but the one
 
@@ -115,8 +115,8 @@ move-keeps true dr i (At b) = go (eqb b i) (ltb (length (dr .relations)) 256)
 pub move-place : (s : Sketch) (place : ℕ) {y : EndPlan} {atB : Bool} {k : ℕ} {v : Vec2} {q : Pin} → y ≡ N.Move atB k v q → EndInTable s place y → k < s .npoints
 move-place s place g h = subst (EndInTable s place) g h .2
 
-pub begun-at : (s : Sketch) (k : ℕ) (p : Vec2) → sketchFault s ≡ 0 → Sized s → Valid limits (view s) → k < s .ncurves → okPosition p ≡ true → length (s .curves) ≡ 128 → TargetFoundAt s k p
-begun-at s k p v z w h q g = record { valid = v; picked = q; place = h; found = target-found s k z w h g }
+pub target-found-at : (s : Sketch) (k : ℕ) (p : Vec2) → sketchFault s ≡ 0 → Sized s → Valid limits (view s) → k < s .ncurves → okPosition p ≡ true → length (s .curves) ≡ 128 → TargetFoundAt s k p
+target-found-at s k p v z w h q g = record { valid = v; picked = q; place = h; found = target-found s k z w h g }
 
 module _ (s : Sketch) (t : ℕ) (p : Vec2) where
   refused-by : {r : Edited} (n : ℕ) → r .sketch ≡ s → r .refusal ≡ n → r .removed ≡ nothing → r .place ≡ 0 → F.Told n → editSketch Extend s t p ≡ refused n
@@ -186,18 +186,18 @@ module _ (s : Sketch) (t : ℕ) (p : Vec2) where
 
         pinned : Pinned d t (P.Move atB v q)
         pinned =
-            let u = extend-chosen d c p (P.Move atB v q) plan-is .1 in
+            let u = extend-moves-end d c p (P.Move atB v q) plan-is .1 in
             subst (λ (i : ℕ). Pinned d i (P.Move atB v q)) (look-some (d .curves) t c (w .found) .1) (subst (Pinned d (c .id)) (sym (u .is)) (u .held))
 
         module _ {e : Edited} (a : MovedTo d (getD (s .points) k noPoint .id) v q e) where
           abbrev judged : (Drawing → Bool) → Outcome Drawing Removed
           judged f = outcomeOf e then (λ d′ removed. guard (f d′) 19 (accepted d′ removed))
 
-          settled-last : (f : Drawing → Bool) (b : Bool) (z : Outcome Drawing (Unit {0})) → guard b 24 (z then (λ d′ u. checkMet f d′)) ≡ (guard b 24 (z then (λ d′ u. accepted d′ nothing)) then (λ d′ removed. guard (f d′) 19 (accepted d′ removed)))
+          met-checked-last : (f : Drawing → Bool) (b : Bool) (z : Outcome Drawing (Unit {0})) → guard b 24 (z then (λ d′ u. checkMet f d′)) ≡ (guard b 24 (z then (λ d′ u. accepted d′ nothing)) then (λ d′ removed. guard (f d′) 19 (accepted d′ removed)))
           unfolding guard checkMet
-          settled-last f true (refused n) = refl
-          settled-last f true (accepted d′ u) = refl
-          settled-last f false z = refl
+          met-checked-last f true (refused n) = refl
+          met-checked-last f true (accepted d′ u) = refl
+          met-checked-last f false z = refl
 
           carries : (f : Drawing → Bool) → applyPlan f limits d t (P.Move atB v q) ≡ judged f
           unfolding applyPlanAt applyPlanTo moveEnd
@@ -207,7 +207,7 @@ module _ (s : Sketch) (t : ℕ) (p : Vec2) where
               ap (applyPlanAt f limits d (P.Move atB v q)) (w .found)
               ∙ ap (moveEnd f limits d atB v q) (stands .1)
               ∙ ap (λ (j : ℕ). guard (okPosition v) 24 (pin limits (movePoint j v d) j q then (λ d′ u. checkMet f d′))) (sym (stands .3))
-              ∙ settled-last f (okPosition v) (pin limits (movePoint i v d) i q)
+              ∙ met-checked-last f (okPosition v) (pin limits (movePoint i v d) i q)
               ∙ ap (λ (z : Outcome Drawing Removed). z then (λ d′ removed. guard (f d′) 19 (accepted d′ removed))) (sym (a .outcome))
 
           edit-is : editSketch Extend s t p ≡ judged allMet

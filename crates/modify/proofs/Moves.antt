@@ -34,7 +34,7 @@ use Rattle.modify.specs.declared.PlanResult.the-variants.{Refused, Accep
 use Rattle.modify.specs.Planning.{guardPlan, pinTo}
 use Rattle.modify.specs.Extend.{Support, gapOf, curveHits, Best, better, bestOf, Search, stopped, finished, continueWith, nearestHit, planMove, isFixed, extendEnd, extendCurve}
 use Rattle.modify.proofs.Others.{isOther, others-are, pin-held}
-use Rattle.modify.proofs.Suits.{unless-chosen}
+use Rattle.modify.proofs.Suits.{guard-plan-accepted}
 
 -- ---- the nearest hit is one of a curve that was asked
 
@@ -63,19 +63,19 @@ module _ (f : ℕ → Bool) where
       go true = better-by (gapOf s q) q by best p h
       go false = h
 
-  abbrev SoughtBy : Search → Type 0
-  SoughtBy (stopped n) = Unit {0}
-  SoughtBy (finished best) = ByOne best
+  abbrev HitBy : Search → Type 0
+  HitBy (stopped n) = Unit {0}
+  HitBy (finished best) = ByOne best
 
-  seek-by : (ps : List Point) (s : Support) (near : Vec2) (os : List Curve) (best : Option Best) (budget : ℕ) → Every (λ (o : Curve). f (o .id)) os → ByOne best → SoughtBy (nearestHit ps s near os best budget)
+  nearest-hit-by : (ps : List Point) (s : Support) (near : Vec2) (os : List Curve) (best : Option Best) (budget : ℕ) → Every (λ (o : Curve). f (o .id)) os → ByOne best → HitBy (nearestHit ps s near os best budget)
   unfolding nearestHit continueWith
-  seek-by ps s near [] best budget p h = h
-  seek-by ps s near (o ∷ os) best budget p h =
-      go (λ qs b. seek-by ps s near os (bestOf s (o .id) best qs) b (p .1) (best-by s (o .id) best qs (p .0) h)) (curveHits ps s near o (o .kind) budget)
+  nearest-hit-by ps s near [] best budget p h = h
+  nearest-hit-by ps s near (o ∷ os) best budget p h =
+      go (λ qs b. nearest-hit-by ps s near os (bestOf s (o .id) best qs) b (p .1) (best-by s (o .id) best qs (p .0) h)) (curveHits ps s near o (o .kind) budget)
     where
       go :
-          ((qs : List Vec2) (b : ℕ) → SoughtBy (nearestHit ps s near os (bestOf s (o .id) best qs) b)) → (r : H.HitsResult)
-          → SoughtBy (continueWith (λ qs left. nearestHit ps s near os (bestOf s (o .id) best qs) left) r)
+          ((qs : List Vec2) (b : ℕ) → HitBy (nearestHit ps s near os (bestOf s (o .id) best qs) b)) → (r : H.HitsResult)
+          → HitBy (continueWith (λ qs left. nearestHit ps s near os (bestOf s (o .id) best qs) left) r)
       go ih (H.found qs b) = ih qs b
       go ih (H.refused n b) = tt
 
@@ -90,13 +90,13 @@ pub record Moves (d : Drawing) (t : ℕ) (plan : Plan) : Type 0 where
   pub held : PinHolds d t pin
 
 module _ (d : Drawing) (c : Curve) where
-  move-held : (atB : Bool) (r : Search) (plan : Plan) → SoughtBy (isOther (c .id) (d .curves)) r → planMove d atB r ≡ Accepted plan → Moves d (c .id) plan
+  move-held : (atB : Bool) (r : Search) (plan : Plan) → HitBy (isOther (c .id) (d .curves)) r → planMove d atB r ≡ Accepted plan → Moves d (c .id) plan
   unfolding planMove
   move-held atB (stopped n) plan p h = let z : _≡_ {A = ℕ} 0 1 = cc in absurd (omega arith)
   move-held atB (finished none) plan p h = let z : _≡_ {A = ℕ} 0 1 = cc in absurd (omega arith)
   move-held atB (finished (some b)) plan p h =
       let w : Pin = pinTo (d .points) (b .at) (b .by) (endsAt (curveIn (d .curves) (b .by))) in
-      let u = unless-chosen (not (b .tied)) 17 (Accepted (P.Move atB (b .at) w)) plan h in
+      let u = guard-plan-accepted (not (b .tied)) 17 (Accepted (P.Move atB (b .at) w)) plan h in
       let q : P.Move atB (b .at) w ≡ plan = cc in
       record { at-end = atB; place = b .at; pin = w; is = sym q; held = pin-held d (c .id) (b .by) (b .at) p }
 
@@ -105,9 +105,9 @@ module _ (d : Drawing) (c : Curve) where
   end-held p s end plan h =
       let line = S.Line (s .a) (s .b) in
       let r : Search = nearestHit (d .points) s (point line (param line p)) (others (c .id) (d .curves)) none 1000000 in
-      let u = unless-chosen (not (among end (uses (others (c .id) (d .curves))) || isFixed (d .points) end)) 14 (planMove d (s .atB) r) plan h in
+      let u = guard-plan-accepted (not (among end (uses (others (c .id) (d .curves))) || isFixed (d .points) end)) 14 (planMove d (s .atB) r) plan h in
       move-held (s .atB) r plan
-      (seek-by (isOther (c .id) (d .curves)) (d .points) s (point line (param line p)) (others (c .id) (d .curves)) none 1000000 (others-are (c .id) (d .curves) (d .curves) (λ i q. q)) tt) (u .1)
+      (nearest-hit-by (isOther (c .id) (d .curves)) (d .points) s (point line (param line p)) (others (c .id) (d .curves)) none 1000000 (others-are (c .id) (d .curves) (d .curves) (λ i q. q)) tt) (u .1)
 
   extend-kind : (p : Vec2) (k : CurveKind) (plan : Plan) → extendCurve d p c k ≡ Accepted plan → (isLine k ≡ true) × Moves d (c .id) plan
   unfolding extendCurve
@@ -116,12 +116,12 @@ module _ (d : Drawing) (c : Curve) where
       let b = positionOf (d .points) j in
       let atB = le (distance p b) (distance p a) in
       let s : Support = record { a = a; b = b; atB = atB } in
-      let u = unless-chosen (allMet d) 13 (extendEnd d (c .id) p s (cond atB j i)) plan h in
+      let u = guard-plan-accepted (allMet d) 13 (extendEnd d (c .id) p s (cond atB j i)) plan h in
       (refl, end-held p s (cond atB j i) plan (u .1))
   extend-kind p (Arc m i j) plan h = let z : _≡_ {A = ℕ} 0 1 = cc in absurd (omega arith)
   extend-kind p (Circle m r) plan h = let z : _≡_ {A = ℕ} 0 1 = cc in absurd (omega arith)
   extend-kind p (Bezier n) plan h = let z : _≡_ {A = ℕ} 0 1 = cc in absurd (omega arith)
   extend-kind p (Conic i m j rho) plan h = let z : _≡_ {A = ℕ} 0 1 = cc in absurd (omega arith)
 
-  pub extend-chosen : (p : Vec2) (plan : Plan) → extendCurve d p c (c .kind) ≡ Accepted plan → (isLine (c .kind) ≡ true) × Moves d (c .id) plan
-  extend-chosen p plan h = extend-kind p (c .kind) plan h
+  pub extend-moves-end : (p : Vec2) (plan : Plan) → extendCurve d p c (c .kind) ≡ Accepted plan → (isLine (c .kind) ≡ true) × Moves d (c .id) plan
+  extend-moves-end p plan h = extend-kind p (c .kind) plan h

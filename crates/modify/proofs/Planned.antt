@@ -23,14 +23,14 @@ use Rattle.modify.specs.declared.PlanResult.{PlanResult}
 use Rattle.modify.specs.declared.PlanResult.the-variants.{Refused, Accepted}
 use Rattle.modify.specs.Edits.{planOnCurve, planOnFound, planEdit, applyPlanned, editOf}
 use Rattle.modify.specs.Planning.{guardPlan}
-use Rattle.modify.proofs.Suits.{unless-chosen, trim-chosen, split-chosen}
-use Rattle.modify.proofs.Moves.{extend-chosen}
+use Rattle.modify.proofs.Suits.{guard-plan-accepted, trim-curve-suited, split-curve-suited}
+use Rattle.modify.proofs.Moves.{extend-moves-end}
 
 curve-pinned : (op : Operation) (d : Drawing) (p : Vec2) (c : Curve) (plan : Plan) → planOnCurve op d p c ≡ Accepted plan → Pinned d (c .id) plan
 unfolding planOnCurve
-curve-pinned Trim d p c plan h = trim-chosen d p c plan h .pins
-curve-pinned Split d p c plan h = split-chosen d p c plan h .pins
-curve-pinned Extend d p c plan h = let w = extend-chosen d c p plan h .1 in subst (Pinned d (c .id)) (sym (w .is)) (w .held)
+curve-pinned Trim d p c plan h = trim-curve-suited d p c plan h .pins
+curve-pinned Split d p c plan h = split-curve-suited d p c plan h .pins
+curve-pinned Extend d p c plan h = let w = extend-moves-end d c p plan h .1 in subst (Pinned d (c .id)) (sym (w .is)) (w .held)
 
 found-pinned : (op : Operation) (d : Drawing) (t : ℕ) (p : Vec2) (plan : Plan) → planOnFound op d p (curveIn (d .curves) t) ≡ Accepted plan → Pinned d t plan
 unfolding planOnFound
@@ -48,7 +48,7 @@ edit-planned op m d t p d′ r q = go (planEdit op d t p) refl q
   where
     go : (c : PlanResult) → planEdit op d t p ≡ c → applyPlanned allMet m d t c ≡ accepted d′ r → (plan : Plan) × Pinned d t plan × (applyPlan allMet m d t plan ≡ accepted d′ r)
     go (Refused n) e q = let z : _≡_ {A = ℕ} 0 1 = cc in absurd (omega arith)
-    go (Accepted plan) e q = (plan, found-pinned op d t p plan (unless-chosen (okPosition p) 9 (planOnFound op d p (curveIn (d .curves) t)) plan e .1), q)
+    go (Accepted plan) e q = (plan, found-pinned op d t p plan (guard-plan-accepted (okPosition p) 9 (planOnFound op d p (curveIn (d .curves) t)) plan e .1), q)
 
 pub edit-valid :
     (op : Operation) (m : Limits) (d : Drawing) (t : ℕ) (p : Vec2) (d′ : Drawing) (r : Removed) → Valid m d → editOf op m d t p ≡ accepted d′ r → Valid m d′

@@ -101,21 +101,21 @@ abbrev From14 : PlanResult → Type 0
 From14 (Refused n) = 14 ≤ n
 From14 (Accepted plan) = Unit {0}
 
-from-unless : (b : Bool) (n : ℕ) (o : PlanResult) → 14 ≤ n → From14 o → From14 (guardPlan b n o)
+from-guard : (b : Bool) (n : ℕ) (o : PlanResult) → 14 ≤ n → From14 o → From14 (guardPlan b n o)
 unfolding guardPlan
-from-unless true n o h k = k
-from-unless false n o h k = h
+from-guard true n o h k = k
+from-guard false n o h k = h
 
 from-move : (d : Drawing) (atB : Bool) (r : Search) → Stops r → From14 (planMove d atB r)
 unfolding planMove
 from-move d atB (stopped n) h = h
 from-move d atB (finished none) h = omega arith
-from-move d atB (finished (some b)) h = from-unless (not (b .tied)) 17 _ (omega arith) tt
+from-move d atB (finished (some b)) h = from-guard (not (b .tied)) 17 _ (omega arith) tt
 
 from-end : (d : Drawing) (c : ℕ) (p : Vec2) (s : Support) (end : ℕ) → From14 (extendEnd d c p s end)
 unfolding extendEnd
 from-end d c p s end =
-    from-unless (not (among end (uses (others c (d .curves))) || isFixed (d .points) end)) 14 _ (omega arith)
+    from-guard (not (among end (uses (others c (d .curves))) || isFixed (d .points) end)) 14 _ (omega arith)
     (from-move d (s .atB) (nearestHit (d .points) s (point (S.Line (s .a) (s .b)) (param (S.Line (s .a) (s .b)) p)) (others c (d .curves)) none 1000000)
     (stops (d .points) s (point (S.Line (s .a) (s .b)) (param (S.Line (s .a) (s .b)) p)) (others c (d .curves)) none 1000000))
 
@@ -141,21 +141,21 @@ extend-number d p c (Conic i m j rho) n h e = let z : 10 ≡ n = cc in record { 
 
 -- ---- a sketch that no image gives is refused by 5 at most
 
-rule-low : (b : Bool) (n rest : ℕ) → n ≤ 5 → rest ≤ 5 → guardNumber b n rest ≤ 5
+guard-number-low : (b : Bool) (n rest : ℕ) → n ≤ 5 → rest ≤ 5 → guardNumber b n rest ≤ 5
 unfolding guardNumber
-rule-low true n rest h k = k
-rule-low false n rest h k = h
+guard-number-low true n rest h k = k
+guard-number-low false n rest h k = h
 
 table-low : {A : Type 0} (id : A → ℕ) (ok sound : A → Bool) (next last : ℕ) (l : List A) (rest : ℕ) → rest ≤ 5 → tableFault id ok sound next last l rest ≤ 5
 table-low id ok sound next last [] rest h = h
 table-low id ok sound next last (a ∷ l) rest h =
-    rule-low (ok a) 4 _ (omega arith) (rule-low (ltb last (id a) && ltb (id a) next && sound a) 5 _ (omega arith) (table-low id ok sound next (id a) l rest h))
+    guard-number-low (ok a) 4 _ (omega arith) (guard-number-low (ltb last (id a) && ltb (id a) next && sound a) 5 _ (omega arith) (table-low id ok sound next (id a) l rest h))
 
 list-low : {A : Type 0} (ok sound : A → Bool) (l : List A) → listFault ok sound l ≤ 5
 list-low ok sound [] = omega arith
-list-low ok sound (a ∷ l) = rule-low (ok a) 4 _ (omega arith) (rule-low (sound a) 5 _ (omega arith) (list-low ok sound l))
+list-low ok sound (a ∷ l) = guard-number-low (ok a) 4 _ (omega arith) (guard-number-low (sound a) 5 _ (omega arith) (list-low ok sound l))
 
 pub fault-low : (s : Sketch) → sketchFault s ≤ 5
 fault-low s =
-    rule-low _ 3 _ (omega arith) (rule-low _ 3 _ (omega arith) (rule-low _ 4 _ (omega arith)
+    guard-number-low _ 3 _ (omega arith) (guard-number-low _ 3 _ (omega arith) (guard-number-low _ 4 _ (omega arith)
     (table-low _ _ _ _ _ (view s .points) _ (table-low _ _ _ _ _ (view s .curves) _ (list-low _ _ (view s .relations))))))

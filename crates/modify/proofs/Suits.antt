@@ -38,10 +38,10 @@ use Rattle.modify.specs.Edits.{isFullArc, noFreeform, trimCurve, splitCu
 use Rattle.modify.proofs.Others.{By, isOther, last-every, kept-are, bracket-by-others, pin-held}
 
 -- what is chosen behind a test passed it
-pub unless-chosen : (b : Bool) (n : ℕ) (o : PlanResult) (plan : Plan) → guardPlan b n o ≡ Accepted plan → (b ≡ true) × (o ≡ Accepted plan)
+pub guard-plan-accepted : (b : Bool) (n : ℕ) (o : PlanResult) (plan : Plan) → guardPlan b n o ≡ Accepted plan → (b ≡ true) × (o ≡ Accepted plan)
 unfolding guardPlan
-unless-chosen true n o plan h = (refl, h)
-unless-chosen false n o plan h = let z : _≡_ {A = ℕ} 0 1 = cc in absurd (omega arith)
+guard-plan-accepted true n o plan h = (refl, h)
+guard-plan-accepted false n o plan h = let z : _≡_ {A = ℕ} 0 1 = cc in absurd (omega arith)
 
 -- ---- how many cuts, and where
 
@@ -177,26 +177,26 @@ module _ (d : Drawing) (p : Vec2) (c : Curve) where
 
   -- ---- for the curve itself, whichever tests come before
 
-  pub trim-chosen : (plan : Plan) → trimCurve d p c (shapeOf (d .points) (c .kind)) ≡ Accepted plan → Suited d c plan
+  pub trim-curve-suited : (plan : Plan) → trimCurve d p c (shapeOf (d .points) (c .kind)) ≡ Accepted plan → Suited d c plan
   unfolding trimCurve
-  trim-chosen plan h = go (shapeOf (d .points) (c .kind)) refl h
+  trim-curve-suited plan h = go (shapeOf (d .points) (c .kind)) refl h
     where
       go : (o : Option Shape) → shapeOf (d .points) (c .kind) ≡ o → trimCurve d p c o ≡ Accepted plan → Suited d c plan
       go none e k = let z : _≡_ {A = ℕ} 0 1 = cc in absurd (omega arith)
       go (some sh) e k =
-          let u = unless-chosen (not (c .infinite || isFullArc c sh)) 10 (guardPlan (noFreeform d) 11 (Accepted (trimPlan d (c .id) sh p))) plan k in
-          let v = unless-chosen (noFreeform d) 11 (Accepted (trimPlan d (c .id) sh p)) plan (u .1) in
+          let u = guard-plan-accepted (not (c .infinite || isFullArc c sh)) 10 (guardPlan (noFreeform d) 11 (Accepted (trimPlan d (c .id) sh p))) plan k in
+          let v = guard-plan-accepted (noFreeform d) 11 (Accepted (trimPlan d (c .id) sh p)) plan (u .1) in
           let q : trimPlan d (c .id) sh p ≡ plan = cc in
           subst (Suited d c) q (trim-suited sh e (or-right-false (c .infinite) (isFullArc c sh) (not-true (c .infinite || isFullArc c sh) (u .0))))
 
-  pub split-chosen : (plan : Plan) → splitCurve d p c (shapeOf (d .points) (c .kind)) ≡ Accepted plan → Suited d c plan
+  pub split-curve-suited : (plan : Plan) → splitCurve d p c (shapeOf (d .points) (c .kind)) ≡ Accepted plan → Suited d c plan
   unfolding splitCurve
-  split-chosen plan h = go (shapeOf (d .points) (c .kind)) refl h
+  split-curve-suited plan h = go (shapeOf (d .points) (c .kind)) refl h
     where
       go : (o : Option Shape) → shapeOf (d .points) (c .kind) ≡ o → splitCurve d p c o ≡ Accepted plan → Suited d c plan
       go none e k = let z : _≡_ {A = ℕ} 0 1 = cc in absurd (omega arith)
       go (some sh) e k =
           let inner : PlanResult = guardPlan (not (isCircle (c .kind)) || noFreeform d) 11 (splitPlan d (c .id) sh p) in
-          let u = unless-chosen (not (isFullArc c sh)) 10 inner plan k in
-          let v = unless-chosen (not (isCircle (c .kind)) || noFreeform d) 11 (splitPlan d (c .id) sh p) plan (u .1) in
+          let u = guard-plan-accepted (not (isFullArc c sh)) 10 inner plan k in
+          let v = guard-plan-accepted (not (isCircle (c .kind)) || noFreeform d) 11 (splitPlan d (c .id) sh p) plan (u .1) in
           split-suited sh plan e (not-true (isFullArc c sh) (u .0)) (v .1)

@@ -32,7 +32,7 @@ use Rattle.replication.specs.declared.DeskTransition.{DeskTransition}
 use Rattle.replication.specs.Protocol.{Edit, messageFor, protocol}
 use Rattle.replication.specs.Transitions as A
 use Rattle.replication.specs.Transitions.{stateOf, UnmetPlace, DeskPlace, DeskNoPlace, DeskNumbered, DeskEdits}
-use Rattle.replication.proofs.Decoding.{need-accepted, literal}
+use Rattle.replication.proofs.Decoding.{guard-accepted, literal}
 use Rattle.replication.proofs.Outcomes.{is-number}
 use Rattle.mulkefi.specs.Outcomes.{CallOutcome, refused, updated, ifImageFits, deskOutcome}
 use Rattle.mulkefi.specs.Calls.{numberOf, bufferAfter, OutcomeSound, messageAfter, answerAfter, ResultWritten, deskEditOutcome, DeskEditWritten}
@@ -70,11 +70,11 @@ both-true false b e = let z : _≡_ {A = ℕ} 0 1 = cc in absurd (omega arith)
 -- ---- what an outcome leaves
 
 module _ (s : Replica) (e : Edit) (b m a : List ℕ) where
-  abbrev verdict : CallOutcome
-  verdict = deskEditOutcome s e (length b) (length m)
+  abbrev outcome : CallOutcome
+  outcome = deskEditOutcome s e (length b) (length m)
 
   -- a refusal leaves all
-  call-refused : (k r : ℕ) → (k ≡ 0 → ⊥) → verdict ≡ refused k → r % 65536 ≡ k → NoPlace k (r / 65536) → UnmetPlace e (view (s .sketch)) k (r / 65536) → DeskEditWritten s e b b m m a a r
+  call-refused : (k r : ℕ) → (k ≡ 0 → ⊥) → outcome ≡ refused k → r % 65536 ≡ k → NoPlace k (r / 65536) → UnmetPlace e (view (s .sketch)) k (r / 65536) → DeskEditWritten s e b b m m a a r
   call-refused k r o h n q u =
       record {
         served = record {
@@ -118,40 +118,40 @@ module _ (s : Replica) (e : Edit) (b m a : List ℕ) where
       accepted-is : came ≡ O.accepted (stateOf (x .replica)) q
       accepted-is = sym came-is ∙ done-is e (stateOf s) (stateOf (x .replica)) q (take messageSize d′) _ (ap (λ (u : DeskReply). A.deskReply u (take messageSize d′)) (sym t) ∙ h .step v .reply) (h .step v .state)
 
-      verdict-is : verdict ≡ ifImageFits (length b) (stateOf (x .replica)) q
-      verdict-is = ap (deskOutcome (length b)) accepted-is
+      outcome-is : outcome ≡ ifImageFits (length b) (stateOf (x .replica)) q
+      outcome-is = ap (deskOutcome (length b)) accepted-is
 
       made-is : (x .replica .count ≡ s .count + 1) × (protocol .edit (view (s .sketch)) e ≡ O.accepted (view (x .replica .sketch)) q)
       made-is =
-          let n = need-accepted (leb messageSize (length m)) 25 _ (stateOf (x .replica)) q accepted-is .1 in
-          counted-is (s .count + 1) _ (stateOf (x .replica)) q (need-accepted (ltb (s .count) maxEditNumber) 23 _ (stateOf (x .replica)) q n .1)
+          let n = guard-accepted (leb messageSize (length m)) 25 _ (stateOf (x .replica)) q accepted-is .1 in
+          counted-is (s .count + 1) _ (stateOf (x .replica)) q (guard-accepted (ltb (s .count) maxEditNumber) 23 _ (stateOf (x .replica)) q n .1)
 
       -- a pick that was accepted is one of numbers
-      pub draw-numbers : T (not (isNan (e .at .x))) × T (not (isNan (e .at .y)))
-      draw-numbers =
+      pub edit-numbers : T (not (isNan (e .at .x))) × T (not (isNan (e .at .y)))
+      edit-numbers =
           let p = decided-place (okPosition (e .at)) (planOnFound (e .operation) (view (s .sketch)) (e .at) (curveIn (view (s .sketch) .curves) (e .curve))) (view (s .sketch)) (e .curve) _ _ (literal (view (s .sketch)) e _ _ (made-is .1)) in
           let (p, q) = both-true (okCoordinate (e .at .x)) (okCoordinate (e .at .y)) p in
           (is-number (e .at .x) p, is-number (e .at .y) q)
 
       module _ (b′ a′ : List ℕ) (n : ℕ) (w : ResultWritten (ifImageFits (length b) (stateOf (x .replica)) q) b b′ a a′ n) where
         -- too short for the image
-        pub draw-unhoused : (n ≡ 0 → ⊥) → DeskEditWritten s e b b′ m m a a′ 25
-        draw-unhoused z = go (leb (drawingSize (view (x .replica .sketch))) (length b)) verdict-is w
+        pub edit-without-room : (n ≡ 0 → ⊥) → DeskEditWritten s e b b′ m m a a′ 25
+        edit-without-room z = go (leb (drawingSize (view (x .replica .sketch))) (length b)) outcome-is w
           where
-            go : (f : Bool) → verdict ≡ ite f (updated (stateOf (x .replica)) q) (refused 25) → ResultWritten (ite f (updated (stateOf (x .replica)) q) (refused 25)) b b′ a a′ n → DeskEditWritten s e b b′ m m a a′ 25
+            go : (f : Bool) → outcome ≡ ite f (updated (stateOf (x .replica)) q) (refused 25) → ResultWritten (ite f (updated (stateOf (x .replica)) q) (refused 25)) b b′ a a′ n → DeskEditWritten s e b b′ m m a a′ 25
             go true g w = absurd (z (w .number))
             go false g w =
                 let all = call-refused 25 25 (λ z. omega arith) g refl (λ x y. refl) (unmet-none e (view (s .sketch)) 25 0 (λ z. omega arith) (λ z. omega arith)) in
                 subst (λ (b″ : List ℕ). DeskEditWritten s e b b″ m m a a′ 25) (sym (w .image)) (subst (λ (a″ : List ℕ). DeskEditWritten s e b b m m a a″ 25) (sym (w .numbers)) all)
 
-        pub draw-done : n ≡ 0 → (m′ : List ℕ) (k : ℕ) → MessageWritten (messageFor (x .replica .count) e) m m′ k → DeskEditWritten s e b b′ m m′ a a′ 0
+        pub edit-and-message-written : n ≡ 0 → (m′ : List ℕ) (k : ℕ) → MessageWritten (messageFor (x .replica .count) e) m m′ k → DeskEditWritten s e b b′ m m′ a a′ 0
         unfolding guardNumber
-        draw-done z m′ k y = go (leb (drawingSize (view (x .replica .sketch))) (length b)) verdict-is w
+        edit-and-message-written z m′ k y = go (leb (drawingSize (view (x .replica .sketch))) (length b)) outcome-is w
           where
             message-is : m′ ≡ over m 0 (encode (messageFor (x .replica .count) e))
             message-is = y .buffer ∙ rw (le-leb 1 (x .replica .count) (omega (arith, made-is .0)), le-leb messageSize (length m) room)
 
-            go : (f : Bool) → verdict ≡ ite f (updated (stateOf (x .replica)) q) (refused 25) → ResultWritten (ite f (updated (stateOf (x .replica)) q) (refused 25)) b b′ a a′ n → DeskEditWritten s e b b′ m m′ a a′ 0
+            go : (f : Bool) → outcome ≡ ite f (updated (stateOf (x .replica)) q) (refused 25) → ResultWritten (ite f (updated (stateOf (x .replica)) q) (refused 25)) b b′ a a′ n → DeskEditWritten s e b b′ m m′ a a′ 0
             go false g w = absurd (omega (arith, w .number))
             go true g w =
                 record {

@@ -111,7 +111,7 @@ memory-kept m b a zero h e = absurd (h refl)
 memory-kept m b a (suc r) h e = ap (λ (x : List ℕ). record { buffer = x; size = m .size; count = m .count }) e
 
 -- a new image always fits
-fits-always : (room : ℕ) (t : State Drawing) (q : Removed) → I.maxImageSize ≤ room → Valid limits (t .drawing) → ifImageFits room t q ≡ updated t q
+pub fits-always : (room : ℕ) (t : State Drawing) (q : Removed) → I.maxImageSize ≤ room → Valid limits (t .drawing) → ifImageFits room t q ≡ updated t q
 fits-always room t q h v = rw (le-leb (E.drawingSize (t .drawing)) room (omega (arith, image-size (t .drawing) v)))
 
 -- ---- the desk

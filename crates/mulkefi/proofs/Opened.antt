@@ -122,10 +122,10 @@ module _ (b : List ℕ) (len size : ℕ) (f : size ≡ ite (leb len (length b)) 
             place = λ d q. unmet-none e d 6 0 (λ z. omega arith) (λ z. omega arith);
           }
 
-      pub desk-served :
+      pub desk-call-written :
           isOperation operation ≡ true → (o : Operation) → o ≡ operationOf operation → (curve : ℕ) (x y : Float) (b′ m m′ a a′ : List ℕ) (r : ℕ)
           → DeskEditWritten replica (mkEdit o curve x y) b b′ m m′ a a′ r → DeskCallWritten len count operation (mkEditByNumber operation curve x y) b b′ m m′ a a′ r
-      desk-served k o q curve x y b′ m m′ a a′ r w =
+      desk-call-written k o q curve x y b′ m m′ a a′ r w =
           let e = mkEditByNumber operation curve x y in
           let w2 : DeskEditWritten replica e b b′ m m′ a a′ r = subst (λ (o : Operation). DeskEditWritten replica (mkEdit o curve x y) b b′ m m′ a a′ r) q w in
           let g : deskCallOutcome b len count operation e (length m) ≡ deskEditOutcome replica e (length b) (length m) = desk-read e (length m) ∙ rw k in
@@ -135,8 +135,8 @@ module _ (b : List ℕ) (len size : ℕ) (f : size ≡ ite (leb len (length b)) 
             place = λ d p. subst (λ (d : Drawing). UnmetPlace e d (r % 65536) (r / 65536)) (same d p) (w2 .place);
           }
 
-    pub wall-served : (bytes b′ a a′ : List ℕ) (r : ℕ) → WallDeliveryWritten replica bytes b b′ a a′ r → WallCallWritten len count bytes b b′ a a′ r
-    wall-served bytes b′ a a′ r w =
+    pub wall-call-written : (bytes b′ a a′ : List ℕ) (r : ℕ) → WallDeliveryWritten replica bytes b b′ a a′ r → WallCallWritten len count bytes b b′ a a′ r
+    wall-call-written bytes b′ a a′ r w =
         let g : wallCallOutcome b len count bytes ≡ wallOn (length b) bytes (stateOf replica) = ap (λ (o : I.ParseResult). onImage o count (wallOn (length b) bytes)) read in
         record {
           served = subst (λ (v : CallOutcome). CallWritten v b b′ a a′ r) (sym g) (w .served);

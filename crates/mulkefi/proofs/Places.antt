@@ -22,8 +22,8 @@ use Rattle.chains.proofs.Edits.{plan-valid}
 use Rattle.modify.specs.declared.PlanResult.{PlanResult}
 use Rattle.modify.specs.declared.PlanResult.the-variants.{Refused, Accepted}
 use Rattle.modify.specs.Edits.{planOnCurve, planOnFound, planEdit, applyPlanned, editUntested}
-use Rattle.modify.proofs.Suits.{unless-chosen}
-use Rattle.modify.proofs.Moves.{extend-chosen}
+use Rattle.modify.proofs.Suits.{guard-plan-accepted}
+use Rattle.modify.proofs.Moves.{extend-moves-end}
 use Rattle.replication.specs.Protocol.{Edit}
 use Rattle.replication.specs.Transitions.{UnmetPlace}
 
@@ -44,7 +44,7 @@ found-pinned d t p plan h = go (curveIn (d .curves) t) refl h
     go : (o : Option Curve) → curveIn (d .curves) t ≡ o → planOnFound Extend d p o ≡ Accepted plan → Pinned d t plan
     go none e h = let z : _≡_ {A = ℕ} 0 1 = cc in absurd (omega arith)
     go (some c) e h =
-        let w = extend-chosen d c p plan h .1 in
+        let w = extend-moves-end d c p plan h .1 in
         subst (λ (i : ℕ). Pinned d i plan) (look-some (d .curves) t c e .1) (subst (Pinned d (c .id)) (sym (w .is)) (w .held))
 
 untested-valid : (d : Drawing) (t : ℕ) (p : Vec2) (d′ : Drawing) (r : Removed) → Valid limits d → editUntested Extend limits d t p ≡ accepted d′ r → Valid limits d′
@@ -54,7 +54,7 @@ untested-valid d t p d′ r v q = go (planEdit Extend d t p) refl q
     go : (c : PlanResult) → planEdit Extend d t p ≡ c → applyPlanned (λ d. true) limits d t c ≡ accepted d′ r → Valid limits d′
     go (Refused n) e q = let z : _≡_ {A = ℕ} 0 1 = cc in absurd (omega arith)
     go (Accepted plan) e q =
-        plan-valid (λ d. true) limits d v t plan d′ r q (found-pinned d t p plan (unless-chosen (okPosition p) 9 (planOnFound Extend d p (curveIn (d .curves) t)) plan e .1))
+        plan-valid (λ d. true) limits d v t plan d′ r q (found-pinned d t p plan (guard-plan-accepted (okPosition p) 9 (planOnFound Extend d p (curveIn (d .curves) t)) plan e .1))
 
 -- ---- the place
 

@@ -8,14 +8,14 @@ use lib.Ieee.{Float}
 use Rattle.bernstein.specs.Roots.{RootsResult, found, refused, answerOf, Searched, numberOf}
 use Rattle.bernstein.specs.declared.Roots.{Roots}
 use Rattle.bernstein.specs.declared.Roots.the-variants.{Found, Refused}
-use Rattle.mulkefi.specs.Polynomials.{answerAfter, RootsWritten}
+use Rattle.mulkefi.specs.Polynomials.{rootsAnswerAfter, RootsWritten}
 
 module _ (o : RootsResult) (lent later : List Float) (before : List ℕ) (r : Roots) (s : Searched o lent later r) where
   pub answered-found : (n b : ℕ) → r ≡ Found n b → RootsWritten o lent later before (set (set before 0 n) 1 b) 0
   unfolding answerOf
   answered-found n b e = let k = go o (sym e ∙ s .answer) in record { number = sym (k .0); buffer = s .buffer; numbers = sym (k .1) }
     where
-      go : (o : RootsResult) → Found n b ≡ answerOf o → (numberOf o ≡ 0) × (answerAfter o before ≡ set (set before 0 n) 1 b)
+      go : (o : RootsResult) → Found n b ≡ answerOf o → (numberOf o ≡ 0) × (rootsAnswerAfter o before ≡ set (set before 0 n) 1 b)
       go (found l b') a = (refl, cc)
       go (refused w b') a = let z : _≡_ {A = ℕ} 0 1 = cc in absurd (omega arith)
 
@@ -23,6 +23,6 @@ module _ (o : RootsResult) (lent later : List Float) (before : List ℕ) (r : Ro
   unfolding answerOf
   answered-refused w b e = let k = go o (sym e ∙ s .answer) in record { number = sym (k .0); buffer = s .buffer; numbers = sym (k .1) }
     where
-      go : (o : RootsResult) → Refused w b ≡ answerOf o → (numberOf o ≡ w) × (answerAfter o before ≡ before)
+      go : (o : RootsResult) → Refused w b ≡ answerOf o → (numberOf o ≡ w) × (rootsAnswerAfter o before ≡ before)
       go (found l b') a = let z : _≡_ {A = ℕ} 0 1 = cc in absurd (omega arith)
       go (refused w' b') a = (cc, refl)

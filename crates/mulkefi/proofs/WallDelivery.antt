@@ -27,16 +27,16 @@ use Rattle.mulkefi.specs.Calls.{numberOf, bufferAfter, OutcomeSound, ans
 use Rattle.mulkefi.proofs.Places.{unmet-whole, unmet-none}
 
 module _ (s : Replica) (bytes b a : List ℕ) (v : sketchFault (s .sketch) ≡ 0) (x : WallTransition) (h : WallDelivers s (wallCall bytes x)) where
-  abbrev verdict : CallOutcome
-  verdict = wallOn (length b) bytes (stateOf s)
+  abbrev outcome : CallOutcome
+  outcome = wallOn (length b) bytes (stateOf s)
 
-  result-is : (t : M.WallReply Removed) → wallReply (x .reply) ≡ t → verdict ≡ wallOutcome (length b) (stateOf (x .replica)) t
+  result-is : (t : M.WallReply Removed) → wallReply (x .reply) ≡ t → outcome ≡ wallOutcome (length b) (stateOf (x .replica)) t
   result-is t e = let p = sym (h .step v .state) in let q = sym (h .step v .reply) ∙ e in λ i. wallOutcome (length b) (p i) (q i)
 
   -- what an outcome leaves
   leaves :
-      (w : CallOutcome) → verdict ≡ w → (r : ℕ) → r % 65536 ≡ numberOf w → NoPlace (numberOf w) (r / 65536) → (b′ a′ : List ℕ) → b′ ≡ bufferAfter w b → OutcomeSound w → a′ ≡ answerAfter w a
-      → CallWritten verdict b b′ a a′ r
+      (w : CallOutcome) → outcome ≡ w → (r : ℕ) → r % 65536 ≡ numberOf w → NoPlace (numberOf w) (r / 65536) → (b′ a′ : List ℕ) → b′ ≡ bufferAfter w b → OutcomeSound w → a′ ≡ answerAfter w a
+      → CallWritten outcome b b′ a a′ r
   leaves w g r n q b′ a′ i o j =
       record {
         number = n ∙ sym (ap numberOf g);
@@ -60,7 +60,7 @@ module _ (s : Replica) (bytes b a : List ℕ) (v : sketchFault (s .sketch) ≡ 0
   pub delivery-old : x .reply ≡ Wall.Old → (a′ : List ℕ) → a′ ≡ answerFor a (stateOf s) nothing → WallDeliveryWritten s bytes b b a a′ 0
   delivery-old t a′ j =
       let kept : x .replica ≡ s = subst (λ (u : WallReply). WallKept u s (x .replica)) t (h .kept) in
-      let g : verdict ≡ old (stateOf s) = result-is M.wallOld (ap wallReply t) ∙ ap (λ (u : Replica). old (stateOf u)) kept in
+      let g : outcome ≡ old (stateOf s) = result-is M.wallOld (ap wallReply t) ∙ ap (λ (u : Replica). old (stateOf u)) kept in
       record {
         served = leaves (old (stateOf s)) g 0 refl (λ y z. refl) b a′ refl tt j;
         place = λ i e o. unmet-none e (view (s .sketch)) 0 0 (λ z. omega arith) (λ z. omega arith);
@@ -69,7 +69,7 @@ module _ (s : Replica) (bytes b a : List ℕ) (v : sketchFault (s .sketch) ≡ 0
   pub delivery-updated : (q : Removed) → x .reply ≡ Wall.Applied q → (b′ a′ : List ℕ) (n : ℕ) → ResultWritten (ifImageFits (length b) (stateOf (x .replica)) q) b b′ a a′ n → WallDeliveryWritten s bytes b b′ a a′ n
   delivery-updated q t b′ a′ n w = go (leb (drawingSize (view (x .replica .sketch))) (length b)) (result-is (M.wallApplied q) (ap wallReply t)) w
     where
-      go : (f : Bool) → verdict ≡ ite f (updated (stateOf (x .replica)) q) (refused 25) → ResultWritten (ite f (updated (stateOf (x .replica)) q) (refused 25)) b b′ a a′ n → WallDeliveryWritten s bytes b b′ a a′ n
+      go : (f : Bool) → outcome ≡ ite f (updated (stateOf (x .replica)) q) (refused 25) → ResultWritten (ite f (updated (stateOf (x .replica)) q) (refused 25)) b b′ a a′ n → WallDeliveryWritten s bytes b b′ a a′ n
       go true g w =
           record {
             served = leaves (updated (stateOf (x .replica)) q) g n (omega (arith, w .number)) (λ y z. omega (arith, w .number)) b′ a′ (w .image) (w .sound) (w .numbers);

@@ -33,7 +33,7 @@ result-number zero (suc n) d e h = let z : _≡_ {A = ℕ} 0 1 = cc in absurd (o
 result-number (suc m) zero d e h = let z : _≡_ {A = ℕ} 0 1 = cc in absurd (omega arith)
 result-number (suc m) (suc n) d e h = cc
 
--- and so is its drawing, where it is accepted
+-- an accepted answer's drawing is the parse result's
 result-drawing : (m n : ℕ) (d e : Drawing) → resultOf m d ≡ resultOf n e → m ≡ 0 → d ≡ e
 unfolding resultOf
 result-drawing zero zero d e h z = cc

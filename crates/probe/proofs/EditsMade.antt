@@ -150,7 +150,7 @@ module _ (op : Operation) (sk : Sketch) (t : ℕ) (p : Vec2) (f : sketchFault sk
   unfolding editAdds
   adds-sum z e = let q : outcomeOf r ≡ accepted (view (r .sketch)) (r .removed) = rw (eq-eqb (r .refusal) 0 z) in e ∙ sym (ap editAdds (sym made ∙ q))
 
--- and so many edits of what an image gives
+-- so many edits of an image's drawing are so many of the drawing that its bytes give
 pub adds-read :
     (op : ℕ) (s : List ℕ) (t : ℕ) (p : Vec2) (times : ℕ) {d : Drawing} {o : Operation} {n : ℕ} → d ≡ drawingOf s → o ≡ operationOf op
     → n ≡ repeated times (editAdds (editOf o limits d t p)) → n ≡ repeated times (editAdds (editOf (operationOf op) limits (drawingOf s) t p))

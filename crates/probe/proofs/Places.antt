@@ -21,8 +21,8 @@ use Rattle.chains.proofs.Edits.{plan-valid}
 use Rattle.modify.specs.declared.PlanResult.{PlanResult}
 use Rattle.modify.specs.declared.PlanResult.the-variants.{Refused, Accepted}
 use Rattle.modify.specs.Edits.{planOnCurve, planOnFound, planEdit, applyPlanned, editUntested}
-use Rattle.modify.proofs.Suits.{unless-chosen}
-use Rattle.modify.proofs.Moves.{extend-chosen}
+use Rattle.modify.proofs.Suits.{guard-plan-accepted}
+use Rattle.modify.proofs.Moves.{extend-moves-end}
 
 pub place-low : (d : Drawing) (k : ℕ) → Valid limits d → unmetAt d k ≡ true → k < 256
 place-low d k v h = omega (arith, fails-within (met (d .points) (d .curves)) (d .relations) k h, v .relations-fit)
@@ -34,7 +34,7 @@ extend-pinned d t p plan h = go (curveIn (d .curves) t) refl h
     go : (o : Option Curve) → curveIn (d .curves) t ≡ o → planOnFound Extend d p o ≡ Accepted plan → Pinned d t plan
     go none e h = let z : _≡_ {A = ℕ} 0 1 = cc in absurd (omega arith)
     go (some c) e h =
-        let w = extend-chosen d c p plan h .1 in
+        let w = extend-moves-end d c p plan h .1 in
         subst (λ (i : ℕ). Pinned d i plan) (look-some (d .curves) t c e .1) (subst (Pinned d (c .id)) (sym (w .is)) (w .held))
 
 -- an extend leaves a valid drawing before its relations are tested
@@ -45,4 +45,4 @@ untested-valid d t p d′ r v q = go (planEdit Extend d t p) refl q
     go : (c : PlanResult) → planEdit Extend d t p ≡ c → applyPlanned (λ x. true) limits d t c ≡ accepted d′ r → Valid limits d′
     go (Refused n) e q = let z : _≡_ {A = ℕ} 0 1 = cc in absurd (omega arith)
     go (Accepted plan) e q =
-        plan-valid (λ x. true) limits d v t plan d′ r q (extend-pinned d t p plan (unless-chosen (okPosition p) 9 (planOnFound Extend d p (curveIn (d .curves) t)) plan e .1))
+        plan-valid (λ x. true) limits d v t plan d′ r q (extend-pinned d t p plan (guard-plan-accepted (okPosition p) 9 (planOnFound Extend d p (curveIn (d .curves) t)) plan e .1))

@@ -8,10 +8,10 @@ use lib.Ieee.{Float}
 use Rattle.bernstein.specs.Roots.{RootsResult, found, refused, answerOf, Searched, numberOf}
 use Rattle.bernstein.specs.declared.Roots.{Roots}
 use Rattle.bernstein.specs.declared.Roots.the-variants.{Found, Refused}
-use Rattle.probe.specs.Polynomials.{countOf, budgetOf, RootsWritten}
+use Rattle.probe.specs.Polynomials.{countOf, budgetOf, RootsAndBudgetWritten}
 
 module _ (o : RootsResult) (lent later : List Float) (before : List ℕ) (r : Roots) (s : Searched o lent later r) where
-  pub answered-found : (n b : ℕ) → r ≡ Found n b → RootsWritten o lent later before (set (set before 0 n) 1 b) 0
+  pub answered-found : (n b : ℕ) → r ≡ Found n b → RootsAndBudgetWritten o lent later before (set (set before 0 n) 1 b) 0
   unfolding answerOf
   answered-found n b e = let k = go o (sym e ∙ s .answer) in record { number = sym (k .0); buffer = s .buffer; numbers = rw (k .1, k .2) }
     where
@@ -19,7 +19,7 @@ module _ (o : RootsResult) (lent later : List Float) (before : List ℕ) (r : Ro
       go (found l b') a = (refl, cc, cc)
       go (refused w b') a = let z : _≡_ {A = ℕ} 0 1 = cc in absurd (omega arith)
 
-  pub answered-refused : (w b : ℕ) → r ≡ Refused w b → RootsWritten o lent later before (set (set before 0 0) 1 b) w
+  pub answered-refused : (w b : ℕ) → r ≡ Refused w b → RootsAndBudgetWritten o lent later before (set (set before 0 0) 1 b) w
   unfolding answerOf
   answered-refused w b e = let k = go o (sym e ∙ s .answer) in record { number = sym (k .0); buffer = s .buffer; numbers = rw (k .1, k .2) }
     where

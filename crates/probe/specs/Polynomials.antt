@@ -15,7 +15,7 @@ budgetOf (found l b) = b
 budgetOf (refused w b) = b
 
 -- the number; the roots at the front of a buffer that is left as it was behind them; how many they are, and the budget that is left
-pub record RootsWritten (o : RootsResult) (lent later : List Float) (before answer : List ℕ) (r : ℕ) : Type 0 where
+pub record RootsAndBudgetWritten (o : RootsResult) (lent later : List Float) (before answer : List ℕ) (r : ℕ) : Type 0 where
   pub number : r ≡ numberOf o
   pub buffer : later ≡ leftIn o lent
   pub numbers : answer ≡ set (set before 0 (countOf o)) 1 (budgetOf o)

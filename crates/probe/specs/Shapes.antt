@@ -27,21 +27,21 @@ shapeFromNumbers kind n =
     (circle (pairAt n 0) (getD n 2 nan)))
 
 -- two numbers stored from a place on
-abbrev pub laid : List Float → ℕ → Float → Float → List Float
-laid out i x y = set (set out i x) (i + 1) y
+abbrev pub setPair : List Float → ℕ → Float → Float → List Float
+setPair out i x y = set (set out i x) (i + 1) y
 
-abbrev pub laidRange : List Float → Range → List Float
-laidRange out r = laid out 0 (r .start) (r .end)
+abbrev pub setRange : List Float → Range → List Float
+setRange out r = setPair out 0 (r .start) (r .end)
 
-abbrev pub laidPoint : List Float → ℕ → Vec2 → List Float
-laidPoint out i p = laid out i (p .x) (p .y)
+abbrev pub setPoint : List Float → ℕ → Vec2 → List Float
+setPoint out i p = setPair out i (p .x) (p .y)
 
 -- points stored one behind the other
-abbrev pub laidPoints : List Float → ℕ → List Vec2 → List Float
-laidPoints out i [] = out
-laidPoints out i (p ∷ ps) = laidPoints (laidPoint out i p) (i + 2) ps
+abbrev pub setPoints : List Float → ℕ → List Vec2 → List Float
+setPoints out i [] = out
+setPoints out i (p ∷ ps) = setPoints (setPoint out i p) (i + 2) ps
 
 -- the number of crossings, and their points at the front of a buffer that is left as it was behind them
 pub record Crossed (c : Crossings) (before later : List Float) (r : ℕ) : Type 0 where
   pub number : r ≡ length (points c)
-  pub buffer : later ≡ laidPoints before 0 (points c)
+  pub buffer : later ≡ setPoints before 0 (points c)

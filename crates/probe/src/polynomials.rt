@@ -3,7 +3,7 @@ ghost use mathlib.Core.Path.{_≡_};
 ghost use lib.ListN.{length};
 ghost use Rattle.bernstein.specs.Evaluate.{evaluateOf};
 ghost use Rattle.bernstein.specs.Roots.{searchOf};
-ghost use Rattle.probe.specs.Polynomials.{RootsWritten};
+ghost use Rattle.probe.specs.Polynomials.{RootsAndBudgetWritten};
 use bernstein::Roots;
 
 #[no_mangle]
@@ -21,7 +21,7 @@ pub extern "C" fn mulkefi_roots(
     budget: usize,
     answer: &mut [u64; 2],
 ) -> u32
-    ensures { λ r. ⌜ RootsWritten (searchOf (length (now (found .entry))) (now (c .entry)) budget) (now (found .entry)) (now (found .exit)) (now (answer .entry)) (now (answer .exit)) r ⌝ }
+    ensures { λ r. ⌜ RootsAndBudgetWritten (searchOf (length (now (found .entry))) (now (c .entry)) budget) (now (found .entry)) (now (found .exit)) (now (answer .entry)) (now (answer .exit)) r ⌝ }
 {
     let roots = bernstein::search::roots(c, found, budget);
     let Roots::Found(count, left) = roots else {

@@ -4,7 +4,7 @@ ghost use Rattle.geom.specs.Plane.{vec};
 ghost use Rattle.shape.specs.Intersections.{crossings};
 ghost use Rattle.shape.specs.Measures as M;
 ghost use Rattle.shape.specs.Measures.{isFull};
-ghost use Rattle.probe.specs.Shapes.{shapeFromNumbers, laidRange, laidPoint, Crossed};
+ghost use Rattle.probe.specs.Shapes.{shapeFromNumbers, setRange, setPoint, Crossed};
 use geom::Vec2;
 use shape::Crossings;
 use shape::Shape;
@@ -51,7 +51,7 @@ pub extern "C" fn mulkefi_is_full(kind: u32, n: &[f64; 6]) -> bool
 
 #[no_mangle]
 pub extern "C" fn mulkefi_range(kind: u32, n: &[f64; 6], out: &mut [f64; 2])
-    ensures { λ r. ⌜ now (out .exit) ≡ laidRange (now (out .entry)) (M.range (shapeFromNumbers kind (now (n .entry)))) ⌝ }
+    ensures { λ r. ⌜ now (out .exit) ≡ setRange (now (out .entry)) (M.range (shapeFromNumbers kind (now (n .entry)))) ⌝ }
 {
     let r = shape_from_numbers(kind, n).range();
     out[0] = r.start;
@@ -60,7 +60,7 @@ pub extern "C" fn mulkefi_range(kind: u32, n: &[f64; 6], out: &mut [f64; 2])
 
 #[no_mangle]
 pub extern "C" fn mulkefi_point(kind: u32, n: &[f64; 6], t: f64, out: &mut [f64; 2])
-    ensures { λ r. ⌜ now (out .exit) ≡ laidPoint (now (out .entry)) 0 (M.point (shapeFromNumbers kind (now (n .entry))) t) ⌝ }
+    ensures { λ r. ⌜ now (out .exit) ≡ setPoint (now (out .entry)) 0 (M.point (shapeFromNumbers kind (now (n .entry))) t) ⌝ }
 {
     let p = shape_from_numbers(kind, n).point(t);
     out[0] = p.x;
@@ -69,7 +69,7 @@ pub extern "C" fn mulkefi_point(kind: u32, n: &[f64; 6], t: f64, out: &mut [f64;
 
 #[no_mangle]
 pub extern "C" fn mulkefi_project(kind: u32, n: &[f64; 6], x: f64, y: f64, out: &mut [f64; 2])
-    ensures { λ r. ⌜ now (out .exit) ≡ laidPoint (now (out .entry)) 0 (M.project (shapeFromNumbers kind (now (n .entry))) (vec x y)) ⌝ }
+    ensures { λ r. ⌜ now (out .exit) ≡ setPoint (now (out .entry)) 0 (M.project (shapeFromNumbers kind (now (n .entry))) (vec x y)) ⌝ }
 {
     let p = shape_from_numbers(kind, n).project(Vec2::new(x, y));
     out[0] = p.x;

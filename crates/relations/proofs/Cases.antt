@@ -16,7 +16,7 @@ use Rattle.sketch.specs.declared.RelationSlot.{RelationSlot}
 use Rattle.sketch.specs.declared.Relation.the-variants.{Coincident, PointOnCurve, Collinear, Equal, Length, Distance, Midpoint, ArcLength, ArcSweep}
 use Rattle.relations.specs.declared.CurveData.{CurveData}
 use Rattle.sketch_geometry.specs.Geometry.{positionOf, shapeIn}
-use Rattle.relations.specs.Met.{same, close, on, lengthOrRadius, lineEndPoints, lineMidpoint, met}
+use Rattle.relations.specs.Met.{same, close, on, lengthOrRadiusOf, lineEndPoints, lineMidpoint, met}
 use Rattle.relations.specs.Columns.{CurveColumns, wholeOf, whole}
 use Rattle.sketch_geometry.specs.Columns.{PointColumns}
 use Rattle.relations.proofs.Failing.{Passed}
@@ -31,8 +31,8 @@ module _ (ps : List Point) (cs : List Curve) (r : Relation) where
   abbrev Read : CurveData → ℕ → Type 0
   Read s c = wholeOf s ≡ whole (shapeIn ps cs c)
 
-  extent-read : (s : CurveData) (c : ℕ) → Read s c → lengthOrRadius (wholeOf s) ≡ lengthOrRadius (shapeIn ps cs c)
-  extent-read s c f = ap lengthOrRadius f ∙ extent-whole (shapeIn ps cs c)
+  extent-read : (s : CurveData) (c : ℕ) → Read s c → lengthOrRadiusOf (wholeOf s) ≡ lengthOrRadiusOf (shapeIn ps cs c)
+  extent-read s c f = ap lengthOrRadiusOf f ∙ extent-whole (shapeIn ps cs c)
 
   module _ {p q : ℕ} {a b : Vec2} where
     pub met-coincident : r ≡ Coincident p q → a ≡ positionOf ps p → b ≡ positionOf ps q → close a b ≡ met ps cs r
@@ -57,12 +57,12 @@ module _ (ps : List Point) (cs : List Curve) (r : Relation) where
     unfolding met
     met-collinear e f g = rw (e, f, ap lineEndPoints g ∙ ends-whole (shapeIn ps cs b)) (every-whole (shapeIn ps cs a) (lineEndPoints (shapeIn ps cs b)))
 
-    pub met-equal : r ≡ Equal a b → Read s a → Read t b → same (lengthOrRadius (wholeOf s)) (lengthOrRadius (wholeOf t)) ≡ met ps cs r
+    pub met-equal : r ≡ Equal a b → Read s a → Read t b → same (lengthOrRadiusOf (wholeOf s)) (lengthOrRadiusOf (wholeOf t)) ≡ met ps cs r
     unfolding met
     met-equal e f g = rw (e, extent-read s a f, extent-read t b g)
 
   module _ {l : ℕ} {v : Float} where
-    pub met-length : (s : CurveData) → r ≡ Length l v → Read s l → same (lengthOrRadius (wholeOf s)) v ≡ met ps cs r
+    pub met-length : (s : CurveData) → r ≡ Length l v → Read s l → same (lengthOrRadiusOf (wholeOf s)) v ≡ met ps cs r
     unfolding met
     met-length s e f = rw (e, extent-read s l f)
 

@@ -20,7 +20,7 @@ use Rattle.shape.proofs.Offsets.{dist-at-most}
 use Rattle.sketch.specs.Lists.{ite}
 use Rattle.relations.specs.declared.CurveData.{CurveData}
 use Rattle.sketch_geometry.specs.Geometry.{nowhere}
-use Rattle.relations.specs.Met.{small, close, on, lengthOrRadius, lineEndPoints, lineMidpoint}
+use Rattle.relations.specs.Met.{small, close, on, lengthOrRadiusOf, lineEndPoints, lineMidpoint}
 use Rattle.relations.specs.Columns.{wholeOf, whole}
 
 -- ---- by squares
@@ -99,8 +99,8 @@ on-whole none p = refl
 on-whole (some (S.Line a b)) p = refl
 on-whole (some (S.Round c r start sweep)) p = refl
 
-pub extent-whole : (o : Option Shape) → lengthOrRadius (whole o) ≡ lengthOrRadius o
-unfolding lengthOrRadius whole
+pub extent-whole : (o : Option Shape) → lengthOrRadiusOf (whole o) ≡ lengthOrRadiusOf o
+unfolding lengthOrRadiusOf whole
 extent-whole none = refl
 extent-whole (some (S.Line a b)) = refl
 extent-whole (some (S.Round c r start sweep)) = refl

@@ -23,7 +23,7 @@ use Rattle.sketch.proofs.Facts.{getD-mapped, curve-at, curve-nowhere}
 use Rattle.relations.specs.declared.CurveData.{CurveData}
 use Rattle.sketch_geometry.specs.Geometry.{positionOf, shapeOf, shapeFrom, shapeIn}
 use Rattle.sketch_geometry.specs.Columns.{position, PointColumns}
-use Rattle.sketch_geometry.proofs.Found.{spot-stands}
+use Rattle.sketch_geometry.proofs.Found.{position-stands}
 use Rattle.relations.specs.Columns.{CurveColumns, IdAt, RowOf, wholeOf, whole}
 use Rattle.relations.proofs.CurveMeasures.{whole-line, whole-arc, whole-circle, whole-none}
 
@@ -35,15 +35,15 @@ module _ {ps : List Point} {points : List ℕ} {xs ys : List Float} (p : PointCo
       → wholeOf s ≡ whole (shapeOf ps k)
   unfolding whole shapeOf
   answered-whole (Line a b) kind i j number t e f g h =
-      let u : s .a ≡ positionOf ps a = f ∙ spot-stands p a i (t .1 .0) (t .1 .1) in
-      let v : s .b ≡ positionOf ps b = g ∙ spot-stands p b j (t .2 .0) (t .2 .1) in
+      let u : s .a ≡ positionOf ps a = f ∙ position-stands p a i (t .1 .0) (t .1 .1) in
+      let v : s .b ≡ positionOf ps b = g ∙ position-stands p b j (t .2 .0) (t .2 .1) in
       whole-line s (e ∙ t .0) ∙ rw (u, v)
   answered-whole (Arc c a b) kind i j number t e f g h =
-      let u : s .a ≡ positionOf ps c = f ∙ spot-stands p c i (t .1 .0) (t .1 .1) in
-      let v : s .b ≡ positionOf ps a = g ∙ spot-stands p a j (t .2 .0) (t .2 .1) in
+      let u : s .a ≡ positionOf ps c = f ∙ position-stands p c i (t .1 .0) (t .1 .1) in
+      let v : s .b ≡ positionOf ps a = g ∙ position-stands p a j (t .2 .0) (t .2 .1) in
       whole-arc s (e ∙ t .0) ∙ rw (u, v)
   answered-whole (Circle c r) kind i j number t e f g h =
-      let u : s .a ≡ positionOf ps c = f ∙ spot-stands p c i (t .1 .0) (t .1 .1) in
+      let u : s .a ≡ positionOf ps c = f ∙ position-stands p c i (t .1 .0) (t .1 .1) in
       whole-circle s (e ∙ t .0) ∙ rw (u, h ∙ t .2)
   answered-whole (Bezier n) kind i j number t e f g h = whole-none s (λ z. omega arith) (λ z. omega arith) (λ z. omega arith)
   answered-whole (Conic a m b rho) kind i j number t e f g h = whole-none s (λ z. omega arith) (λ z. omega arith) (λ z. omega arith)

@@ -38,11 +38,11 @@ unfoldable pub on : Option Shape → Vec2 → Bool
 on none p = true
 on (some sh) p = small (dist sh p)
 
--- a line's length, a round's radius
-unfoldable pub lengthOrRadius : Option Shape → Float
-lengthOrRadius none = nan
-lengthOrRadius (some (S.Line a b)) = distance a b
-lengthOrRadius (some (S.Round c r start sweep)) = r
+-- a line's length, or a round's radius; a freeform curve has neither, which is a NaN here
+unfoldable pub lengthOrRadiusOf : Option Shape → Float
+lengthOrRadiusOf none = nan
+lengthOrRadiusOf (some (S.Line a b)) = distance a b
+lengthOrRadiusOf (some (S.Round c r start sweep)) = r
 
 -- a line's ends
 unfoldable pub lineEndPoints : Option Shape → List Vec2
@@ -63,8 +63,8 @@ unfoldable pub met : List Point → List Curve → Relation → Bool
 met ps cs (Coincident p q) = close (positionOf ps p) (positionOf ps q)
 met ps cs (PointOnCurve p c) = on (shapeIn ps cs c) (positionOf ps p)
 met ps cs (Collinear a b) = every (on (shapeIn ps cs a)) (lineEndPoints (shapeIn ps cs b))
-met ps cs (Equal a b) = same (lengthOrRadius (shapeIn ps cs a)) (lengthOrRadius (shapeIn ps cs b))
-met ps cs (Length l v) = same (lengthOrRadius (shapeIn ps cs l)) v
+met ps cs (Equal a b) = same (lengthOrRadiusOf (shapeIn ps cs a)) (lengthOrRadiusOf (shapeIn ps cs b))
+met ps cs (Length l v) = same (lengthOrRadiusOf (shapeIn ps cs l)) v
 met ps cs (Distance p q v) = same (distance (positionOf ps p) (positionOf ps q)) v
 met ps cs (Midpoint p l) = close (positionOf ps p) (lineMidpoint (shapeIn ps cs l))
 met ps cs (ArcLength c v) = true

@@ -46,9 +46,9 @@ pub(crate) fn on(s: CurveData, p: Vec2) -> bool
     }
 }
 
-// A line's length, a round's radius.
-pub(crate) fn length_or_radius(s: CurveData) -> f64
-    ensures { λ r. ⌜ r ≡ M.lengthOrRadius (wholeOf s) ⌝ }
+// A line's length, or a round's radius; of any other curve a NaN.
+pub(crate) fn length_or_radius_of(s: CurveData) -> f64
+    ensures { λ r. ⌜ r ≡ M.lengthOrRadiusOf (wholeOf s) ⌝ }
 {
     let a = s.a;
     let b = s.b;

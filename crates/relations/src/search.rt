@@ -2,7 +2,7 @@
 use crate::measures::close;
 use crate::measures::is_collinear;
 use crate::measures::is_midpoint;
-use crate::measures::length_or_radius;
+use crate::measures::length_or_radius_of;
 use crate::measures::on;
 use crate::measures::same;
 use crate::reading::piece_at;
@@ -44,11 +44,11 @@ fn is_met<'a>(
         Relation::Equal(a, b) => {
             let s = piece_at(a, xs, ys, ids, near, kinds, firsts, seconds, numbers);
             let t = piece_at(b, xs, ys, ids, near, kinds, firsts, seconds, numbers);
-            same(length_or_radius(s), length_or_radius(t))
+            same(length_or_radius_of(s), length_or_radius_of(t))
         }
         Relation::Length(l, v) => {
             let s = piece_at(l, xs, ys, ids, near, kinds, firsts, seconds, numbers);
-            same(length_or_radius(s), v)
+            same(length_or_radius_of(s), v)
         }
         Relation::Distance(p, q, v) => {
             let a = position_of(p, points, near_points, xs, ys);

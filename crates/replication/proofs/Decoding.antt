@@ -23,10 +23,10 @@ use Rattle.agreement.specs.Machines.{message, maxEditNumber}
 use Rattle.agreement.proofs.Wall.{Read}
 use Rattle.replication.specs.Protocol.{Edit, isPick, edit, messageFor, editIn, decodedOf, protocol, target}
 
-pub need-accepted : {D A : Type 0} (b : Bool) (n : ℕ) (o : Outcome D A) (d : D) (a : A) → guard b n o ≡ accepted d a → (b ≡ true) × (o ≡ accepted d a)
+pub guard-accepted : {D A : Type 0} (b : Bool) (n : ℕ) (o : Outcome D A) (d : D) (a : A) → guard b n o ≡ accepted d a → (b ≡ true) × (o ≡ accepted d a)
 unfolding guard
-need-accepted true n o d a e = (refl, e)
-need-accepted false n o d a e = let z : _≡_ {A = ℕ} 0 1 = cc in absurd (omega arith)
+guard-accepted true n o d a e = (refl, e)
+guard-accepted false n o d a e = let z : _≡_ {A = ℕ} 0 1 = cc in absurd (omega arith)
 
 both-fit : (a b : Bool) → (a && b) ≡ true → T a × T b
 both-fit true true e = (tt, tt)
@@ -35,14 +35,14 @@ both-fit false b e = let z : _≡_ {A = ℕ} 0 1 = cc in absurd (omega arith)
 
 -- an accepted edit is one of the definition, of a pick that binary64 holds
 pub literal : (d : Drawing) (e : Edit) (d′ : Drawing) (r : Removed) → edit d e ≡ accepted d′ r → editOf (e .operation) limits d (e .curve) (e .at) ≡ accepted d′ r
-literal d e d′ r q = need-accepted (isPick (e .at)) 9 (editOf (e .operation) limits d (e .curve) (e .at)) d′ r q .1
+literal d e d′ r q = guard-accepted (isPick (e .at)) 9 (editOf (e .operation) limits d (e .curve) (e .at)) d′ r q .1
 
 pub planned : Planned target allMet limits (protocol .edit)
 planned d e d′ r v q = edit-planned (e .operation) limits d (e .curve) (e .at) d′ r (literal d e d′ r q)
 
 -- a pick's bits give it back
-meant-sent : (n : ℕ) (e : Edit) → T (fits binary64 (e .at .x)) → T (fits binary64 (e .at .y)) → editIn (messageFor n e) ≡ e
-meant-sent n e a b =
+edit-in-message : (n : ℕ) (e : Edit) → T (fits binary64 (e .at .x)) → T (fits binary64 (e .at .y)) → editIn (messageFor n e) ≡ e
+edit-in-message n e a b =
     let p = ofBits-toBits binary64 (e .at .x) a in
     let q = ofBits-toBits binary64 (e .at .y) b in
     λ i. record { operation = e .operation; curve = e .curve; at = record { x = p i; y = q i } }
@@ -57,11 +57,11 @@ read-back n e l h c f =
       x-fits = toBits-lt binary64 (e .at .x) a;
       y-fits = toBits-lt binary64 (e .at .y) b;
     }) in
-    rw (w, le-leb 1 n l) (ap (message n) (meant-sent n e a b))
+    rw (w, le-leb 1 n l) (ap (message n) (edit-in-message n e a b))
 
 pub read : Read protocol (Valid limits)
 read d e d′ r v q n l h =
-    let f = need-accepted (isPick (e .at)) 9 (editOf (e .operation) limits d (e .curve) (e .at)) d′ r q .0 in
+    let f = guard-accepted (isPick (e .at)) 9 (editOf (e .operation) limits d (e .curve) (e .at)) d′ r q .0 in
     let (plan, k, o) = planned d e d′ r v q in
     let t = plan-target allMet limits d v (e .curve) plan d′ r o .1 in
     read-back n e l h (omega (arith, t, v .next-high)) f

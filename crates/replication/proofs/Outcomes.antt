@@ -24,7 +24,7 @@ use Rattle.modify.specs.Planning.{guardPlan}
 use Rattle.modify.specs.Edits.{planOnFound, applyPlanned, editOf, EditAnswer}
 use Rattle.replication.specs.Protocol.{Edit, isPick, edit}
 use Rattle.replication.specs.Transitions.{UnmetPlace, firstFault}
-use Rattle.replication.proofs.Decoding.{need-accepted}
+use Rattle.replication.proofs.Decoding.{guard-accepted}
 
 -- ---- the sketch's own number first
 
@@ -44,7 +44,7 @@ first-above s k e h z = go (eqb (sketchFault s) 0) refl (sym e ∙ z)
     go true q i = h i
     go false q i = eqb-false (sketchFault s) 0 q i
 
--- and as it is computed
+-- a sketch's own number above 0 is the first fault
 pub first-if : (s : Sketch) (k : ℕ) {n : ℕ} → n ≡ sketchFault s → (n ≡ 0 → ⊥) → n ≡ firstFault s k
 unfolding guardNumber
 first-if s k {n} e h = e ∙ sym (rw (ne-eqb (sketchFault s) 0 (λ z. h (e ∙ z))))
@@ -160,7 +160,7 @@ module _ (s : Sketch) (e : Edit) (r : Edited) (a : EditAnswer (e .operation) s (
 
   pub accepted-place : r .refusal ≡ 0 → (okCoordinate (e .at .x) ≡ true) × (okCoordinate (e .at .y) ≡ true)
   accepted-place z =
-      let q = need-accepted (eqb (sketchFault s) 0) (sketchFault s) (editOf (e .operation) limits (view s) (e .curve) (e .at)) _ _ (sym (a .outcome) ∙ out-accepted z) .1 in
+      let q = guard-accepted (eqb (sketchFault s) 0) (sketchFault s) (editOf (e .operation) limits (view s) (e .curve) (e .at)) _ _ (sym (a .outcome) ∙ out-accepted z) .1 in
       both-true _ _ (decided-place (okPosition (e .at)) (planOnFound (e .operation) (view s) (e .at) (curveIn (view s .curves) (e .curve))) (view s) (e .curve) _ _ q)
 
   pub unmet : UnmetPlace e (view s) (r .refusal) (r .place)

@@ -192,8 +192,8 @@ module _ (s : List ℕ) (end : ℕ) (e : end ≡ least (imageEnd s) (length s)) 
   reply : I.parse (take (imageEnd s) s) ≡ I.resultOf (r .refusal) (view (r .replica .sketch))
   reply = ap I.parse (sym image-is) ∙ sym (st .reply)
 
-  pub played-refused : (r .refusal ≡ 0 → ⊥) → (b now : List ℕ) (n : ℕ) → WritesOutcome (I.refused (r .refusal)) b now n → WritesOutcome (programOutcome s) b now n
-  played-refused h b now n w =
+  pub outcome-refused : (r .refusal ≡ 0 → ⊥) → (b now : List ℕ) (n : ℕ) → WritesOutcome (I.refused (r .refusal)) b now n → WritesOutcome (programOutcome s) b now n
+  outcome-refused h b now n w =
       let q : programOutcome s ≡ I.refused (r .refusal) = ap (λ (o : I.ParseResult). outcomeOn o (chunks (drop (imageEnd s) s))) (reply ∙ result-refused (r .refusal) _ h) in
       subst (λ (o : I.ParseResult). WritesOutcome o b now n) (sym q) w
 

@@ -33,7 +33,7 @@ use Rattle.replication.specs.declared.WallTransition.{WallTransition}
 use Rattle.replication.specs.Protocol.{Edit, messageFor, protocol}
 use Rattle.replication.specs.Transitions.{stateOf, deskReply, deskStep, written, DeskCall, DeskEdits, wallStep, wallCall, WallDelivers}
 use Rattle.replication.specs.RunBoth.{editAt, callAt, callsIn, concat, MessageSized, DeskRan, messagesInLog, WallRan, messagesAt, roomAt, callSize, maxRoom}
-use Rattle.replication.proofs.Decoding.{need-accepted}
+use Rattle.replication.proofs.Decoding.{guard-accepted}
 
 -- ---- lists that grow at their end
 
@@ -41,9 +41,9 @@ map-more : {A B : Type 0} (f : A → B) (xs : List A) (x : A) → map f (xs ++ (
 map-more f [] x = refl
 map-more f (u ∷ xs) x = ap (λ r. f u ∷ r) (map-more f xs x)
 
-spread-more : {A B : Type 0} (f : A → List B) (xs : List A) (x : A) → concatMap f (xs ++ (x ∷ [])) ≡ concatMap f xs ++ f x
-spread-more f [] x = append-nil (f x)
-spread-more f (u ∷ xs) x = ap (λ r. f u ++ r) (spread-more f xs x) ∙ sym (append-assoc (f u) (concatMap f xs) (f x))
+concat-map-more : {A B : Type 0} (f : A → List B) (xs : List A) (x : A) → concatMap f (xs ++ (x ∷ [])) ≡ concatMap f xs ++ f x
+concat-map-more f [] x = append-nil (f x)
+concat-map-more f (u ∷ xs) x = ap (λ r. f u ++ r) (concat-map-more f xs x) ∙ sym (append-assoc (f u) (concatMap f xs) (f x))
 
 take-more : (xs : List ℕ) (j : ℕ) → j < length xs → take (suc j) xs ≡ take j xs ++ (getD xs j 0 ∷ [])
 take-more [] j h = absurd (omega arith)
@@ -79,7 +79,7 @@ module _ (s t : Replica) (n : ℕ) (log order : List ℕ) (j : ℕ) (h : j < len
   delivery = take messageSize (drop (messageSize * o) log)
 
   grows : messagesInLog n log (take (suc j) order) ≡ messagesInLog n log (take j order) ++ ite (ltb o n) (delivery ∷ []) []
-  grows = ap (messagesInLog n log) (take-more order j h) ∙ spread-more (λ (o : ℕ). ite (ltb o n) (take messageSize (drop (messageSize * o) log) ∷ []) []) (take j order) o
+  grows = ap (messagesInLog n log) (take-more order j h) ∙ concat-map-more (λ (o : ℕ). ite (ltb o n) (take messageSize (drop (messageSize * o) log) ∷ []) []) (take j order) o
 
   pub ran-past : n ≤ o → WallRan s (messagesInLog n log (take (suc j) order)) t
   ran-past k = subst (λ (l : List (List ℕ)). WallRan s l t) (sym (grows ∙ rw (le-ltb o n k) (append-nil (messagesInLog n log (take j order))))) r
@@ -127,9 +127,9 @@ flat-append : (xs ys : List (List ℕ)) → concat (xs ++ ys) ≡ concat xs ++ c
 flat-append [] ys = refl
 flat-append (m ∷ xs) ys = ap (λ (l : List ℕ). m ++ l) (flat-append xs ys) ∙ sym (append-assoc m (concat xs) (concat ys))
 
-thirties-append : (xs ys : List (List ℕ)) → MessageSized xs → MessageSized ys → MessageSized (xs ++ ys)
-thirties-append [] ys h k = k
-thirties-append (m ∷ xs) ys h k = (h .0, thirties-append xs ys (h .1) k)
+message-sized-append : (xs ys : List (List ℕ)) → MessageSized xs → MessageSized ys → MessageSized (xs ++ ys)
+message-sized-append [] ys h k = k
+message-sized-append (m ∷ xs) ys h k = (h .0, message-sized-append xs ys (h .1) k)
 
 desk-ran-none : (s : Replica) (log : List ℕ) → sketchFault (s .sketch) ≡ 0 → s .count ≡ 0 → DeskRan (view (s .sketch)) [] log log s
 desk-ran-none s log v z =
@@ -170,7 +170,7 @@ module _ (d : Drawing) (cs : List (Call Edit)) (before log : List ℕ) (w : Repl
         fits = ft;
         many = ap length mm ∙ length-append (messages (r .steps)) reply ∙ mn;
         few = omega (arith, length-append cs (deskStep c .call ∷ []));
-        sizes = subst MessageSized (sym mm) (thirties-append (messages (r .steps)) reply (r .sizes) tw);
+        sizes = subst MessageSized (sym mm) (message-sized-append (messages (r .steps)) reply (r .sizes) tw);
         valid = step .valid (r .valid);
       }
 
@@ -195,7 +195,7 @@ rest-after log msg from room p h k e =
 room-of : (s : State Drawing) (c : Call Edit) (t : State Drawing) (q : Removed) → callOutcome protocol s c ≡ accepted t q → (messageSize ≤ c .room) × (t .count ≡ s .count + 1)
 room-of s c t q e =
     let k : Holds (Step protocol s (c .edit)) (accepted t q) = subst (Holds (Step protocol s (c .edit))) e (called protocol s c) in
-    (leb-true messageSize (c .room) (need-accepted (leb messageSize (c .room)) 25 _ t q e .0), k .next)
+    (leb-true messageSize (c .room) (guard-accepted (leb messageSize (c .room)) 25 _ t q e .0), k .next)
 
 module _
     (d : Drawing) (cs : List (Call Edit)) (before log : List ℕ) (w : Replica) (r : DeskRan d cs before log w)

@@ -1,4 +1,4 @@
--- What a delivery comes to, by cases: refused, old, or an edit applied. Assumes nothing.
+-- The outcome of a delivery, by cases: refused, old, or an edit applied. Assumes nothing.
 use mathlib.Core.Path.{_≡_, refl, sym, ap, subst}
 use mathlib.Core.Bool.{Bool, true, false}
 use mathlib.Core.List.{List, [], _∷_}

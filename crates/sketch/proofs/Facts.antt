@@ -23,18 +23,18 @@ use Rattle.sketch.proofs.Ascent.{above-ascends, above-at}
 -- ---- rules
 
 -- a rule's number is not 0, so that 0 means that the test holds and the later rules do
-pub rule-none : (b : Bool) (n rest : ℕ) → 0 < n → guardNumber b n rest ≡ 0 → (b ≡ true) × (rest ≡ 0)
+pub guard-number-none : (b : Bool) (n rest : ℕ) → 0 < n → guardNumber b n rest ≡ 0 → (b ≡ true) × (rest ≡ 0)
 unfolding guardNumber
-rule-none true n rest p h = (refl, h)
-rule-none false n rest p h = absurd (omega arith)
+guard-number-none true n rest p h = (refl, h)
+guard-number-none false n rest p h = absurd (omega arith)
 
-pub rule-kept : (b : Bool) (n rest : ℕ) → guardNumber b (suc n) rest ≡ 0 → (b ≡ true) × (rest ≡ 0)
-rule-kept b n rest e = rule-none b (suc n) rest (omega arith) e
+pub guard-number-kept : (b : Bool) (n rest : ℕ) → guardNumber b (suc n) rest ≡ 0 → (b ≡ true) × (rest ≡ 0)
+guard-number-kept b n rest e = guard-number-none b (suc n) rest (omega arith) e
 
-pub none-rule : (b : Bool) (n rest : ℕ) → b ≡ true → rest ≡ 0 → guardNumber b n rest ≡ 0
+pub none-guard-number : (b : Bool) (n rest : ℕ) → b ≡ true → rest ≡ 0 → guardNumber b n rest ≡ 0
 unfolding guardNumber
-none-rule true n rest h k = k
-none-rule false n rest h k = never h
+none-guard-number true n rest h k = k
+none-guard-number false n rest h k = never h
 
 -- ---- ids that rise
 
@@ -64,8 +64,8 @@ module _ {A : Type 0} (id : A → ℕ) (ok sound : A → Bool) (next : ℕ) wher
   table-facts last (a ∷ l) rest h =
       let above : Bool = ltb last (id a) in
       let below : Bool = ltb (id a) next in
-      let p = rule-none (ok a) 4 _ (omega arith) h in
-      let q = rule-none (above && below && sound a) 5 _ (omega arith) (p .1) in
+      let p = guard-number-none (ok a) 4 _ (omega arith) h in
+      let q = guard-number-none (above && below && sound a) 5 _ (omega arith) (p .1) in
       let u = all-three above below (sound a) (q .0) in
       let k = table-facts (id a) l rest (q .1) in (
         record {
@@ -85,8 +85,8 @@ module _ {A : Type 0} (id : A → ℕ) (ok sound : A → Bool) (next : ℕ) wher
   facts-table last (a ∷ l) rest t h =
       let above : Bool = ltb last (id a) in
       let below : Bool = ltb (id a) next in
-      none-rule (ok a) 4 _ (t .oks .0)
-      (none-rule (above && below && sound a) 5 _
+      none-guard-number (ok a) 4 _ (t .oks .0)
+      (none-guard-number (above && below && sound a) 5 _
       (three above below (sound a) (lt-ltb _ _ (t .rise .0)) (lt-ltb _ _ (t .rise .1)) (t .sounds .0))
       (facts-table (id a) l rest (record { rise = t .rise .2; oks = t .oks .1; sounds = t .sounds .1 }) h))
 
@@ -116,14 +116,14 @@ module _ {A : Type 0} (ok sound : A → Bool) where
   pub list-facts : (l : List A) → listFault ok sound l ≡ 0 → Every ok l × Every sound l
   list-facts [] h = (tt, tt)
   list-facts (a ∷ l) h =
-      let p = rule-none (ok a) 4 _ (omega arith) h in
-      let q = rule-none (sound a) 5 _ (omega arith) (p .1) in
+      let p = guard-number-none (ok a) 4 _ (omega arith) h in
+      let q = guard-number-none (sound a) 5 _ (omega arith) (p .1) in
       let k = list-facts l (q .1) in
       ((p .0, k .0), (q .0, k .1))
 
   pub facts-list : (l : List A) → Every ok l → Every sound l → listFault ok sound l ≡ 0
   facts-list [] o s = refl
-  facts-list (a ∷ l) o s = none-rule (ok a) 4 _ (o .0) (none-rule (sound a) 5 _ (s .0) (facts-list l (o .1) (s .1)))
+  facts-list (a ∷ l) o s = none-guard-number (ok a) 4 _ (o .0) (none-guard-number (sound a) 5 _ (s .0) (facts-list l (o .1) (s .1)))
 
 -- ---- drawings
 
@@ -149,8 +149,8 @@ module _ (m : Limits) (d : Drawing) where
 
   pub fault-valid : faultOf m d ≡ 0 → Valid m d
   fault-valid h =
-      let p = rule-none (few-points && few-curves && few-relations) 3 _ (omega arith) h in
-      let q = rule-none (low && high) 4 _ (omega arith) (p .1) in
+      let p = guard-number-none (few-points && few-curves && few-relations) 3 _ (omega arith) h in
+      let q = guard-number-none (low && high) 4 _ (omega arith) (p .1) in
       let t = table-facts (λ (x : Point). x .id) okPoint (λ (x : Point). true) (d .next) 0 (d .points) _ (q .1) in
       let c = table-facts (λ (x : Curve). x .id) okCurve (soundCurve (hasPoint (d .points))) (d .next) 0 (d .curves) _ (t .1) in
       let r = list-facts okRelation (soundRelation (hasPoint (d .points)) (sortIn (d .curves))) (d .relations) (c .1) in
@@ -172,9 +172,9 @@ module _ (m : Limits) (d : Drawing) where
 
   pub valid-fault : Valid m d → faultOf m d ≡ 0
   valid-fault v =
-      none-rule (few-points && few-curves && few-relations) 3 _
+      none-guard-number (few-points && few-curves && few-relations) 3 _
       (three few-points few-curves few-relations (le-leb _ _ (v .points-fit)) (le-leb _ _ (v .curves-fit)) (le-leb _ _ (v .relations-fit)))
-      (none-rule (low && high) 4 _ (both low high (le-leb _ _ (v .next-low)) (le-leb _ _ (v .next-high)))
+      (none-guard-number (low && high) 4 _ (both low high (le-leb _ _ (v .next-low)) (le-leb _ _ (v .next-high)))
       (facts-table (λ (x : Point). x .id) okPoint (λ (x : Point). true) (d .next) 0 (d .points) _
       (record { rise = v .points-rise; oks = v .points-ok; sounds = every-true (d .points) })
       (facts-table (λ (x : Curve). x .id) okCurve (soundCurve (hasPoint (d .points))) (d .next) 0 (d .curves) _

@@ -17,7 +17,7 @@ use Rattle.sketch.specs.Valid.{okPoint, okCurve, soundCurve, hasPoint, p
 use Rattle.sketch.specs.Facts.{Sized, Valid}
 use Rattle.sketch.specs.Columns.{sortsOf, shapesFault, PointsChecked, CurvesChecked, RelationsChecked}
 use Rattle.sketch.proofs.Bools.{all-three, or-left-false, or-right-false, at-most-or-above}
-use Rattle.sketch.proofs.Facts.{rule-none, none-rule, table-first, table-later, table-ascends, curves-by-column, relations-by-columns, fault-valid, valid-fault}
+use Rattle.sketch.proofs.Facts.{guard-number-none, none-guard-number, table-first, table-later, table-ascends, curves-by-column, relations-by-columns, fault-valid, valid-fault}
 
 -- ---- three counts against three limits
 
@@ -63,12 +63,12 @@ module _ (s : Sketch) where
   -- a sketch has no fault exactly where its counts are within its tables and what it shows is valid
   pub sketch-valid : sketchFault s ≡ 0 → Sized s × Valid limits (view s)
   sketch-valid h =
-      let p = rule-none within 3 _ (omega arith) h in
+      let p = guard-number-none within 3 _ (omega arith) h in
       let u = all-three (leb (s .npoints) 512) (leb (s .ncurves) 128) (leb (s .nrelations) 256) (p .0) in
       (record { points = leb-true _ _ (u .0); curves = leb-true _ _ (u .1); relations = leb-true _ _ (u .2) }, fault-valid limits (view s) (p .1))
 
   pub valid-sketch : Sized s → Valid limits (view s) → sketchFault s ≡ 0
-  valid-sketch z v = none-rule within 3 _ (counts z) (valid-fault limits (view s) v)
+  valid-sketch z v = none-guard-number within 3 _ (counts z) (valid-fault limits (view s) v)
 
   pub fault-over : ltb 512 (s .npoints) || ltb 128 (s .ncurves) || ltb 256 (s .nrelations) ≡ true → 3 ≡ sketchFault s
   unfolding guardNumber

@@ -47,19 +47,19 @@ module _ {ps : List Point} {ids : List ℕ} {xs ys : List Float} (p : PointColum
   as-many : length ids ≡ length ps
   as-many = ap length (p .ids-are) ∙ length-map ps (λ (x : Point). x .id)
 
-  pub spot-stands : (id k : ℕ) → k < length ids → getD ids k 0 ≡ id → position xs ys k ≡ positionOf ps id
-  spot-stands id k l s =
+  pub position-stands : (id k : ℕ) → k < length ids → getD ids k 0 ≡ id → position xs ys k ≡ positionOf ps id
+  position-stands id k l s =
       let q : k < length ps = omega (arith, as-many, l) in
       let r : Ascends (pointIds ps) = rw (← p .ids-are) (p .rise) in
       let e : getD ps k noPoint .id ≡ id = sym (getD-mapped (λ (x : Point). x .id) 0 noPoint ps k q) ∙ ap (λ l. getD l k 0) (sym (p .ids-are)) ∙ s in
       p .each k q ∙ sym (point-at ps k r q) ∙ ap (positionOf ps) e
 
-  pub spot-found : (id k : ℕ) → Found id ids k → position xs ys k ≡ positionOf ps id
-  spot-found id k f =
+  pub position-found : (id k : ℕ) → Found id ids k → position xs ys k ≡ positionOf ps id
+  position-found id k f =
       at-most-or-above (length ids) k
       (λ q.
       let n : among id (pointIds ps) ≡ false = rw (← p .ids-are) (f .nowhere (p .rise) (omega (arith, f .within))) in
       let u : length xs ≤ k = omega (arith, p .xs-long) in
       let v : length ys ≤ k = omega (arith, p .ys-long) in
       rw (List·getD-eq-default xs nan u, List·getD-eq-default ys nan v) (sym (point-nowhere id ps n)))
-      (λ q. spot-stands id k q (f .here q))
+      (λ q. position-stands id k q (f .here q))

@@ -81,30 +81,30 @@ module _ (o : HitsResult) (qx qy : List Float) (r : Hits) (w : HitsAtFront o qx 
     frontY : take k qy ≡ map (λ p. p .y) (listOf o)
     frontY = rw same-count (w .up)
 
-    pub laid-countX : k ≡ length (take k qx)
-    laid-countX = rw frontX (same-count ∙ sym (length-map (listOf o) (λ p. p .x)))
+    pub hits-countX : k ≡ length (take k qx)
+    hits-countX = rw frontX (same-count ∙ sym (length-map (listOf o) (λ p. p .x)))
 
-    pub laid-countY : k ≡ length (take k qy)
-    laid-countY = rw frontY (same-count ∙ sym (length-map (listOf o) (λ p. p .y)))
+    pub hits-countY : k ≡ length (take k qy)
+    hits-countY = rw frontY (same-count ∙ sym (length-map (listOf o) (λ p. p .y)))
 
-    pub laid-fitsX : k ≤ length qx
-    laid-fitsX = omega (arith, laid-countX, length-take k qx)
+    pub hits-fitX : k ≤ length qx
+    hits-fitX = omega (arith, hits-countX, length-take k qx)
 
-    pub laid-fitsY : k ≤ length qy
-    laid-fitsY = omega (arith, laid-countY, length-take k qy)
+    pub hits-fitY : k ≤ length qy
+    hits-fitY = omega (arith, hits-countY, length-take k qy)
 
-    pub laid-roomX : (n : ℕ) → length qx ≡ n → n ≤ 28 → (hx : List Float) → 28 ≤ length hx → length (take k qx) ≤ length hx
-    laid-roomX n same few hx room = omega (arith, laid-countX, laid-fitsX)
+    pub hits-roomX : (n : ℕ) → length qx ≡ n → n ≤ 28 → (hx : List Float) → 28 ≤ length hx → length (take k qx) ≤ length hx
+    hits-roomX n same few hx room = omega (arith, hits-countX, hits-fitX)
 
-    pub laid-roomY : (n : ℕ) → length qy ≡ n → n ≤ 28 → (hy : List Float) → 28 ≤ length hy → length (take k qy) ≤ length hy
-    laid-roomY n same few hy room = omega (arith, laid-countY, laid-fitsY)
+    pub hits-roomY : (n : ℕ) → length qy ≡ n → n ≤ 28 → (hy : List Float) → 28 ≤ length hy → length (take k qy) ≤ length hy
+    hits-roomY n same few hy room = omega (arith, hits-countY, hits-fitY)
 
     pub met-all : (hx hy laterX laterY : List Float) → laterX ≡ take k qx ++ drop (length (take k qx)) hx → laterY ≡ take k qy ++ drop (length (take k qy)) hy
         → HitsWritten o hx hy laterX laterY (Found k b)
     met-all hx hy laterX laterY ex ey =
         let n : k ≡ length (listOf o) = same-count in
-        let x : length (take k qx) ≡ length (listOf o) = sym laid-countX ∙ n in
-        let y : length (take k qy) ≡ length (listOf o) = sym laid-countY ∙ n in
+        let x : length (take k qx) ≡ length (listOf o) = sym hits-countX ∙ n in
+        let y : length (take k qy) ≡ length (listOf o) = sym hits-countY ∙ n in
         record { answer = sym e ∙ w .answer; across = ex ∙ rw (x, frontX); up = ey ∙ rw (y, frontY) }
 
 -- ---- a line or round

@@ -1,4 +1,4 @@
-use Rattle.sketch_geometry.proofs.Found.{spot-found}
+use Rattle.sketch_geometry.proofs.Found.{position-found}
 use mathlib.Core.Path.{_∙_}
 use native.Mathlib.Omega.{arith}
 use borrow.Author.Needs.{needs}
@@ -16,7 +16,7 @@ position-at-requires : tie.Need-position-at-requires
 position-at-requires c κs = search needs
 
 returns : tie.Need-returns
-returns c = λ ps p. c .position-at .ensures ∙ spot-found p _ _ (c .before .place-near .ensures)
+returns c = λ ps p. c .position-at .ensures ∙ position-found p _ _ (c .before .place-near .ensures)
 
 pub position-of-spec : {M : Type 1} → statement M
 position-of-spec = tie.close (tie.spec place-near-requires position-at-requires returns)

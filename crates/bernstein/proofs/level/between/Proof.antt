@@ -2,7 +2,7 @@ use Prim.Native.Nat.{_-_}
 use mathlib.Core.Logic.{⊎-elim}
 use lib.ListN.{length}
 use borrow.Author.Tests.{not-true, not-false}
-use Rattle.bernstein.proofs.KnotWalks.{laid-found, laid-refused, no-knots, Searching, search-first, out-of, passed, bracketed, all-searched}
+use Rattle.bernstein.proofs.KnotWalks.{roots-at-front-found, roots-at-front-refused, no-knots, Searching, search-first, out-of, passed, bracketed, all-searched}
 use borrow.Author.Needs.{needs}
 use Rattle.bernstein.proofs.level.between.Statement.{statement}
 use Rattle.bernstein.proofs.level.between.Tie as tie
@@ -14,7 +14,7 @@ abbrev μ-loop : tie.MeasureT-loop
 μ-loop c knots eps f₀ z budget q₀ left₀ lo₀ fl₀ i₀ f q left lo fl i = length knots - i
 
 returns : tie.Need-returns Inv-loop μ-loop
-returns c = let a = c .before .before .before .before .args in laid-found _ (a .f .now) (a .z) (a .budget) (no-knots (a .c .now) (a .eps) (a .knots .now) _ _ (c .if1 .taken)) (search needs)
+returns c = let a = c .before .before .before .before .args in roots-at-front-found _ (a .f .now) (a .z) (a .budget) (no-knots (a .c .now) (a .eps) (a .knots .now) _ _ (c .if1 .taken)) (search needs)
 
 shared-slice-read-lo : tie.Need-shared-slice-read-lo Inv-loop μ-loop
 shared-slice-read-lo c = search needs
@@ -51,7 +51,7 @@ same-length c = search needs
 
 returns-2 : tie.Need-returns-2 Inv-loop μ-loop
 returns-2 c =
-    laid-refused _ _ (out-of _ _ _ _ _ _ _ _ _ _ _ _ (c .before .before .before .before .before .before .before .before .loop .inv) (c .before .before .before .before .before .before .before .loop-test .taken) _ (c .before .before .before .before .before .evaluate2 .ensures) _ (c .before .before .before .before .no-sign-change .ensures) _ (c .before .before .bisect .ensures) (c .enum-told .given .1) (not-true _ (c .before .before .before .if2 .taken)))
+    roots-at-front-refused _ _ (out-of _ _ _ _ _ _ _ _ _ _ _ _ (c .before .before .before .before .before .before .before .before .loop .inv) (c .before .before .before .before .before .before .before .loop-test .taken) _ (c .before .before .before .before .before .evaluate2 .ensures) _ (c .before .before .before .before .no-sign-change .ensures) _ (c .before .before .bisect .ensures) (c .enum-told .given .1) (not-true _ (c .before .before .before .if2 .taken)))
 
 mul-f : tie.Need-mul-f Inv-loop μ-loop
 mul-f c = search needs

@@ -3,7 +3,7 @@ use mathlib.Core.Path.{_≡_, refl}
 use mathlib.Core.List.{_++_}
 use lib.ListN.{length, take, drop, length-set}
 use lib.Ieee.{nan}
-use Rattle.bernstein.proofs.Lists.{laid-more}
+use Rattle.bernstein.proofs.Lists.{front-more}
 use Rattle.bernstein.proofs.KnotWalks.{ends-put}
 use borrow.Author.Needs.{needs}
 use native.Mathlib.Omega.{arith}
@@ -38,7 +38,7 @@ loop-less : tie.Need-loop-less Inv-loop μ-loop
 loop-less c = search needs
 
 loop-again : tie.Need-loop-again Inv-loop μ-loop
-loop-again c = (search needs, search needs, search needs, search needs, laid-more _ _ _ _ nan (c .before .before .loop .inv .4) (omega arith) (omega arith))
+loop-again c = (search needs, search needs, search needs, search needs, front-more _ _ _ _ nan (c .before .before .loop .inv .4) (omega arith) (omega arith))
 
 mul-k-3 : tie.Need-mul-k-3 Inv-loop μ-loop
 mul-k-3 c = search needs

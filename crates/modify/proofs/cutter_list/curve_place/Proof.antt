@@ -1,4 +1,4 @@
-use Rattle.modify.proofs.CutterLists.{Seeking, seek-start, seek-here, seek-on, seek-end}
+use Rattle.modify.proofs.CutterLists.{Seeking, index-start, index-here, index-on, index-end}
 use mathlib.Core.Path.{_≡_, refl, sym, ap, _∙_}
 use Prim.Native.Nat.{_-_}
 use borrow.Author.Needs.{needs}
@@ -15,7 +15,7 @@ abbrev μ-loop : tie.MeasureT-loop
 μ-loop n id curves i₀ i = n - i
 
 loop-holds : tie.Need-loop-holds Inv-loop μ-loop
-loop-holds c = seek-start _ _ _ (search needs)
+loop-holds c = index-start _ _ _ (search needs)
 
 mul-c : tie.Need-mul-c Inv-loop μ-loop
 mul-c c = search needs
@@ -24,7 +24,7 @@ array-copy-out-c : tie.Need-array-copy-out-c Inv-loop μ-loop
 array-copy-out-c c = search needs
 
 returns : tie.Need-returns Inv-loop μ-loop
-returns c = seek-here (c .before .before .before .before .loop .inv) (c .before .before .before .loop-test .taken) (c .if1 .taken)
+returns c = index-here (c .before .before .before .before .loop .inv) (c .before .before .before .loop-test .taken) (c .if1 .taken)
 
 add-i : tie.Need-add-i Inv-loop μ-loop
 add-i c = search needs
@@ -33,10 +33,10 @@ loop-less : tie.Need-loop-less Inv-loop μ-loop
 loop-less c = search needs
 
 loop-again : tie.Need-loop-again Inv-loop μ-loop
-loop-again c = seek-on (c .before .before .before .before .loop .inv) (c .before .before .before .loop-test .taken) (c .if1 .left)
+loop-again c = index-on (c .before .before .before .before .loop .inv) (c .before .before .before .loop-test .taken) (c .if1 .left)
 
 returns-2 : tie.Need-returns-2 Inv-loop μ-loop
-returns-2 c = seek-end (c .before .loop .inv) (c .loop-test .left)
+returns-2 c = index-end (c .before .loop .inv) (c .loop-test .left)
 
 pub curve-place-spec : {M : Type 1} → statement M
 curve-place-spec =

@@ -10,7 +10,7 @@ use Rattle.sketch_geometry.proofs.Filled.{point-columns}
 use Rattle.modify.specs.Edits.{EditAnswer}
 use Rattle.modify.specs.Contracts.{TargetFound}
 use Rattle.modify.proofs.Refusing.{fault-low}
-use Rattle.modify.proofs.Answers.{refused-fault, answered-refused, extend-is, cut-is, begun-found, begun-answered, edit-refused, edit-suited, edit-applied}
+use Rattle.modify.proofs.Answers.{refused-fault, answered-refused, extend-is, cut-is, target-found-curve, target-found-answer, edit-refused, edit-suited, edit-applied}
 use native.Mathlib.Omega.{arith}
 use borrow.Author.Needs.{needs}
 use Rattle.modify.proofs.edits.edit.Statement.{statement}
@@ -126,7 +126,7 @@ extend-curve-requires c κs =
 returns-3 : tie.Need-returns-3
 returns-3 c =
     let a = c .before .before .before .before .before .before .before .before .before .before .before .before .before .before .before .before .before .before .before .before .before .before .before .before .args in
-    subst (λ op. EditAnswer op (a .sk) (a .curve) (a .at) (c .before .before .extend-curve .result)) (sym (extend-is (a .operation) (sym (c .before .before .before .before .before .before .before .before .is-extend .ensures) ∙ c .before .before .before .before .before .before .before .if3 .taken))) (begun-answered (started (c .before .before .before .before .before .before .before .before .before)) Extend (c .before .before .extend-curve .ensures))
+    subst (λ op. EditAnswer op (a .sk) (a .curve) (a .at) (c .before .before .extend-curve .result)) (sym (extend-is (a .operation) (sym (c .before .before .before .before .before .before .before .before .is-extend .ensures) ∙ c .before .before .before .before .before .before .before .if3 .taken))) (target-found-answer (started (c .before .before .before .before .before .before .before .before .before)) Extend (c .before .before .extend-curve .ensures))
 
 is-split-requires : tie.Need-is-split-requires
 is-split-requires c κs = search needs
@@ -208,7 +208,7 @@ returns-4 c =
     let op = ap (λ x. cond x Split Trim) (c .before .before .before .before .before .before .before .before .before .is-split .ensures) ∙ cut-is (a .operation) (sym (c .before .before .before .before .before .before .before .before .before .before .before .is-extend .ensures) ∙ c .before .before .before .before .before .before .before .before .before .before .if3 .left) in
     let chosen = c .before .before .before .before .plan-on-curve .ensures in
     subst (λ op. EditAnswer op (a .sk) (a .curve) (a .at) (c .answer3 .result)) op
-    (begun-answered b (cond it Split Trim) (edit-refused it (a .sk) k (a .at) (b .valid) (b .place) (b .picked) (begun-found b) chosen (c .before .before .number .given .1) (c .answer3 .ensures .0) (c .answer3 .ensures .1) (c .answer3 .ensures .3) (c .answer3 .ensures .2)))
+    (target-found-answer b (cond it Split Trim) (edit-refused it (a .sk) k (a .at) (b .valid) (b .place) (b .picked) (target-found-curve b) chosen (c .before .before .number .given .1) (c .answer3 .ensures .0) (c .answer3 .ensures .1) (c .answer3 .ensures .3) (c .answer3 .ensures .2)))
 
 returns-5 : tie.Need-returns-5
 returns-5 c =
@@ -219,9 +219,9 @@ returns-5 c =
     let op = ap (λ x. cond x Split Trim) (c .before .before .before .before .before .before .before .before .before .is-split .ensures) ∙ cut-is (a .operation) (sym (c .before .before .before .before .before .before .before .before .before .before .before .is-extend .ensures) ∙ c .before .before .before .before .before .before .before .before .before .before .if3 .left) in
     let chosen = c .before .before .before .before .plan-on-curve .ensures in
     let plan = c .before .before .plan .given .1 in
-    let suited = edit-suited it (a .sk) k (a .at) (b .valid) (b .place) (b .picked) (begun-found b) chosen plan in
+    let suited = edit-suited it (a .sk) k (a .at) (b .valid) (b .place) (b .picked) (target-found-curve b) chosen plan in
     subst (λ op. EditAnswer op (a .sk) (a .curve) (a .at) (c .apply-plan .result)) op
-    (begun-answered b (cond it Split Trim) (edit-applied it (a .sk) k (a .at) (b .valid) (b .place) (b .picked) (begun-found b) chosen plan (c .apply-plan .ensures (b .valid) (b .place) suited)))
+    (target-found-answer b (cond it Split Trim) (edit-applied it (a .sk) k (a .at) (b .valid) (b .place) (b .picked) (target-found-curve b) chosen plan (c .apply-plan .ensures (b .valid) (b .place) suited)))
 
 pub edit-spec : {M : Type 1} → statement M
 edit-spec =

@@ -7,7 +7,7 @@ use Rattle.relations.proofs.Filled.{sketch-curves}
 use Rattle.edit_plan.proofs.Loops.{length-mapped}
 use Rattle.edit_plan.specs.Steps.{isLine}
 use Rattle.modify.proofs.Shifts.{columns-fit}
-use Rattle.modify.proofs.Extends.{begun-at, kind-refused}
+use Rattle.modify.proofs.Extends.{target-found-at, kind-refused}
 use Rattle.modify.proofs.extending.extend_curve.Statement.{statement}
 use Rattle.modify.proofs.extending.extend_curve.Tie as tie
 
@@ -30,7 +30,7 @@ returns : tie.Need-returns
 returns c =
     let s = c .before .before .before .before .before .before .before .before in
     let r = s .pre in
-    kind-refused _ _ _ (begun-at (s .args .sk) (s .args .place) (s .args .at) (r .0) (r .1) (r .2) (r .3) (r .4) (long s)) (c .before .match .keys2) (c .answer .ensures .0) (c .answer .ensures .1) (c .answer .ensures .3) (c .answer .ensures .2)
+    kind-refused _ _ _ (target-found-at (s .args .sk) (s .args .place) (s .args .at) (r .0) (r .1) (r .2) (r .3) (r .4) (long s)) (c .before .match .keys2) (c .answer .ensures .0) (c .answer .ensures .1) (c .answer .ensures .3) (c .answer .ensures .2)
 
 slice-aggregate-fill-curve-columns : tie.Need-slice-aggregate-fill-curve-columns
 slice-aggregate-fill-curve-columns c = search needs
@@ -92,7 +92,7 @@ extend-line-requires c κs =
     let r = s .pre in
     let z = r .1 .curves in
     let l = c .before .before .before .before .before .before .before .before .before .before .before .before .before .before .fill-curve-columns .ensures (omega arith) (columns-fit (r .2) (r .5)) (omega arith) (omega arith) (omega arith) (omega arith) (omega arith) in (
-      begun-at (s .args .sk) (s .args .place) (s .args .at) (r .0) (r .1) (r .2) (r .3) (r .4) (long s),
+      target-found-at (s .args .sk) (s .args .place) (s .args .at) (r .0) (r .1) (r .2) (r .3) (r .4) (long s),
       ap isLine (c .before .before .before .before .before .before .before .before .before .before .before .before .before .before .before .before .before .before .before .before .before .enum-told .given .1),
       record { points = r .5; curves = sketch-curves (s .args .sk) l (omega arith) (omega arith) (omega arith) (omega arith) (omega arith) (r .2) (r .5) },
     )

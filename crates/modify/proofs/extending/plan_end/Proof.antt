@@ -8,7 +8,7 @@ use Rattle.sketch.specs.declared.RelationSlot.{RelationSlot}
 use Rattle.sketch.specs.declared.Sketch.{Sketch}
 use Rattle.sketch.specs.Drawing.{view}
 use Rattle.modify.specs.ExtendContracts.{support}
-use Rattle.modify.proofs.ExtendPlans.{end-place, end-id, end-fixed, end-used, end-stuck, end-sought, held-stands, reached-stop, reached-best}
+use Rattle.modify.proofs.ExtendPlans.{end-place, end-id, end-fixed, end-used, end-stuck, end-by-nearest-hit, held-stands, reached-stop, reached-best}
 use Rattle.modify.proofs.extending.plan_end.Statement.{statement}
 use Rattle.modify.proofs.extending.plan_end.Tie as tie
 
@@ -78,7 +78,7 @@ returns-4 c = λ next np nr rs z w h.
     let a = st .args in
     let s = its st next np nr rs in
     let found = c .before .before .before .before .before .before .before .before .before .before .place-near .ensures in
-    record { choice = end-sought (view s) (a .id) (a .at) (support (a .a) (a .b) (a .atb)) (a .end) (c .before .before .before .before .before .before .before .before .before .before .before .before .used-by-other .ensures) (c .before .before .before .before .before .before .before .before .before .before .before .if1 .left) (end-fixed s w found h) (c .before .before .before .before .before .before .before .if3 .left) (c .before .before .before .before .before .before .from-line .ensures) (c .before .before .before .before .before .param .ensures) (c .before .before .before .before .point .ensures) (c .before .before .before .nearest-hit .ensures _ w) (reached-stop _ _ _ (c .before .number .given .1)); place = tt }
+    record { choice = end-by-nearest-hit (view s) (a .id) (a .at) (support (a .a) (a .b) (a .atb)) (a .end) (c .before .before .before .before .before .before .before .before .before .before .before .before .used-by-other .ensures) (c .before .before .before .before .before .before .before .before .before .before .before .if1 .left) (end-fixed s w found h) (c .before .before .before .before .before .before .before .if3 .left) (c .before .before .before .before .before .before .from-line .ensures) (c .before .before .before .before .before .param .ensures) (c .before .before .before .before .point .ensures) (c .before .before .before .nearest-hit .ensures _ w) (reached-stop _ _ _ (c .before .number .given .1)); place = tt }
 
 returns-5 : tie.Need-returns-5
 returns-5 c = λ next np nr rs z w h.
@@ -87,7 +87,7 @@ returns-5 c = λ next np nr rs z w h.
     let s = its st next np nr rs in
     let found = c .before .before .before .before .before .before .before .before .before .before .before .place-near .ensures in
     record {
-      choice = end-sought (view s) (a .id) (a .at) (support (a .a) (a .b) (a .atb)) (a .end) (c .before .before .before .before .before .before .before .before .before .before .before .before .before .used-by-other .ensures) (c .before .before .before .before .before .before .before .before .before .before .before .before .if1 .left) (end-fixed s w found h) (c .before .before .before .before .before .before .before .before .if3 .left) (c .before .before .before .before .before .before .before .from-line .ensures) (c .before .before .before .before .before .before .param .ensures) (c .before .before .before .before .before .point .ensures) (c .before .before .before .before .nearest-hit .ensures _ w) (reached-best _ _ _ (c .before .before .best .given .1) (c .plan-move .ensures .0 (view s) (record { points = w; curves = refl })));
+      choice = end-by-nearest-hit (view s) (a .id) (a .at) (support (a .a) (a .b) (a .atb)) (a .end) (c .before .before .before .before .before .before .before .before .before .before .before .before .before .used-by-other .ensures) (c .before .before .before .before .before .before .before .before .before .before .before .before .if1 .left) (end-fixed s w found h) (c .before .before .before .before .before .before .before .before .if3 .left) (c .before .before .before .before .before .before .before .from-line .ensures) (c .before .before .before .before .before .before .param .ensures) (c .before .before .before .before .before .point .ensures) (c .before .before .before .before .nearest-hit .ensures _ w) (reached-best _ _ _ (c .before .before .best .given .1) (c .plan-move .ensures .0 (view s) (record { points = w; curves = refl })));
       place = held-stands s (a .atb) (c .before .before .before .before .before .before .before .before .before .before .before .place-near .result) (a .end) (c .plan-move .result) (c .plan-move .ensures .1) (end-place s w found h) (end-id s w found h);
     }
 

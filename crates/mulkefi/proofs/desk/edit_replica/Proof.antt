@@ -1,5 +1,5 @@
 -- `mulkefi::desk::edit_replica` meets its contract.
-use Rattle.mulkefi.proofs.DeskEdit.{desk-edit-short, desk-edit-refused, draw-numbers, draw-unhoused, draw-done}
+use Rattle.mulkefi.proofs.DeskEdit.{desk-edit-short, desk-edit-refused, edit-numbers, edit-without-room, edit-and-message-written}
 use borrow.Author.Needs.{needs}
 use Rattle.mulkefi.proofs.desk.edit_replica.Statement.{statement}
 use Rattle.mulkefi.proofs.desk.edit_replica.Tie as tie
@@ -34,19 +34,19 @@ returns-2 : tie.Need-returns-2
 returns-2 c =
     let u = c .before .before .before .before .before .before .before .before .before .before .before in
     let at = u .before .before .before .before .before in
-    draw-unhoused (at .args .replica) _ (at .args .buffer .now) (at .args .message .now) (at .args .answer .now) (at .pre) (u .before .before .if1 .left) _ _ _ (u .desk-edit .ensures) (search needs) _ (c .before .before .before .before .before .before .before .reply2 .given .1) _ _ _ (c .before .before .before .write-result .ensures) (c .if2 .taken)
+    edit-without-room (at .args .replica) _ (at .args .buffer .now) (at .args .message .now) (at .args .answer .now) (at .pre) (u .before .before .if1 .left) _ _ _ (u .desk-edit .ensures) (search needs) _ (c .before .before .before .before .before .before .before .reply2 .given .1) _ _ _ (c .before .before .before .write-result .ensures) (c .if2 .taken)
 
 float-to-bits-t27 : tie.Need-float-to-bits-t27
 float-to-bits-t27 c =
     let u = c .before .before .before .before .before .before .before .before .before .before .before in
     let at = u .before .before .before .before .before in
-    draw-numbers (at .args .replica) _ (at .args .buffer .now) (at .args .message .now) (at .args .answer .now) (at .pre) (u .before .before .if1 .left) _ _ _ (u .desk-edit .ensures) (search needs) _ (c .before .before .before .before .before .before .before .reply2 .given .1) .0
+    edit-numbers (at .args .replica) _ (at .args .buffer .now) (at .args .message .now) (at .args .answer .now) (at .pre) (u .before .before .if1 .left) _ _ _ (u .desk-edit .ensures) (search needs) _ (c .before .before .before .before .before .before .before .reply2 .given .1) .0
 
 float-to-bits-t28 : tie.Need-float-to-bits-t28
 float-to-bits-t28 c =
     let u = c .before .before .before .before .before .before .before .before .before .before .before in
     let at = u .before .before .before .before .before in
-    draw-numbers (at .args .replica) _ (at .args .buffer .now) (at .args .message .now) (at .args .answer .now) (at .pre) (u .before .before .if1 .left) _ _ _ (u .desk-edit .ensures) (search needs) _ (c .before .before .before .before .before .before .before .reply2 .given .1) .1
+    edit-numbers (at .args .replica) _ (at .args .buffer .now) (at .args .message .now) (at .args .answer .now) (at .pre) (u .before .before .if1 .left) _ _ _ (u .desk-edit .ensures) (search needs) _ (c .before .before .before .before .before .before .before .reply2 .given .1) .1
 
 write-message-requires : tie.Need-write-message-requires
 write-message-requires c κs = search needs
@@ -67,7 +67,7 @@ returns-4 : tie.Need-returns-4
 returns-4 c =
     let u = c .before .before .before .before .before .before .before .before .before .before .before .before .before .before .before in
     let at = u .before .before .before .before .before in
-    draw-done (at .args .replica) _ (at .args .buffer .now) (at .args .message .now) (at .args .answer .now) (at .pre) (u .before .before .if1 .left) _ _ _ (u .desk-edit .ensures) (search needs) _ (c .before .before .before .before .before .before .before .before .before .before .before .reply2 .given .1) _ _ _ (c .before .before .before .before .before .before .before .write-result .ensures) (c .before .before .before .before .if2 .left) _ _ (c .before .before .write-message .ensures)
+    edit-and-message-written (at .args .replica) _ (at .args .buffer .now) (at .args .message .now) (at .args .answer .now) (at .pre) (u .before .before .if1 .left) _ _ _ (u .desk-edit .ensures) (search needs) _ (c .before .before .before .before .before .before .before .before .before .before .before .reply2 .given .1) _ _ _ (c .before .before .before .before .before .before .before .write-result .ensures) (c .before .before .before .before .if2 .left) _ _ (c .before .before .write-message .ensures)
 
 pub edit-replica-spec : {M : Type 1} → statement M
 edit-replica-spec =

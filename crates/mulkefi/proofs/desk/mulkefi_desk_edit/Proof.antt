@@ -1,5 +1,5 @@
 -- `mulkefi::mulkefi_desk_edit` meets its contract.
-use Rattle.mulkefi.proofs.Opened.{desk-unread, desk-unknown, desk-served}
+use Rattle.mulkefi.proofs.Opened.{desk-unread, desk-unknown, desk-call-written}
 use lib.Seq.{length-take-le}
 use mathlib.Core.Path.{sym, _∙_}
 use borrow.Author.Tests.{not-true, not-false}
@@ -59,7 +59,7 @@ returns-3 : tie.Need-returns-3
 returns-3 c =
     let u = c .before .before .before .before .before .before .before .before .before .before .before .before .before .before in
     let at = u .before .before .before .before .before in
-    desk-served (at .args .buffer .now) (at .args .len) _ (u .before .before .min .ensures .0) (u .read .result) (u .read .ensures) (c .before .before .before .before .before .before .before .before .before .before .before .before .if1 .left) (at .args .count) (at .args .operation) (sym (c .before .before .before .before .before .before .before .before .before .before .before .is-operation .ensures) ∙ not-false _ (c .before .before .before .before .before .before .before .before .before .before .if2 .left)) _ (c .before .before .before .before .before .before .before .before .operation-of .ensures) _ _ _ _ (at .args .message .now) _ (at .args .answer .now) _ _ (c .before .before .before .before .edit-replica .ensures)
+    desk-call-written (at .args .buffer .now) (at .args .len) _ (u .before .before .min .ensures .0) (u .read .result) (u .read .ensures) (c .before .before .before .before .before .before .before .before .before .before .before .before .if1 .left) (at .args .count) (at .args .operation) (sym (c .before .before .before .before .before .before .before .before .before .before .before .is-operation .ensures) ∙ not-false _ (c .before .before .before .before .before .before .before .before .before .before .if2 .left)) _ (c .before .before .before .before .before .before .before .before .operation-of .ensures) _ _ _ _ (at .args .message .now) _ (at .args .answer .now) _ _ (c .before .before .before .before .edit-replica .ensures)
 
 pub mulkefi-desk-edit-spec : {M : Type 1} → statement M
 mulkefi-desk-edit-spec =

@@ -1,5 +1,5 @@
 -- `mulkefi::mulkefi_wall_deliver` meets its contract.
-use Rattle.mulkefi.proofs.Opened.{wall-unread, wall-served}
+use Rattle.mulkefi.proofs.Opened.{wall-unread, wall-call-written}
 use lib.Seq.{length-take-le}
 use mathlib.Core.Path.{sym}
 use borrow.Author.Needs.{needs}
@@ -40,7 +40,7 @@ returns-2 : tie.Need-returns-2
 returns-2 c =
     let u = c .before .before .before .before .before .before .before .before in
     let at = u .before .before .before .before .before in
-    wall-served (at .args .buffer .now) (at .args .len) _ (u .before .before .min .ensures .0) (u .read .result) (u .read .ensures) (c .before .before .before .before .before .before .if1 .left) (at .args .count) (at .args .message .now) _ (at .args .answer .now) _ _ (c .before .before .deliver-to-replica .ensures)
+    wall-call-written (at .args .buffer .now) (at .args .len) _ (u .before .before .min .ensures .0) (u .read .result) (u .read .ensures) (c .before .before .before .before .before .before .if1 .left) (at .args .count) (at .args .message .now) _ (at .args .answer .now) _ _ (c .before .before .deliver-to-replica .ensures)
 
 pub mulkefi-wall-deliver-spec : {M : Type 1} → statement M
 mulkefi-wall-deliver-spec =

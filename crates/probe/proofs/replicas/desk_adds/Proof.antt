@@ -28,7 +28,7 @@ enum-told c = search needs
 wrapping-add-u32-requires : tie.Need-wrapping-add-u32-requires
 wrapping-add-u32-requires c κs = search needs
 
--- the edit, and what the call of it comes to
+-- the edit, and the outcome of its call
 abbrev asked : tie.Start → Edit
 asked at = record { operation = at .args .operation; curve = at .args .curve; at = record { x = at .args .x; y = at .args .y } }
 

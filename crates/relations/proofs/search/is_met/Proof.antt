@@ -51,11 +51,11 @@ piece-at-requires-4 c κs = search needs
 piece-at-requires-5 : tie.Need-piece-at-requires-5
 piece-at-requires-5 c κs = search needs
 
-length-or-radius-requires : tie.Need-length-or-radius-requires
-length-or-radius-requires c κs = search needs
+length-or-radius-of-requires : tie.Need-length-or-radius-of-requires
+length-or-radius-of-requires c κs = search needs
 
-length-or-radius-requires-2 : tie.Need-length-or-radius-requires-2
-length-or-radius-requires-2 c κs = search needs
+length-or-radius-of-requires-2 : tie.Need-length-or-radius-of-requires-2
+length-or-radius-of-requires-2 c κs = search needs
 
 same-requires : tie.Need-same-requires
 same-requires c κs = search needs
@@ -66,8 +66,8 @@ enum-known-relation-5 c = search needs
 piece-at-requires-6 : tie.Need-piece-at-requires-6
 piece-at-requires-6 c κs = search needs
 
-length-or-radius-requires-3 : tie.Need-length-or-radius-requires-3
-length-or-radius-requires-3 c κs = search needs
+length-or-radius-of-requires-3 : tie.Need-length-or-radius-of-requires-3
+length-or-radius-of-requires-3 c κs = search needs
 
 same-requires-2 : tie.Need-same-requires-2
 same-requires-2 c κs = search needs
@@ -123,13 +123,13 @@ returns-3 c =
 returns-4 : tie.Need-returns-4
 returns-4 c =
     let d = c .before .before .before .before in
-    λ ps cs p w. c .same .ensures ∙ rw (c .before .length-or-radius2 .ensures, c .before .before .length-or-radius .ensures)
+    λ ps cs p w. c .same .ensures ∙ rw (c .before .length-or-radius-of2 .ensures, c .before .before .length-or-radius-of .ensures)
     (met-equal ps cs _ _ _ (d .before .before .relation4 .given .1) (d .piece-at4 .ensures _ ps cs p w) (c .before .before .before .piece-at5 .ensures _ ps cs p w))
 
 returns-5 : tie.Need-returns-5
 returns-5 c =
     let d = c .before .before in
-    λ ps cs p w. c .same2 .ensures ∙ rw (c .before .length-or-radius3 .ensures) (met-length ps cs _ _ (d .before .before .relation5 .given .1) (d .piece-at6 .ensures _ ps cs p w))
+    λ ps cs p w. c .same2 .ensures ∙ rw (c .before .length-or-radius-of3 .ensures) (met-length ps cs _ _ (d .before .before .relation5 .given .1) (d .piece-at6 .ensures _ ps cs p w))
 
 returns-6 : tie.Need-returns-6
 returns-6 c =
@@ -167,12 +167,12 @@ is-met-spec =
     enum-known-relation-4
     piece-at-requires-4
     piece-at-requires-5
-    length-or-radius-requires
-    length-or-radius-requires-2
+    length-or-radius-of-requires
+    length-or-radius-of-requires-2
     same-requires
     enum-known-relation-5
     piece-at-requires-6
-    length-or-radius-requires-3
+    length-or-radius-of-requires-3
     same-requires-2
     enum-known-relation-6
     position-of-requires-4

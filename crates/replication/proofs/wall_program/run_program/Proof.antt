@@ -1,6 +1,6 @@
 use lib.Seq.{length-take-le}
 use lib.ListN.{length}
-use Rattle.replication.proofs.Program.{end-is, played-refused, program-outcome}
+use Rattle.replication.proofs.Program.{end-is, outcome-refused, program-outcome}
 use mathlib.Core.Path.{sym}
 use native.Mathlib.Omega.{arith}
 use borrow.Author.Needs.{needs}
@@ -40,7 +40,7 @@ same-length : tie.Need-same-length
 same-length c = search needs
 
 returns : tie.Need-returns
-returns c = played-refused (c .before .before .before .before .before .before .before .before .before .before .before .before .args .input .now) _ (end-is (length (c .before .before .before .before .before .before .before .before .before .before .before .before .args .input .now)) (c .before .before .before .before .before .before .before .before .before .get4 .ensures) (c .before .before .before .before .before .before .before .before .min .ensures .0)) _ (c .before .before .before .before .before .before .start .ensures) (c .before .before .before .before .if1 .taken) _ _ _ (c .before .before .write-refusal .ensures)
+returns c = outcome-refused (c .before .before .before .before .before .before .before .before .before .before .before .before .args .input .now) _ (end-is (length (c .before .before .before .before .before .before .before .before .before .before .before .before .args .input .now)) (c .before .before .before .before .before .before .before .before .before .get4 .ensures) (c .before .before .before .before .before .before .before .before .min .ensures .0)) _ (c .before .before .before .before .before .before .start .ensures) (c .before .before .before .before .if1 .taken) _ _ _ (c .before .before .write-refusal .ensures)
 
 sub-deliver-all : tie.Need-sub-deliver-all
 sub-deliver-all c = omega arith

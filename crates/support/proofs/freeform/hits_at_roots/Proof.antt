@@ -1,5 +1,5 @@
 use mathlib.Core.Path.{_∙_}
-use Rattle.support.proofs.Answers.{as-outcome, met-nothing, met-all, laid-countX, laid-countY, laid-fitsX, laid-fitsY, laid-roomX, laid-roomY}
+use Rattle.support.proofs.Answers.{as-outcome, met-nothing, met-all, hits-countX, hits-countY, hits-fitX, hits-fitY, hits-roomX, hits-roomY}
 use Rattle.bernstein.proofs.Answers.{refused-not-found}
 use Rattle.support.proofs.RootsFound.{none-resolved, roots-fit, roots-counted, roots-few, roots-resolved}
 use Rattle.support.specs.Contracts.{freeformOf}
@@ -56,22 +56,22 @@ returns-3 : tie.Need-returns-3
 returns-3 c = as-outcome (roots-resolved _ _ _ _ _ _ _ (c .before .before .before .before .before .before .before .before .before .before .before .before .roots .ensures) (search needs) _ _ (c .before .before .before .before .before .before .before .before .before .roots2 .given .1)) (met-nothing _ _ _ _ (c .before .before .before .before .resolve .ensures) _ _ _ _ (c .enum-told2 .given .1))
 
 array-share-prefix-qx : tie.Need-array-share-prefix-qx
-array-share-prefix-qx c = laid-fitsX _ _ _ _ (c .before .before .before .before .before .resolve .ensures) _ _ (c .before .hits .given .1)
+array-share-prefix-qx c = hits-fitX _ _ _ _ (c .before .before .before .before .before .resolve .ensures) _ _ (c .before .hits .given .1)
 
 slice-aggregate-put : tie.Need-slice-aggregate-put
-slice-aggregate-put c = laid-countX _ _ _ _ (c .before .before .before .before .before .before .resolve .ensures) _ _ (c .before .before .hits .given .1)
+slice-aggregate-put c = hits-countX _ _ _ _ (c .before .before .before .before .before .before .resolve .ensures) _ _ (c .before .before .hits .given .1)
 
 put-requires : tie.Need-put-requires
-put-requires c κs = laid-roomX _ _ _ _ (c .before .before .before .before .before .before .before .resolve .ensures) _ _ (c .before .before .before .hits .given .1) _ (c .before .before .before .before .before .before .before .resolve .kept .1 .1 .1 .1 .1 .0) (search needs) (c .before .before .before .before .before .before .before .before .before .before .before .before .before .before .before .before .before .before .before .before .before .before .args .hx .now) (c .before .before .before .before .before .before .before .before .before .before .before .before .before .before .before .before .before .before .before .before .before .before .pre .1)
+put-requires c κs = hits-roomX _ _ _ _ (c .before .before .before .before .before .before .before .resolve .ensures) _ _ (c .before .before .before .hits .given .1) _ (c .before .before .before .before .before .before .before .resolve .kept .1 .1 .1 .1 .1 .0) (search needs) (c .before .before .before .before .before .before .before .before .before .before .before .before .before .before .before .before .before .before .before .before .before .before .args .hx .now) (c .before .before .before .before .before .before .before .before .before .before .before .before .before .before .before .before .before .before .before .before .before .before .pre .1)
 
 array-share-prefix-qy : tie.Need-array-share-prefix-qy
-array-share-prefix-qy c = laid-fitsY _ _ _ _ (c .before .before .before .before .before .before .before .before .before .before .resolve .ensures) _ _ (c .before .before .before .before .before .before .hits .given .1)
+array-share-prefix-qy c = hits-fitY _ _ _ _ (c .before .before .before .before .before .before .before .before .before .before .resolve .ensures) _ _ (c .before .before .before .before .before .before .hits .given .1)
 
 slice-aggregate-put-2 : tie.Need-slice-aggregate-put-2
-slice-aggregate-put-2 c = laid-countY _ _ _ _ (c .before .before .before .before .before .before .before .before .before .before .before .resolve .ensures) _ _ (c .before .before .before .before .before .before .before .hits .given .1)
+slice-aggregate-put-2 c = hits-countY _ _ _ _ (c .before .before .before .before .before .before .before .before .before .before .before .resolve .ensures) _ _ (c .before .before .before .before .before .before .before .hits .given .1)
 
 put-requires-2 : tie.Need-put-requires-2
-put-requires-2 c κs = laid-roomY _ _ _ _ (c .before .before .before .before .before .before .before .before .before .before .before .before .resolve .ensures) _ _ (c .before .before .before .before .before .before .before .before .hits .given .1) _ (c .before .before .before .before .before .before .before .before .before .before .before .before .resolve .kept .1 .1 .1 .1 .1 .1 .0) (search needs) (c .before .before .before .before .before .before .before .before .before .before .before .before .before .before .before .before .before .before .before .before .before .before .before .before .before .before .before .args .hy .now) (c .before .before .before .before .before .before .before .before .before .before .before .before .before .before .before .before .before .before .before .before .before .before .before .before .before .before .before .pre .2)
+put-requires-2 c κs = hits-roomY _ _ _ _ (c .before .before .before .before .before .before .before .before .before .before .before .before .resolve .ensures) _ _ (c .before .before .before .before .before .before .before .before .hits .given .1) _ (c .before .before .before .before .before .before .before .before .before .before .before .before .resolve .kept .1 .1 .1 .1 .1 .1 .0) (search needs) (c .before .before .before .before .before .before .before .before .before .before .before .before .before .before .before .before .before .before .before .before .before .before .before .before .before .before .before .args .hy .now) (c .before .before .before .before .before .before .before .before .before .before .before .before .before .before .before .before .before .before .before .before .before .before .before .before .before .before .before .pre .2)
 
 same-length : tie.Need-same-length
 same-length c = search needs

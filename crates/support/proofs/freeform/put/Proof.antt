@@ -3,7 +3,7 @@ use mathlib.Core.Path.{_≡_, refl}
 use mathlib.Core.List.{_++_}
 use lib.ListN.{length, take, drop}
 use lib.Ieee.{nan}
-use Rattle.bernstein.proofs.Lists.{laid-more, laid-all}
+use Rattle.bernstein.proofs.Lists.{front-more, front-all}
 use borrow.Author.Needs.{needs}
 use Rattle.support.proofs.freeform.put.Statement.{statement}
 use Rattle.support.proofs.freeform.put.Tie as tie
@@ -36,13 +36,13 @@ loop-less : tie.Need-loop-less Inv-loop μ-loop
 loop-less c = search needs
 
 loop-again : tie.Need-loop-again Inv-loop μ-loop
-loop-again c = (search needs, search needs, search needs, laid-more _ _ _ _ nan (c .before .before .loop .inv .3) (search needs) (search needs))
+loop-again c = (search needs, search needs, search needs, front-more _ _ _ _ nan (c .before .before .loop .inv .3) (search needs) (search needs))
 
 same-length : tie.Need-same-length Inv-loop μ-loop
 same-length c = search needs
 
 returns : tie.Need-returns Inv-loop μ-loop
-returns c = let l = c .before .loop in laid-all _ _ _ (l .i) (l .inv .3) (search needs)
+returns c = let l = c .before .loop in front-all _ _ _ (l .i) (l .inv .3) (search needs)
 
 pub put-spec : {M : Type 1} → statement M
 put-spec =
