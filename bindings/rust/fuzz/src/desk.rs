@@ -7,6 +7,19 @@ use crate::inputs;
 use mulkefi::{Delivery, Wall};
 use oracle::generate::random::Random;
 
+/// The bytes lent for a message: mostly just enough.
+const ROOMS: [usize; 9] = [
+    MESSAGE_SIZE,
+    MESSAGE_SIZE,
+    MESSAGE_SIZE,
+    MESSAGE_SIZE,
+    MESSAGE_SIZE + 1,
+    64,
+    MESSAGE_SIZE - 1,
+    1,
+    0,
+];
+
 pub struct Subject(Buffers);
 
 impl Subject {
@@ -20,7 +33,7 @@ impl Subject {
         let held = inputs::buffer(random, &call.image);
         let len = inputs::claimed(random, call.image.len(), held.len());
         let count = inputs::count(random);
-        let lent = vec![0x77; random.pick(&[30, 30, 30, 30, 31, 64, 29, 1, 0])];
+        let lent = vec![0x77; random.pick(&ROOMS)];
         let buffer = self.0.buffer.lend(&held, inputs::edge(random));
         let message = self.0.message.lend(&lent, inputs::edge(random));
         let answer = self.0.answer.lend(&ANSWER_BEFORE, inputs::edge(random)).cast();

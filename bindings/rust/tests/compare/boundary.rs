@@ -45,7 +45,8 @@ fn memory(random: &mut Random, call: &Call) -> Memory {
     let room = random.pick(&[exact, exact, short, held, exact + 1, held + 300, image::MAX_SIZE]);
     let mut buffer = vec![FILL; room.max(held)];
     buffer[..held].copy_from_slice(&call.image);
-    let lent = random.weighted(&[(12, 30), (2, 31), (2, 64), (1, 29), (1, 0)]);
+    let size = message::SIZE;
+    let lent = random.weighted(&[(12, size), (2, size + 1), (2, 64), (1, size - 1), (1, 0)]);
     Memory { buffer, message: vec![FILL; lent], answer: [7; 5] }
 }
 
