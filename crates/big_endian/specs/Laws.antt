@@ -2,13 +2,13 @@
 use mathlib.Core.Path.{_≡_, refl, sym, ap, _∙_}
 use mathlib.Core.List.{List, [], _∷_, _++_, append-assoc, append-nil}
 use Prim.Native.Nat.{ℕ, zero, suc, _+_, _-_, _*_, _/_, _%_, _^_, _≤_, _<_}
-use native.Mathlib.Nat.{add-zero, add-suc, add-assoc, add-mul, mul-assoc, mul-comm, pow-suc, pow-zero, div-div-eq-div-mul, div-one, div-add-mod', div-lt-iff-lt-mul, le-add-right}
+use native.Mathlib.Nat.{add-zero, add-suc, add-assoc, add-mul, mul-assoc, mul-comm, pow-suc, pow-zero, div-div-eq-div-mul, div-one, div-add-mod', div-lt-iff-lt-mul}
 use native.Mathlib.Numerals.{add-one}
 use native.Mathlib.Omega.{arith}
 use lib.Dec.{lit<}
 use lib.Arith.{digits-lt, digits-div, digits-mod}
 use lib.ListN.{length, take, drop, getD, set, length-append, length-drop, length-set, take-append-drop, List·getD-eq-default, List·getD-append}
-use lib.Seq.{take-suc, getD-drop, length-take-le, take-at, drop-at, drop-append-add, drop-drop, take-set-le, set-split, take-add, getD-append-add}
+use lib.Seq.{take-suc, getD-drop, length-take-le, take-at, drop-append-add, drop-drop, set-split, take-add, getD-append-add}
 use borrow.Author.Tests.{le-leb, lt-leb}
 use Rattle.big_endian.specs.Fields.{field, bytes, part, over, overIfFits, fromLeBytes, fromBeBytes}
 

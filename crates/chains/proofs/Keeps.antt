@@ -12,6 +12,7 @@ use Rattle.sketch.specs.Lists.{ite}
 use Rattle.sketch.specs.Drawing.{Drawing, Limits, curveIn}
 use Rattle.sketch.specs.Valid.{okNumber, sortOf, sortAt}
 use Rattle.sketch.specs.Facts.{Valid}
+use Rattle.sketch.proofs.Facts.{ok-number}
 use Rattle.edit_plan.specs.declared.Pin.{Pin}
 use Rattle.edit_plan.specs.declared.PinnedPoint.{PinnedPoint}
 use Rattle.edit_plan.specs.declared.Plan.{Plan}
@@ -30,7 +31,7 @@ use Rattle.chains.proofs.Gone.{valid-remove}
 use Rattle.chains.proofs.Kept.{UpFrom, up-less, Kept, kept-trans}
 use Rattle.chains.proofs.Pins.{Lies, AllLie, lies-grown, all-lie-grown, held-lies, ends-there, keep-pin, keep-pins}
 use Rattle.chains.proofs.Ties.{Sorted, there-is, sort-grown, sorted-grown, keep-tie}
-use Rattle.chains.proofs.Sorts.{rekind-ok, rekind-sound, number-of}
+use Rattle.chains.proofs.Sorts.{rekind-ok, rekind-sound}
 use Rattle.chains.proofs.Splits.{SplitHeld, keep-split}
 use Rattle.chains.proofs.Shapes.{swap-is}
 
@@ -62,9 +63,9 @@ module _ (m : Limits) where
     where
       swap-held : (x : Curve) → curveIn (d .curves) t ≡ some x → sortOf (x .kind) ≡ s → (y : Curve) → curveIn (d .curves) g ≡ some y → sortOf (y .kind) ≡ s → Kept m d (swap t g d)
       swap-held x ex sx y ey sy =
-          let h = take-held d v s a t x ex sx (y .kind) (y .slots) sy (number-of y (curve-ok m d v g y ey)) (curve-sound m d v g y ey) in
+          let h = take-held d v s a t x ex sx (y .kind) (y .slots) sy (ok-number y (curve-ok m d v g y ey)) (curve-sound m d v g y ey) in
           let e = look-set-other t (y .kind) (d .curves) g (λ z. omega arith) ∙ ey in
-          let k = take-held (setKind t (y .kind) d) (h .valid) s a g y e sy (x .kind) (x .slots) sx (number-of x (curve-ok m d v t x ex)) (curve-sound m d v t x ex) in
+          let k = take-held (setKind t (y .kind) d) (h .valid) s a g y e sy (x .kind) (x .slots) sx (ok-number x (curve-ok m d v t x ex)) (curve-sound m d v t x ex) in
           subst (Kept m d) (sym (swap-is t g d x y ex ey)) (kept-trans m h k)
 
   abbrev Ok : Drawing → Removed → Type 0

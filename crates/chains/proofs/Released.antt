@@ -3,9 +3,8 @@ use mathlib.Core.Path.{_≡_, refl, subst}
 use mathlib.Core.Bool.{Bool, true, false, _&&_, _||_}
 use mathlib.Core.List.{List, [], _∷_}
 use mathlib.Core.Option.{Option, some, none}
-use Prim.Native.Nat.{ℕ, _≤_}
+use Prim.Native.Nat.{ℕ}
 use native.Mathlib.Omega.{arith}
-use lib.ListN.{length}
 use lib.Dec.{eqb}
 use lib.Ieee.{Float}
 use Rattle.sketch.specs.declared.Curve.{Curve}
@@ -20,15 +19,12 @@ use Rattle.sketch.specs.Facts.{Every, Valid}
 use Rattle.sketch.proofs.Bools.{and-left, and-right, both}
 use Rattle.edit_plan.specs.Steps.{lineEnds, isSome, dropIf, measured, releaseRelation, releaseExtent}
 use Rattle.edit_plan.proofs.Every.{every-concat-map, every-at, length-concat-map, member-look}
+use Rattle.edit_plan.proofs.Stores.{released-one}
 use Rattle.chains.proofs.Grown.{has, sortOn, soundKind, Grown}
 
 drop-every : (f : Relation → Bool) (b : Bool) (r : Relation) → f r ≡ true → Every f (dropIf b r)
 drop-every f true r h = tt
 drop-every f false r h = (h, tt)
-
-drop-one : (b : Bool) (r : Relation) → length (dropIf b r) ≤ 1
-drop-one true r = omega arith
-drop-one false r = omega arith
 
 module _ (m : Limits) (d : Drawing) (v : Valid m d) where
   module _ (t : ℕ) (c : Curve) (at : curveIn (d .curves) t ≡ some c) where
@@ -67,23 +63,6 @@ module _ (m : Limits) (d : Drawing) (v : Valid m d) where
     released-each f o g (ArcLength a x) h = drop-every f (eqb a t) (ArcLength a x) h
     released-each f o g (ArcSweep a x) h = drop-every f (eqb a t) (ArcSweep a x) h
 
-    released-one : (o : Option (ℕ × ℕ)) (r : Relation) → length (releaseRelation t o r) ≤ 1
-    unfolding releaseRelation measured
-    released-one o (Coincident p q) = omega arith
-    released-one o (PointOnCurve p q) = omega arith
-    released-one o (Collinear a b) = omega arith
-    released-one o (Equal a b) = drop-one (isSome o && (eqb a t || eqb b t)) (Equal a b)
-    released-one o (Length l x) = go (eqb l t) o
-      where
-        go : (b : Bool) (o : Option (ℕ × ℕ)) → length (ite b (measured o x) (Length l x ∷ [])) ≤ 1
-        go true none = omega arith
-        go true (some e) = omega arith
-        go false o = omega arith
-    released-one o (Distance p q x) = omega arith
-    released-one o (Midpoint p l) = drop-one (eqb l t) (Midpoint p l)
-    released-one o (ArcLength a x) = drop-one (eqb a t) (ArcLength a x)
-    released-one o (ArcSweep a x) = drop-one (eqb a t) (ArcSweep a x)
-
     as-distance : (e : ℕ × ℕ) (l : ℕ) (x : Float) → lineEnds (c .kind) ≡ some e → soundRelation (has d) (sortOn d) (Length l x) ≡ true → soundRelation (has d) (sortOn d) (Distance (e .0) (e .1) x) ≡ true
     unfolding pointsOf fits apart
     as-distance e l x q h =
@@ -101,7 +80,7 @@ module _ (m : Limits) (d : Drawing) (v : Valid m d) where
         record {
           points-fit = v .points-fit;
           curves-fit = v .curves-fit;
-          relations-fit = omega (arith, v .relations-fit, length-concat-map (releaseRelation t (lineEnds (c .kind))) (d .relations) (released-one (lineEnds (c .kind))));
+          relations-fit = omega (arith, v .relations-fit, length-concat-map (releaseRelation t (lineEnds (c .kind))) (d .relations) (released-one t (lineEnds (c .kind))));
           next-low = v .next-low;
           next-high = v .next-high;
           points-rise = v .points-rise;

@@ -48,8 +48,3 @@ module _ (t : ℕ) (k : CurveKind) (c : Curve) (e : c .id ≡ t) (s : sortOf k �
 
   pub rekind-sound : (h : ℕ → Bool) (l : List ℕ) → soundKind h k l ≡ true → soundCurve h (rekind t k c) ≡ true
   rekind-sound h l q = ap (soundCurve h) (rekind-is t k c e) ∙ ap (λ (z : List ℕ). every h z && distinct k) (uses-same k (c .slots) l a) ∙ q
-
-pub number-of : (c : Curve) → okCurve c ≡ true → okNumber (c .kind) ≡ true
-number-of c h =
-    and-right (not (c .infinite) || isLineSort (sortOf (c .kind))) (okNumber (c .kind))
-    (and-left ((not (c .infinite) || isLineSort (sortOf (c .kind))) && okNumber (c .kind)) (every (λ i. eqb i 0) (drop (inSlots (c .kind)) (c .slots))) h)

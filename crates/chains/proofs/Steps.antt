@@ -19,6 +19,7 @@ use Rattle.sketch.specs.Drawing.{Drawing, Limits, pointIds, curveIds, curveIn}
 use Rattle.sketch.specs.Valid.{okCoordinate, okPoint, okCurve, okRelation, sortOf, sortAt, soundCurve, soundRelation}
 use Rattle.sketch.specs.Facts.{Every, Valid}
 use Rattle.edit_plan.specs.Tables.{okPosition, newPoint, withPoint, newCurve, withCurve, withRelation, rekind, setKind, moved, movePoint}
+use Rattle.edit_plan.proofs.Bridge.{look-front}
 use Rattle.edit_plan.proofs.Tables.{look-some, look-right, ids-set, look-set, look-set-other}
 use Rattle.edit_plan.proofs.Every.{every-append, every-as, every-map, among-same, among-left, among-right, rising-more, rising-end, rising-low, rising-high, look-member}
 use Rattle.chains.proofs.AddedPieces.{Low}
@@ -83,15 +84,6 @@ module _ (m : Limits) (d : Drawing) (v : Valid m d) where
       go none e h = absurd (h refl)
       go (some c) e h = (c, e)
 
-  look-more : (cs ys : List Curve) (i : ℕ) (c : Curve) → curveIn cs i ≡ some c → curveIn (cs ++ ys) i ≡ some c
-  unfolding curveIn
-  look-more [] ys i c e = let z : _≡_ {A = ℕ} 0 1 = cc in absurd (omega arith)
-  look-more (x ∷ cs) ys i c e = go (eqb i (x .id)) e (look-more cs ys i c)
-    where
-      go : (b : Bool) → ite b (some x) (curveIn cs i) ≡ some c → (curveIn cs i ≡ some c → curveIn (cs ++ ys) i ≡ some c) → ite b (some x) (curveIn (cs ++ ys) i) ≡ some c
-      go true e ih = e
-      go false e ih = ih e
-
   curve-ids-end : (cs : List Curve) (c : Curve) → curveIds (cs ++ (c ∷ [])) ≡ curveIds cs ++ (c .id ∷ [])
   curve-ids-end [] c = refl
   curve-ids-end (x ∷ cs) c = ap (λ (l : List ℕ). x .id ∷ l) (curve-ids-end cs c)
@@ -101,7 +93,7 @@ module _ (m : Limits) (d : Drawing) (v : Valid m d) where
     grown-curve =
         record {
           points = λ p h. h;
-          sorts = λ i h. let (c, e) = found-sort (d .curves) i h in ap sortAt (look-more (d .curves) (newCurve (d .next) k b ∷ []) i c e) ∙ sym (ap sortAt e);
+          sorts = λ i h. let (c, e) = found-sort (d .curves) i h in ap sortAt (look-front (d .curves) (newCurve (d .next) k b ∷ []) i c e) ∙ sym (ap sortAt e);
           next = omega arith;
         }
 

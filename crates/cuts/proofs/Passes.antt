@@ -16,7 +16,8 @@ use Rattle.cuts.specs.Lists.{lastOr}
 use Rattle.cuts.specs.Columns.{rows, cutAt}
 use Rattle.cuts.specs.Bracket.{insertCut, sortCuts, lastOne, firstOne}
 use Rattle.cuts.specs.Nearest.{nearerAt, nearestAt}
-use Rattle.cuts.proofs.Sorting.{Good, Fit, Sorted, keep-append, sort-append, sort-sorted, last-sooner, last-insert}
+use Rattle.sketch.proofs.Lists.{keep-append}
+use Rattle.cuts.proofs.Sorting.{Good, Fit, Sorted, sort-append, sort-sorted, last-sooner, last-insert}
 
 -- ---- a turn of the pass, as the code takes it
 module _ (last : Bool) (p : Float → Bool) (ts : List Float) (n i best : ℕ) where

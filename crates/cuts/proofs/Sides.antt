@@ -22,7 +22,8 @@ use Rattle.cuts.specs.Columns.{cutAt, cutsIn}
 use Rattle.cuts.specs.Nearest.{wanted, nearerAt, nearestAt, orOfAll}
 use Rattle.cuts.specs.Bracket.{within, interior, insertCut, sortCuts, inOrder, lastOne, firstOne, beside, around, bracket}
 use Rattle.cuts.proofs.Rows.{rows-length}
-use Rattle.cuts.proofs.Sorting.{Fit, keep-twice, keep-same, keep-sort, sort-length}
+use Rattle.sketch.proofs.Lists.{keep-twice, keep-same}
+use Rattle.cuts.proofs.Sorting.{Fit, keep-sort, sort-length}
 use Rattle.cuts.proofs.Passes.{endOf, sorted, fit-keep, at, at-there, fit-rows, pass-law}
 
 -- to filter what is in order is to sort what passes both tests

@@ -1,6 +1,6 @@
 -- Cuts sorted by their parameters: to filter them is to sort those that are left, and where one cut more goes. Assumes nothing.
-use mathlib.Core.Path.{_≡_, refl, sym, ap, _∙_}
-use mathlib.Core.Bool.{Bool, true, false, _&&_, cond}
+use mathlib.Core.Path.{_≡_, refl, sym, _∙_}
+use mathlib.Core.Bool.{Bool, true, false, cond}
 use mathlib.Core.List.{List, [], _∷_, _++_}
 use Prim.Native.Nat.{ℕ, _+_, _≤_, _<_}
 use native.Mathlib.Omega.{arith}
@@ -14,29 +14,6 @@ use Rattle.sketch.specs.Lists.{ite, keep}
 use Rattle.cuts.specs.declared.Cut.{Cut}
 use Rattle.cuts.specs.Lists.{lastOr}
 use Rattle.cuts.specs.Bracket.{insertCut, sortCuts}
-
--- ---- filters
-module _ {A : Type 0} where
-  pub keep-append : (p : A → Bool) (l m : List A) → keep p (l ++ m) ≡ keep p l ++ keep p m
-  keep-append p [] m = refl
-  keep-append p (a ∷ l) m = go (p a) (keep-append p l m)
-    where
-      go : (b : Bool) → keep p (l ++ m) ≡ keep p l ++ keep p m → ite b (a ∷ keep p (l ++ m)) (keep p (l ++ m)) ≡ ite b (a ∷ keep p l) (keep p l) ++ keep p m
-      go true e = ap (λ (r : List A). a ∷ r) e
-      go false e = e
-
-  pub keep-twice : (p q : A → Bool) (l : List A) → keep p (keep q l) ≡ keep (λ a. q a && p a) l
-  keep-twice p q [] = refl
-  keep-twice p q (a ∷ l) = go (q a) (keep-twice p q l)
-    where
-      go : (b : Bool) → keep p (keep q l) ≡ keep (λ a. q a && p a) l
-          → keep p (ite b (a ∷ keep q l) (keep q l)) ≡ ite (b && p a) (a ∷ keep (λ a. q a && p a) l) (keep (λ a. q a && p a) l)
-      go true e = ap (λ (r : List A). ite (p a) (a ∷ r) r) e
-      go false e = e
-
-  pub keep-same : (p q : A → Bool) (l : List A) → ((a : A) → p a ≡ q a) → keep p l ≡ keep q l
-  keep-same p q [] h = refl
-  keep-same p q (a ∷ l) h = let e = keep-same p q l h in rw (h a, e)
 
 -- ---- the order, by ranks
 abbrev rank : Cut → ℕ

@@ -8,7 +8,7 @@ use Rattle.geom.specs.Plane.{distance}
 use Rattle.geom.specs.declared.Vec2.{Vec2}
 use Rattle.shape.specs.declared.Shape.{Shape}
 use Rattle.shape.specs.declared.Shape.the-variants.{Line, Round}
-use Rattle.shape.specs.Measures.{range, isFull, param, point}
+use Rattle.shape.specs.Measures.{isFull, param, point}
 use Rattle.shape.specs.Intersections.{points, crossings}
 use Rattle.cuts.specs.declared.Cutter.{Cutter}
 use Rattle.cuts.specs.declared.Cut.{Cut}

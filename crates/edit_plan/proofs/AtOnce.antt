@@ -34,7 +34,7 @@ use Rattle.edit_plan.specs.Changes.{isCircle, isWhole, startOf, endOf, p
 use Rattle.edit_plan.specs.Room.{additionsFor, roomWith, leftOver}
 use Rattle.edit_plan.proofs.Every.{every-in, every-at, rising-among, rising-look, member-look}
 use Rattle.edit_plan.proofs.Leaves.{or-true, or-two}
-use Rattle.edit_plan.proofs.Unused.{keep-true}
+use Rattle.sketch.proofs.Lists.{keep-true}
 use Rattle.edit_plan.proofs.Fresh.{new-curve, new-unnamed, point-old, curve-old}
 use Rattle.edit_plan.proofs.Bridge.{freed, isOpen, Apart}
 use Rattle.edit_plan.proofs.Finals.{Given}

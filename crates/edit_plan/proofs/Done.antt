@@ -30,7 +30,7 @@ use Rattle.edit_plan.specs.Changes.{isWhole, startOf, endOf, changeFor, 
 use Rattle.edit_plan.specs.Room.{additionsFor, roomOf, refusalFor}
 use Rattle.edit_plan.specs.Contracts.{HasRoom, Released, ChangeStored, Cleared, Without, refusedAs, remainingRelations}
 use Rattle.edit_plan.proofs.Loops.{look-at, recut-is-map}
-use Rattle.edit_plan.proofs.Unused.{keep-true}
+use Rattle.sketch.proofs.Lists.{keep-true}
 use Rattle.edit_plan.proofs.Bridge.{unlessRefused, unless-refused-none, unless-refused-by}
 use Rattle.edit_plan.proofs.Finals.{same}
 use Rattle.edit_plan.proofs.AtOnce.{finalOf, orphansOf, roomNumber}

@@ -29,7 +29,8 @@ use Rattle.edit_plan.proofs.Every.{differ-is}
 use Rattle.edit_plan.proofs.Tables.{look-set, look-right, ids-set, rekind-same}
 use Rattle.edit_plan.proofs.Loops.{map-append}
 use Rattle.edit_plan.proofs.Leaves.{among-append, or-true, or-two}
-use Rattle.edit_plan.proofs.Unused.{keep-append, uses-append}
+use Rattle.sketch.proofs.Lists.{keep-append}
+use Rattle.edit_plan.proofs.Unused.{uses-append}
 use Rattle.edit_plan.proofs.Fresh.{unnamed}
 use Rattle.edit_plan.proofs.Gone.{keep-concat-map, keep-every, in-use-stays, rekind-none, rekind-twice, remove-added, uses-rekind, keep-unnamed, freed-unnamed}
 use Rattle.edit_plan.proofs.Bridge.{look-front, isOpen, freed}

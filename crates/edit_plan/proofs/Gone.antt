@@ -23,7 +23,7 @@ use Rattle.edit_plan.specs.Steps.{isSome, dropIf, measured, releaseRelat
 use Rattle.edit_plan.specs.Changes.{staying, unusedBy}
 use Rattle.edit_plan.proofs.Every.{every-append, rising-low}
 use Rattle.edit_plan.proofs.Leaves.{among-append}
-use Rattle.edit_plan.proofs.Unused.{keep-append}
+use Rattle.sketch.proofs.Lists.{keep-append}
 use Rattle.edit_plan.proofs.Fresh.{unnamed}
 
 -- ---- lists

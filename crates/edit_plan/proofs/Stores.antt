@@ -40,7 +40,7 @@ dropped-one : (b : Bool) (r : Relation) → length (dropIf b r) ≤ 1
 dropped-one true r = omega arith
 dropped-one false r = omega arith
 
-released-one : (t : ℕ) (e : Option (ℕ × ℕ)) (r : Relation) → length (releaseRelation t e r) ≤ 1
+pub released-one : (t : ℕ) (e : Option (ℕ × ℕ)) (r : Relation) → length (releaseRelation t e r) ≤ 1
 unfolding releaseRelation measured
 released-one t e (Coincident p q) = omega arith
 released-one t e (PointOnCurve p c) = omega arith

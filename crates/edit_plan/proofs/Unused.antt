@@ -14,35 +14,11 @@ use Rattle.sketch.specs.Lists.{ite, keep}
 use Rattle.sketch.specs.Lookup.{among}
 use Rattle.sketch.specs.Drawing.{usesOf}
 use Rattle.sketch.specs.Blanks.{noCurve}
+use Rattle.sketch.proofs.Lists.{keep-append, keep-twice, keep-same, keep-true}
 use Rattle.edit_plan.specs.declared.Orphans.{Orphans}
 use Rattle.edit_plan.specs.Tables.{uses, others}
 use Rattle.edit_plan.specs.Changes.{lone, orphanList, unusedBy}
 use Rattle.edit_plan.proofs.Leaves.{among-append}
-
-module _ {A : Type 0} where
-  pub keep-append : (f : A → Bool) (xs ys : List A) → keep f (xs ++ ys) ≡ keep f xs ++ keep f ys
-  keep-append f [] ys = refl
-  keep-append f (x ∷ xs) ys = go (f x) (keep-append f xs ys)
-    where
-      go : (b : Bool) → keep f (xs ++ ys) ≡ keep f xs ++ keep f ys → ite b (x ∷ keep f (xs ++ ys)) (keep f (xs ++ ys)) ≡ ite b (x ∷ keep f xs) (keep f xs) ++ keep f ys
-      go true h = ap (λ t. x ∷ t) h
-      go false h = h
-
-  pub keep-as : (f g : A → Bool) → ((a : A) → f a ≡ g a) → (l : List A) → keep f l ≡ keep g l
-  keep-as f g h [] = refl
-  keep-as f g h (a ∷ l) = ap (λ b. ite b (a ∷ keep f l) (keep f l)) (h a) ∙ ap (λ t. ite (g a) (a ∷ t) t) (keep-as f g h l)
-
-  pub keep-true : (f : A → Bool) → ((a : A) → f a ≡ true) → (l : List A) → keep f l ≡ l
-  keep-true f h [] = refl
-  keep-true f h (a ∷ l) = rw (h a) (ap (λ t. a ∷ t) (keep-true f h l))
-
-  keep-twice : (f g : A → Bool) (l : List A) → keep g (keep f l) ≡ keep (λ a. f a && g a) l
-  keep-twice f g [] = refl
-  keep-twice f g (a ∷ l) = go (f a) (keep-twice f g l)
-    where
-      go : (b : Bool) → keep g (keep f l) ≡ keep (λ a. f a && g a) l → keep g (ite b (a ∷ keep f l) (keep f l)) ≡ ite (b && g a) (a ∷ keep (λ a. f a && g a) l) (keep (λ a. f a && g a) l)
-      go true h = ap (λ t. ite (g a) (a ∷ t) t) h
-      go false h = h
 
 pub uses-append : (xs ys : List Curve) → uses (xs ++ ys) ≡ uses xs ++ uses ys
 uses-append [] ys = refl
@@ -61,7 +37,7 @@ more-used xs c p =
     go false b = refl
 
 unused-more : (xs : List Curve) (c : Curve) (ps : List ℕ) → keep (unusedIn c) (unusedBy xs ps) ≡ unusedBy (xs ++ (c ∷ [])) ps
-unused-more xs c ps = keep-twice (λ p. not (among p (uses xs))) (unusedIn c) ps ∙ keep-as _ _ (more-used xs c) ps
+unused-more xs c ps = keep-twice (unusedIn c) (λ p. not (among p (uses xs))) ps ∙ keep-same _ _ ps (more-used xs c)
 
 -- nothing is used where there is no curve
 pub unused-none : (ps : List ℕ) → unusedBy [] ps ≡ ps

@@ -4,7 +4,6 @@ use mathlib.Core.Bool.{Bool, true, false, not}
 use mathlib.Core.List.{List, [], _∷_, _++_}
 use mathlib.Core.Option.{Option, some, none}
 use lib.Dec.{eqb}
-use lib.Ieee.{binary64, ofBits}
 use Rattle.geom.specs.declared.Vec2.{Vec2}
 use Rattle.geom.specs.Plane.{origin}
 use Rattle.sketch.specs.declared.Point.{Point}

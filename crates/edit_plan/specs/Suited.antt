@@ -2,7 +2,6 @@
 use Prim.Native.Nat.{ℕ, _<_}
 use mathlib.Core.Path.{_≡_}
 use mathlib.Core.Bool.{Bool, true, false, not}
-use mathlib.Core.List.{List}
 use lib.ListN.{getD}
 use lib.Dec.{eqb}
 use Rattle.sketch.specs.declared.Curve.{Curve}
@@ -17,7 +16,6 @@ use Rattle.sketch.specs.Facts.{Sized}
 use Rattle.sketch.specs.Valid.{sketchFault}
 use Rattle.edit_plan.specs.declared.Pin.{Pin}
 use Rattle.edit_plan.specs.declared.Pin.the-variants.{On, At}
-use Rattle.edit_plan.specs.declared.PinnedPoint.{PinnedPoint}
 use Rattle.edit_plan.specs.declared.Plan.{Plan}
 use Rattle.edit_plan.specs.declared.Plan.the-variants.{Whole, Cut, CutTwo, Divide, DivideTwo, Move}
 use Rattle.edit_plan.specs.declared.Edited.{Edited}

@@ -2,19 +2,17 @@
 use Prim.Native.Nat.{ℕ, suc}
 use mathlib.Core.Bool.{Bool, false, not, _&&_}
 use mathlib.Core.List.{List, [], _∷_, _++_, map}
-use mathlib.Core.Option.{Option, some, none}
 use lib.ListN.{length}
 use lib.Dec.{ltb, eqb}
 use Rattle.geom.specs.declared.Vec2.{Vec2}
 use Rattle.sketch.specs.declared.Point.{Point}
 use Rattle.sketch.specs.declared.Curve.{Curve}
 use Rattle.sketch.specs.declared.CurveKind.{CurveKind}
-use Rattle.sketch.specs.declared.CurveKind.the-variants.{Line, Arc, Circle, Bezier, Conic}
 use Rattle.sketch.specs.declared.Relation.{Relation}
 use Rattle.sketch.specs.declared.Relation.the-variants.{Coincident, PointOnCurve, Collinear, Equal, Length, Distance, Midpoint, ArcLength, ArcSweep}
 use Rattle.sketch.specs.Lists.{ite, every, keep, concatMap}
 use Rattle.sketch.specs.Lookup.{among}
-use Rattle.sketch.specs.Drawing.{Drawing, Limits, curveIn, usesOf, pointsOf, noSlots}
+use Rattle.sketch.specs.Drawing.{Drawing, Limits, usesOf, pointsOf, noSlots}
 use Rattle.sketch.specs.Valid.{okCoordinate}
 use Rattle.edit_plan.specs.Outcome.{Outcome, accepted, guard}
 

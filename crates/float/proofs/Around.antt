@@ -49,7 +49,7 @@ gap p q k y h full P l = go (ltb (h .zeros) k) (ltb→lt (h .zeros) k) (nltb→l
         let m : q < Z = lt-of-mul-lt-mul-right (2 ^ k) (subst (λ (x : ℕ). q * 2 ^ k < x) e l) in
         le-trans (mul-le-mul-right (2 ^ k) (next m)) (le-of-eq (sym e))
 
--- ---- the two values around the root of n / d, and the choice between them
+-- ---- the two values around the root of n / d, and the nearer of them
 pub record Around (p n d q k : ℕ) : Type 0 where
   pub lower : sq (q * 2 ^ k) * d ≤ n
   pub upper : n < sq ((q + 1) * 2 ^ k) * d
@@ -57,13 +57,13 @@ pub record Around (p n d q k : ℕ) : Type 0 where
   pub full : 0 < k → 2 ^ (p - 1) ≤ q
 
 -- K is q, and the root is below the middle, or q + 1, and the root is above the middle
-abbrev pub Choice : ℕ → ℕ → ℕ → ℕ → Type 0
-Choice a m q K = ((K ≡ q) × (a < m)) ⊎ ((K ≡ q + 1) × (m < a))
+abbrev pub NearerOf : ℕ → ℕ → ℕ → ℕ → Type 0
+NearerOf a m q K = ((K ≡ q) × (a < m)) ⊎ ((K ≡ q + 1) × (m < a))
 
-pub choose : (a m q : ℕ) → (a ≡ m → ⊥) → Choice a m q (nearest q (compare a m))
-choose a m q apart = go (compare a m) (cmp a m)
+pub nearest-nearer : (a m q : ℕ) → (a ≡ m → ⊥) → NearerOf a m q (nearest q (compare a m))
+nearest-nearer a m q apart = go (compare a m) (cmp a m)
   where
-    go : (o : Ordering) → Cmp o a m → Choice a m q (nearest q o)
+    go : (o : Ordering) → Cmp o a m → NearerOf a m q (nearest q o)
     go Ordering·lt h = inl (refl, h)
     go Ordering·eq h = absurd (apart h)
     go Ordering·gt h = inr (omega arith, h)
@@ -113,7 +113,7 @@ sq-lt a b h = lt-of-le-of-lt (mul-le-mul-left a (le-of-lt h)) (mul-lt-mul-of-pos
     above-zero : (a b : ℕ) → a < b → 0 < b
     above-zero a b h = omega arith
 
-module _ (p n d q k K : ℕ) (P : 0 < p) (D : 0 < d) (w : Around p n d q k) (c : Choice (4 * n) (sq ((2 * q + 1) * 2 ^ k) * d) q K) (y : ℕ) (h : Held p y) where
+module _ (p n d q k K : ℕ) (P : 0 < p) (D : 0 < d) (w : Around p n d q k) (c : NearerOf (4 * n) (sq ((2 * q + 1) * 2 ^ k) * d) q K) (y : ℕ) (h : Held p y) where
   abbrev pub u : ℕ
   u = 2 ^ k
 

@@ -15,7 +15,7 @@ use Rattle.float.specs.Root.{sq, isqrt, root, sqrt, plain, Nearer}
 use Rattle.float.specs.Numbers.{√}
 use Rattle.float.proofs.WholeRoots.{sq-back, sq-mul, isqrt-is}
 use Rattle.float.proofs.Patterns.{root-is, units-fits}
-use Rattle.float.proofs.Around.{choose, no-tie, below, above, around}
+use Rattle.float.proofs.Around.{nearest-nearer, no-tie, below, above, around}
 use Rattle.float.proofs.Units.{positive-plain, plain-of, in-units, in-range}
 
 -- ---- no overflow
@@ -139,7 +139,7 @@ sqrt-nearest f x v hx px hv pv =
     let cx = value→cross x (X .0) (2 ^ l) (X .1) in
     let apart : 4 * n ≡ sq ((2 * q + 1) * 2 ^ k) * den x → ⊥ =
     λ e. no-tie p q k (X .2 .zeros + l + 2) (X .2 .digits) (X .2 .short) (a .full) P (omega arith) (tied (num x) (den x) (X .0) (X .2 .digits) (X .2 .zeros) l k q D cx (X .2 .is) e) in
-    let ch = choose (4 * n) (sq ((2 * q + 1) * 2 ^ k) * den x) q apart in
+    let ch = nearest-nearer (4 * n) (sq ((2 * q + 1) * 2 ^ k) * den x) q apart in
     let ok = fine f p q k w K (a .full) (div-mul-le-self w (2 ^ k)) (nearest-le q o) (root-under f (num x) (den x) D (in-range f x hx (positive-plain x px))) in
     let r = units f false K k in
     let rv : HasValue r false (K * 2 ^ k) (2 ^ l) = units-val f false K k ok in

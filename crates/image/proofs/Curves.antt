@@ -3,16 +3,15 @@ use mathlib.Core.Path.{_≡_, refl, sym, ap, _∙_}
 use mathlib.Core.Bool.{Bool, true, false, not, _&&_, _||_}
 use mathlib.Core.List.{List, [], _∷_, _++_, append-assoc, append-nil}
 use Prim.Native.Nat.{ℕ, zero, suc, _+_, _*_, _/_, _%_, _^_, _≤_, _<_}
-use native.Mathlib.Nat.{suc-mul}
 use native.Mathlib.Omega.{arith}
-use lib.ListN.{length, take, drop, getD, replicate, length-append}
+use lib.ListN.{length, drop, replicate, length-append}
 use lib.Seq.{take-all}
-use lib.Dec.{T, leb, ltb, eqb, lit<}
-use lib.Ieee.{Float, toBits, ofBits, binary64}
+use lib.Dec.{eqb, lit<}
+use lib.Ieee.{Float, ofBits, binary64}
 use lib.Ieee.Bits.{ofBits-toBits, toBits-lt}
 use borrow.Author.Tests.{leb-true, le-leb, eqb-true}
 use Rattle.big_endian.specs.Fields.{field, bytes, part}
-use Rattle.big_endian.specs.Laws.{Bytes, length-bytes, field-in, field-lt, bytes-field, part-join}
+use Rattle.big_endian.specs.Laws.{Bytes, length-bytes, field-in, bytes-field, part-join}
 use Rattle.sketch.specs.Lists.{ite, every, concatMap}
 use Rattle.sketch.specs.declared.Curve.{Curve}
 use Rattle.sketch.specs.declared.CurveKind.{CurveKind}
@@ -20,6 +19,7 @@ use Rattle.sketch.specs.declared.CurveKind.the-variants.{Line, Arc, Circle, Bez
 use Rattle.sketch.specs.Valid.{okCurve, okNumber, okRadius, okRho, inSlots, sortOf, isLineSort}
 use Rattle.sketch.specs.Drawing.{noSlots}
 use Rattle.sketch.proofs.Bools.{and-both}
+use Rattle.sketch.proofs.Facts.{ok-number}
 use Rattle.image.specs.Records.{idsAt, slotsOf, usedSlots, curveFields, curveForm, kindOf, curveOf, curveSize}
 use Rattle.image.specs.Encode.{bit, bits, kindByte, degreeOf, numberBits, slotIds, flagByte, encodeCurve}
 use Rattle.image.specs.Stored.{Each, Id, StoredKind, StoredCurve}
@@ -202,12 +202,6 @@ curve-there c w =
     record { tested = ap (λ (x : Curve). curveForm s && okCurve x) o ∙ h; spelled = o }
 
 -- ---- the record back
-
--- a curve that passes has a number in range
-pub ok-number : (c : Curve) → okCurve c ≡ true → okNumber (c .kind) ≡ true
-ok-number c e =
-    let line = not (c .infinite) || isLineSort (sortOf (c .kind)) in
-    and-both line (okNumber (c .kind)) (and-both (line && okNumber (c .kind)) _ e .0) .1
 
 pub zeros : (l : List ℕ) → every (λ i. eqb i 0) l ≡ true → l ≡ replicate (length l) 0
 zeros [] h = refl

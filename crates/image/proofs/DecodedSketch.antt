@@ -3,7 +3,6 @@ use mathlib.Core.Path.{_≡_, refl, sym, ap, _∙_}
 use mathlib.Core.Bool.{Bool, true, false, _&&_}
 use mathlib.Core.List.{List, [], _∷_, map}
 use Prim.Native.Nat.{ℕ, _+_, _*_}
-use native.Mathlib.Omega.{arith}
 use lib.Dec.{leb}
 use lib.ListN.{take}
 use borrow.Author.Tests.{le-leb}
@@ -15,11 +14,11 @@ use Rattle.sketch.specs.Valid.{okPoint, okCurve, okRelation, faultOf, sketchFau
 use Rattle.sketch.proofs.Facts.{none-guard-number}
 use Rattle.sketch.proofs.Bools.{and-both}
 use Rattle.image.specs.Records.{pointForm, pointOf, curveForm, curveOf, relationForm, relationOf, curveSize, pointSize, relationSize}
-use Rattle.image.specs.Image.{nextAt, rowsAt, pointCount, curveCount, relationCount, pointRows, curveRows, relationRows, drawingOf, recordsFault, imageFault, headerSize}
+use Rattle.image.specs.Image.{nextAt, rowsAt, pointCount, curveCount, relationCount, pointRows, curveRows, relationRows, drawingOf, imageFault, headerSize}
 use Rattle.image.specs.Decode.{plainPoint, plainCurve, plainRelation}
 use Rattle.image.specs.Contracts.{goodPoint, goodCurve, goodRelation}
 use Rattle.image.proofs.Plain.{point-lost, curve-lost, relation-lost}
-use Rattle.image.proofs.RoundTrips.{Sound, image-kept, records-agree}
+use Rattle.image.proofs.RoundTrips.{image-kept, records-agree}
 
 -- what every good record is
 every-so : (f g : List ℕ → Bool) → ((r : List ℕ) → f r ≡ true → g r ≡ true) → (rows : List (List ℕ)) → every f rows ≡ true → every g rows ≡ true

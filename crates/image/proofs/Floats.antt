@@ -1,17 +1,16 @@
 -- Floats in range and their bits.
 use mathlib.Core.Path.{_≡_, refl, sym, ap, _∙_, subst}
 use mathlib.Core.Bool.{Bool, true, false, not, _&&_}
-use Prim.Native.Nat.{ℕ, _+_, _%_, _<_, _≤_}
+use Prim.Native.Nat.{ℕ, _%_}
 use native.Mathlib.Omega.{arith}
 use mathlib.Core.List.{List}
-use lib.ListN.{length}
-use lib.Dec.{T, leb, ltb}
-use borrow.Author.Tests.{le-ltb, lt-ltb, leb-true, leb-false}
+use lib.Dec.{T, leb}
 use lib.Ieee.{Float, nan, inf, fin, le, lt, eq, isNan, ofBits, toBits, nanBits, neg, binary64}
 use lib.Ieee.Bits.{toBits-ofBits, nanBits-is, nanBits-above}
 use Rattle.big_endian.specs.Fields.{field}
 use Rattle.big_endian.specs.Laws.{Bytes, field-lt}
 use Rattle.sketch.specs.Valid.{okCoordinate, okRadius, okRho, okMeasure}
+use Rattle.sketch.proofs.Bools.{leb-ltb}
 
 and-false : (a : Bool) → (a && false) ≡ false
 and-false true = refl
@@ -70,14 +69,7 @@ bits-back ok e s at b h =
 
 -- bits of a number are at most those of an infinity, the sign put away
 pub number-test : (b : ℕ) → leb (b % 0x8000_0000_0000_0000) 0x7ff0_0000_0000_0000 ≡ not (nanBits binary64 b)
-number-test b = rw (nanBits-above binary64 b) (turned (b % 0x8000_0000_0000_0000) 0x7ff0_0000_0000_0000)
-  where
-    turned : (m n : ℕ) → leb m n ≡ not (ltb n m)
-    turned m n = go (leb m n) refl
-      where
-        go : (t : Bool) → leb m n ≡ t → t ≡ not (ltb n m)
-        go true e = rw (le-ltb n m (leb-true m n e))
-        go false e = rw (lt-ltb n m (leb-false m n e))
+number-test b = rw (nanBits-above binary64 b) (leb-ltb (b % 0x8000_0000_0000_0000) 0x7ff0_0000_0000_0000)
 
 -- bits that were tested may become a float
 pub number-bits : (n : ℕ) {b : ℕ} → n ≡ b → not (nanBits binary64 b) ≡ true → T (not (nanBits binary64 n))

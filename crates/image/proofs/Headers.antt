@@ -1,18 +1,17 @@
 -- An image's header: its tests as facts, there and back.
 use mathlib.Core.Path.{_≡_, refl, sym, ap, _∙_}
-use mathlib.Core.Bool.{Bool, true, false, _&&_}
-use mathlib.Core.List.{List, [], _∷_, _++_, append-assoc, append-nil}
-use Prim.Native.Nat.{ℕ, zero, suc, _+_, _*_, _-_, _^_, _≤_, _<_}
+use mathlib.Core.List.{List, [], _++_, append-assoc}
+use Prim.Native.Nat.{ℕ, _+_, _-_, _^_, _≤_, _<_}
 use native.Mathlib.Omega.{arith}
-use lib.ListN.{length, take, drop, length-append}
-use lib.Dec.{leb, eqb, lit<}
+use lib.ListN.{length, length-append}
+use lib.Dec.{lit<}
 use borrow.Author.Tests.{leb-true, eqb-true, le-leb, eq-eqb}
 use Rattle.big_endian.specs.Fields.{field, bytes, part}
-use Rattle.big_endian.specs.Laws.{Bytes, length-bytes, field-in, field-lt, bytes-field, part-join}
+use Rattle.big_endian.specs.Laws.{Bytes, length-bytes, field-in, bytes-field, part-join}
 use Rattle.sketch.specs.Lists.{guardNumber}
 use Rattle.sketch.proofs.Facts.{guard-number-kept}
 use Rattle.sketch.proofs.Bools.{and-both}
-use Rattle.image.specs.Image.{version, nextAt, pointCount, curveCount, relationCount, sizeOf, curvesFrom, relationsFrom, headFault, headerSize}
+use Rattle.image.specs.Image.{version, nextAt, pointCount, curveCount, relationCount, sizeOf, headFault, headerSize}
 use Rattle.image.specs.Encode.{header}
 use Rattle.image.specs.Stored.{Id}
 

@@ -11,4 +11,4 @@ pub mod RecordChecks
 pub mod RelationChecks
 pub mod Walked
 pub mod DecodedSketch
-pub mod Verdicts
+pub mod Answers

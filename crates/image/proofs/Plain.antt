@@ -2,16 +2,15 @@
 use mathlib.Core.Path.{_≡_, refl, sym, ap, _∙_}
 use mathlib.Core.Bool.{Bool, true, false, not, _&&_, _||_}
 use mathlib.Core.List.{List}
-use Prim.Native.Nat.{ℕ, zero, suc, _≤_}
+use Prim.Native.Nat.{ℕ, zero, suc}
 use native.Mathlib.Omega.{arith}
 use lib.ListN.{drop}
 use lib.Dec.{eqb, leb}
-use lib.Ieee.{Float, ofBits, nanBits, binary64}
+use lib.Ieee.{ofBits, nanBits, binary64}
 use borrow.Author.Tests.{eqb-true, le-leb, lt-leb}
 use Rattle.big_endian.specs.Fields.{field}
-use Rattle.sketch.specs.Lists.{ite, every}
+use Rattle.sketch.specs.Lists.{every}
 use Rattle.sketch.specs.Valid.{okPoint, okCurve, okRelation, okCoordinate, okNumber, okRadius, okRho, okMeasure, inSlots, sortOf, isLineSort}
-use Rattle.sketch.specs.Drawing.{noSlots}
 use Rattle.sketch.proofs.Bools.{and-both}
 use Rattle.image.specs.Records.{pointForm, pointOf, curveForm, curveOf, relationForm, relationOf, slotsOf, kindOf, relationBy, usedSlots, curveFields, relationFields}
 use Rattle.image.specs.Decode.{numberAt, plainPoint, plainCurve, plainRelation}

@@ -1,16 +1,16 @@
 -- A point's record, there and back.
-use mathlib.Core.Path.{_≡_, refl, sym, ap, _∙_}
+use mathlib.Core.Path.{_≡_, refl, ap}
 use mathlib.Core.Bool.{Bool, true, false}
-use mathlib.Core.List.{List, [], _∷_, _++_, append-assoc, append-nil}
-use Prim.Native.Nat.{ℕ, zero, suc, _+_, _^_, _≤_, _<_}
+use mathlib.Core.List.{List, [], _++_, append-assoc, append-nil}
+use Prim.Native.Nat.{ℕ, zero, suc, _+_, _≤_, _<_}
 use native.Mathlib.Omega.{arith}
-use lib.ListN.{length, take, drop, length-append}
+use lib.ListN.{length, length-append}
 use lib.Seq.{take-all}
-use lib.Dec.{T, leb, eqb, lit<}
-use lib.Ieee.{toBits, ofBits, binary64}
+use lib.Dec.{leb, eqb, lit<}
+use lib.Ieee.{ofBits, binary64}
 use lib.Ieee.Bits.{ofBits-toBits, toBits-lt}
 use borrow.Author.Tests.{leb-true}
-use Rattle.big_endian.specs.Fields.{field, bytes, part}
+use Rattle.big_endian.specs.Fields.{field, bytes}
 use Rattle.big_endian.specs.Laws.{Bytes, length-bytes, field-in, bytes-field, part-join}
 use Rattle.sketch.specs.declared.Point.{Point}
 use Rattle.sketch.specs.Valid.{okPoint, okCoordinate}

@@ -1,23 +1,21 @@
 -- What the tests of one record come to, one law for each way out of them.
 use mathlib.Core.Path.{_≡_, refl, sym, ap, _∙_}
-use mathlib.Core.Bool.{Bool, true, false, not, _&&_, _||_, and-assoc, and-true, or-true, or-false}
-use mathlib.Core.List.{List, [], _∷_}
-use Prim.Native.Nat.{ℕ, zero, suc, _+_, _*_, _/_, _%_, _≤_, _<_}
+use mathlib.Core.Bool.{Bool, true, false, not, _&&_, and-assoc, and-true, or-true, or-false}
+use mathlib.Core.List.{List}
+use Prim.Native.Nat.{ℕ, zero, suc, _+_, _*_, _/_, _%_, _<_}
 use native.Mathlib.Omega.{arith}
 use native.Mathlib.Numerals.{add-one}
 use lib.ListN.{length, drop, getD}
 use lib.Dec.{eqb, leb}
-use lib.Ieee.{Float, ofBits, nanBits, binary64}
+use lib.Ieee.{Float, nanBits, binary64}
 use borrow.Author.Tests.{eq-eqb, ne-eqb, eqb-true, eqb-false, le-leb, lt-leb}
 use Rattle.big_endian.specs.Fields.{field}
 use Rattle.big_endian.specs.Laws.{field-split}
-use Rattle.sketch.specs.Lists.{ite, every}
+use Rattle.sketch.specs.Lists.{every}
 use Rattle.sketch.specs.declared.CurveKind.the-variants.{Line, Arc, Circle, Bezier, Conic}
-use Rattle.sketch.specs.declared.Relation.the-variants.{Coincident, PointOnCurve, Collinear, Equal, Length, Distance, Midpoint, ArcLength, ArcSweep}
-use Rattle.sketch.specs.Valid.{okCurve, okRelation, okNumber, okRadius, okRho, okMeasure, inSlots, sortOf}
-use Rattle.sketch.specs.Drawing.{noSlots}
-use Rattle.image.specs.Records.{floatAt, slotsOf, idsAt, usedSlots, curveFields, curveForm, kindOf, curveOf, relationFields, relationForm, relationBy, relationOf}
-use Rattle.image.specs.Contracts.{goodCurve, goodAs, goodRelation, rowSort}
+use Rattle.sketch.specs.Valid.{okNumber, okRadius, okRho, inSlots, sortOf}
+use Rattle.image.specs.Records.{floatAt, slotsOf, idsAt, usedSlots, curveFields, kindOf, curveOf}
+use Rattle.image.specs.Contracts.{goodCurve, goodAs, rowSort}
 use Rattle.image.proofs.Floats.{Rejects, nan-fails}
 
 -- ---- numbers: bits that are no number's are out of range, whatever the range

@@ -1,16 +1,16 @@
 -- A relation's record, there and back.
-use mathlib.Core.Path.{_≡_, refl, sym, ap, _∙_}
-use mathlib.Core.Bool.{Bool, true, false, not, _&&_, _||_}
-use mathlib.Core.List.{List, [], _∷_, _++_, append-assoc, append-nil}
+use mathlib.Core.Path.{_≡_, refl, sym}
+use mathlib.Core.Bool.{true, not, _||_}
+use mathlib.Core.List.{List, [], _++_, append-assoc, append-nil}
 use Prim.Native.Nat.{ℕ, zero, suc, _+_, _^_, _≤_, _<_}
 use native.Mathlib.Omega.{arith}
-use lib.ListN.{length, take, drop, length-append}
+use lib.ListN.{length, length-append}
 use lib.Seq.{take-all}
-use lib.Dec.{T, leb, eqb, lit<}
-use lib.Ieee.{Float, toBits, ofBits, binary64}
+use lib.Dec.{eqb, lit<}
+use lib.Ieee.{Float, ofBits, binary64}
 use lib.Ieee.Bits.{ofBits-toBits, toBits-lt}
 use borrow.Author.Tests.{leb-true, eqb-true}
-use Rattle.big_endian.specs.Fields.{field, bytes, part}
+use Rattle.big_endian.specs.Fields.{field, bytes}
 use Rattle.big_endian.specs.Laws.{Bytes, length-bytes, field-in, bytes-field, part-join}
 use Rattle.sketch.specs.declared.Relation.{Relation}
 use Rattle.sketch.specs.declared.Relation.the-variants.{Coincident, PointOnCurve, Collinear, Equal, Length, Distance, Midpoint, ArcLength, ArcSweep}

@@ -2,13 +2,13 @@
 use mathlib.Core.Path.{_≡_, refl, sym, ap, _∙_}
 use mathlib.Core.Bool.{Bool, true, false, _&&_}
 use mathlib.Core.List.{List, [], _∷_, _++_, map, append-assoc, append-nil}
-use Prim.Native.Nat.{ℕ, zero, suc, _+_, _*_, _-_, _^_, _≤_, _<_}
+use Prim.Native.Nat.{ℕ, zero, suc, _+_, _*_, _-_}
 use native.Mathlib.Omega.{arith}
-use lib.ListN.{length, take, drop, length-append, length-map}
+use lib.ListN.{length, length-append, length-map}
 use lib.Seq.{take-all}
-use lib.Dec.{leb, eqb, lit<}
+use lib.Dec.{leb}
 use borrow.Author.Tests.{le-leb, eq-eqb}
-use Rattle.big_endian.specs.Fields.{field, bytes, part}
+use Rattle.big_endian.specs.Fields.{part}
 use Rattle.big_endian.specs.Laws.{Bytes, field-lt, part-join}
 use Rattle.sketch.specs.Lists.{every, concatMap, guardNumber}
 use Rattle.sketch.specs.Drawing.{Drawing, limits}
@@ -16,14 +16,14 @@ use Rattle.sketch.specs.Valid.{okPoint, okCurve, okRelation, soundCurve, soundR
 use Rattle.sketch.proofs.Facts.{table-facts, list-facts}
 use Rattle.sketch.proofs.Bools.{and-both}
 use Rattle.image.specs.Records.{pointForm, pointOf, curveForm, curveOf, relationForm, relationOf, curveSize, pointSize, relationSize}
-use Rattle.image.specs.Image.{version, nextAt, pointCount, curveCount, relationCount, sizeOf, curvesFrom, relationsFrom, headFault, rowsAt, pointRows, curveRows, relationRows, drawingOf, rowId, recordsFault, imageFault, ParseResult, refused, accepted, resultOf, parse, headerSize}
+use Rattle.image.specs.Image.{nextAt, pointCount, curveCount, relationCount, sizeOf, curvesFrom, relationsFrom, headFault, pointRows, curveRows, relationRows, drawingOf, rowId, recordsFault, imageFault, refused, accepted, resultOf, parse, headerSize}
 use Rattle.image.specs.Encode.{encodePoint, encodeCurve, encodeRelation, header, drawingSize, encode}
-use Rattle.image.specs.Stored.{Each, Stored, StoredPoint, StoredCurve, StoredRelation, Id}
-use Rattle.image.proofs.Tables.{length-rows, rows-join, rows-proper, concat-map-back, Sized, sized-all, length-concat-map, rows-concat-map, Spells, of-rows, table-there, list-there, every-true, table-whole, list-whole}
+use Rattle.image.specs.Stored.{Each, Stored, Id}
+use Rattle.image.proofs.Tables.{length-rows, rows-join, rows-proper, concat-map-back, Sized, sized-all, length-concat-map, rows-concat-map, of-rows, table-there, list-there, every-true, table-whole, list-whole}
 use Rattle.image.proofs.Points.{length-point, point-there, point-back}
 use Rattle.image.proofs.Curves.{length-curve, curve-there, curve-back}
 use Rattle.image.proofs.Relations.{length-relation, relation-there, relation-back}
-use Rattle.image.proofs.Headers.{Head, head-kept, head-passes, length-header, Fields, header-there, header-back}
+use Rattle.image.proofs.Headers.{Head, head-kept, length-header, Fields, header-there, header-back}
 
 -- ---- reader and test agree: an image whose records all spell something is refused just as the drawing that they spell
 
@@ -195,6 +195,24 @@ pub result-accepted : (n : ℕ) (d₀ d : Drawing) → resultOf n d₀ ≡ accep
 unfolding resultOf
 result-accepted zero d₀ d e = (refl, cc)
 result-accepted (suc n) d₀ d e = let z : _≡_ {A = ℕ} 0 1 = cc in absurd (omega arith)
+
+pub result-none : (n : ℕ) (d : Drawing) → n ≡ 0 → resultOf n d ≡ accepted d
+unfolding resultOf
+result-none zero d h = refl
+result-none (suc n) d h = absurd (omega arith)
+
+pub result-number : (m n : ℕ) (d e : Drawing) → resultOf m d ≡ resultOf n e → m ≡ n
+unfolding resultOf
+result-number zero zero d e h = refl
+result-number zero (suc n) d e h = let z : _≡_ {A = ℕ} 0 1 = cc in absurd (omega arith)
+result-number (suc m) zero d e h = let z : _≡_ {A = ℕ} 0 1 = cc in absurd (omega arith)
+result-number (suc m) (suc n) d e h = cc
+
+pub result-drawing : (m n : ℕ) (d e : Drawing) → resultOf m d ≡ resultOf n e → m ≡ 0 → d ≡ e
+unfolding resultOf
+result-drawing zero zero d e h z = cc
+result-drawing zero (suc n) d e h z = let y : _≡_ {A = ℕ} 0 1 = cc in absurd (omega arith)
+result-drawing (suc m) n d e h z = absurd (omega arith)
 
 -- an image without a fault, as facts
 pub record Sound (s : List ℕ) : Type 0 where

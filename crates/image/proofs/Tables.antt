@@ -6,15 +6,16 @@ use Prim.Native.Nat.{ℕ, zero, suc, _+_, _*_, _-_, _≤_, _<_}
 use native.Mathlib.Nat.{suc-mul, add-mul, one-mul}
 use native.Mathlib.Numerals.{add-one}
 use native.Mathlib.Omega.{arith}
-use lib.ListN.{length, take, drop, getD, set, length-append, length-drop, length-map}
+use lib.ListN.{length, take, drop, getD, set, length-append, length-drop}
 use lib.Seq.{take-at, drop-at, getD-drop, length-take-le, take-suc, take-suc-set, take-all}
-use lib.Dec.{eqb, lit<}
-use Rattle.big_endian.specs.Fields.{field, part, over}
+use lib.Dec.{lit<}
+use Rattle.big_endian.specs.Fields.{part, over}
 use Rattle.big_endian.specs.Laws.{Bytes, part-join, over-nil, over-over, length-over}
-use Rattle.sketch.specs.Lists.{every, concatMap, guardNumber}
+use Rattle.sketch.specs.Lists.{every, concatMap}
 use Rattle.sketch.specs.Valid.{tableFault, listFault}
 use Rattle.sketch.specs.Facts.{Every}
 use Rattle.sketch.proofs.Bools.{and-both}
+use Rattle.sketch.proofs.Lists.{concat-map-append}
 use Rattle.image.specs.Stored.{Each}
 use Rattle.image.specs.Image.{rowsAt, rowId}
 
@@ -121,10 +122,6 @@ concat-map-back enc of form ok size back (r ∷ rows) w h =
     let k = and-both (form r && ok (of r)) _ h in
     let t = and-both (form r) _ (k .0) in
     rw (back r (w .0 .are-bytes) (w .0 .long) (t .0) (t .1), concat-map-back enc of form ok size back rows (w .1) (k .1))
-
-pub concat-map-append : {A B : Type 0} (f : A → List B) (l m : List A) → concatMap f (l ++ m) ≡ concatMap f l ++ concatMap f m
-concat-map-append f [] m = refl
-concat-map-append f (a ∷ l) m = rw (concat-map-append f l m, append-assoc)
 
 pub every-true : {A : Type 0} (f : A → Bool) (l : List A) → Every f l → every f l ≡ true
 every-true f [] w = refl

@@ -7,7 +7,7 @@ use native.Mathlib.Omega.{arith}
 use lib.ListN.{length, take, getD, set}
 use lib.Seq.{take-all}
 use lib.Dec.{ltb}
-use Rattle.sketch.specs.Valid.{tableFault, listFault}
+use Rattle.sketch.specs.Valid.{listFault}
 use Rattle.sketch.proofs.Walks.{Walk, walk-start, walk-four, walk-five, walk-on, walk-end, walkFault, idAndSound, table-result, list-result, Column, column-start, column-on}
 use Rattle.image.specs.Image.{rowId}
 use Rattle.image.specs.Contracts.{RowsTested, SortsFilled, rowSort}

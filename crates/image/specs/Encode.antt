@@ -3,12 +3,12 @@ use Prim.Native.Nat.{ℕ, _+_, _*_, _-_}
 use mathlib.Core.Path.{_≡_}
 use mathlib.Core.Bool.{Bool, true, false}
 use mathlib.Core.List.{List, [], _∷_, _++_}
-use lib.ListN.{length, drop, take}
+use lib.ListN.{length}
 use lib.Dec.{leb, eqb}
 use lib.Ieee.{Float, toBits, binary64}
 use Rattle.big_endian.specs.Fields.{bytes, over}
 use Rattle.sketch.specs.Lists.{ite, guardNumber, concatMap}
-use Rattle.sketch.specs.Drawing.{Drawing, view, usesOf, idSize}
+use Rattle.sketch.specs.Drawing.{Drawing, view, idSize}
 use Rattle.sketch.specs.Valid.{sketchFault}
 use Rattle.sketch.specs.declared.Sketch.{Sketch}
 use Rattle.sketch.specs.declared.Point.{Point}

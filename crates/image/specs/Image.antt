@@ -1,11 +1,11 @@
 -- The image of a drawing: which bytes are refused, by which number, and which drawing the others give.
 use Prim.Native.Nat.{ℕ, zero, suc, _+_, _*_}
-use mathlib.Core.Bool.{Bool, true, false, _&&_}
+use mathlib.Core.Bool.{true, _&&_}
 use mathlib.Core.List.{List, [], _∷_, map}
 use lib.ListN.{length}
 use lib.Dec.{leb, eqb}
 use Rattle.big_endian.specs.Fields.{field, part}
-use Rattle.sketch.specs.Lists.{ite, guardNumber}
+use Rattle.sketch.specs.Lists.{guardNumber}
 use Rattle.sketch.specs.Drawing.{Drawing, limits, idSize}
 use Rattle.sketch.specs.Valid.{okPoint, okCurve, okRelation, soundCurve, soundRelation, hasPoint, sortIn, tableFault, listFault}
 use Rattle.image.specs.Records.{pointSize, curveSize, relationSize, pointForm, pointOf, curveForm, curveOf, relationForm, relationOf}

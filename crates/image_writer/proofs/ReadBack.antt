@@ -1,16 +1,16 @@
 -- A sketch written and read again: the two ways out. Assumes that the sketch is of the code's own type.
 use mathlib.Core.Path.{_≡_, refl, sym, ap, _∙_, subst}
 use mathlib.Core.Bool.{Bool, true, false}
-use mathlib.Core.List.{List, [], _∷_, _++_}
-use Prim.Native.Nat.{ℕ, zero, suc}
-use lib.ListN.{length, take, drop}
+use mathlib.Core.List.{List}
+use Prim.Native.Nat.{ℕ}
+use lib.ListN.{length, take}
 use lib.Dec.{leb, eqb}
 use lib.Seq.{take-at}
-use borrow.Author.Tests.{eqb-true, eq-eqb}
+use borrow.Author.Tests.{eqb-true}
 use Rattle.big_endian.specs.Fields.{over}
-use Rattle.sketch.specs.Lists.{ite, guardNumber}
+use Rattle.sketch.specs.Lists.{guardNumber}
 use Rattle.sketch.specs.Drawing.{view, limits}
-use Rattle.sketch.specs.Valid.{sketchFault, faultOf}
+use Rattle.sketch.specs.Valid.{sketchFault}
 use Rattle.sketch.specs.declared.Sketch.{Sketch}
 use Rattle.sketch.proofs.Facts.{valid-fault}
 use Rattle.sketch.proofs.Sketches.{sketch-valid}

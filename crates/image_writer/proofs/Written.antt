@@ -1,11 +1,11 @@
 -- What the writer needs of a sketch, and what it leaves in the buffer.
-use mathlib.Core.Path.{_≡_, refl, sym, ap, _∙_}
-use mathlib.Core.Bool.{Bool, true, false}
-use mathlib.Core.List.{List, [], _∷_, _++_, map, append-assoc}
-use Prim.Native.Nat.{ℕ, zero, suc, _+_, _*_, _≤_, _<_}
+use mathlib.Core.Path.{_≡_, sym, _∙_}
+use mathlib.Core.Bool.{true, false}
+use mathlib.Core.List.{List, _++_, map, append-assoc}
+use Prim.Native.Nat.{ℕ, _+_, _*_, _≤_, _<_}
 use native.Mathlib.Nat.{zero-add}
 use native.Mathlib.Omega.{arith}
-use lib.ListN.{length, take, length-append, length-map}
+use lib.ListN.{length, take, length-map}
 use lib.Seq.{length-take-le}
 use lib.Dec.{leb, eqb}
 use borrow.Author.Tests.{le-leb, lt-leb, ne-eqb, eq-eqb}
@@ -15,14 +15,13 @@ use Rattle.image.proofs.Tables.{every-true, sized-all, length-concat-map}
 use Rattle.image.proofs.Points.{length-point}
 use Rattle.image.proofs.Relations.{length-relation}
 use Rattle.image.proofs.Headers.{length-header}
-use Rattle.sketch.specs.Lists.{ite, every, guardNumber, concatMap}
-use Rattle.sketch.specs.Drawing.{view, limits}
+use Rattle.sketch.specs.Lists.{every, guardNumber, concatMap}
+use Rattle.sketch.specs.Drawing.{view}
 use Rattle.sketch.specs.Valid.{okPoint, okCurve, okRelation, sketchFault}
-use Rattle.sketch.specs.Facts.{Sized, Valid}
 use Rattle.sketch.specs.declared.Sketch.{Sketch}
 use Rattle.sketch.proofs.Sketches.{sketch-valid}
 use Rattle.image.specs.Image.{sizeOf, headerSize}
-use Rattle.image.specs.Encode.{encodePoint, encodeCurve, encodeRelation, header, encode, drawingSize, writeFault, ImageWritten}
+use Rattle.image.specs.Encode.{encodePoint, encodeCurve, encodeRelation, header, encode, drawingSize, ImageWritten}
 use Rattle.image.specs.Records.{curveSize, pointSize, relationSize}
 
 -- a sketch without a fault: its counts, and the values that become bits

@@ -1,12 +1,11 @@
 -- Where the endless line of a support meets the curves of a table, one law for each way out of the code. Assumes nothing.
 use mathlib.Core.Path.{_≡_, refl, sym, ap, _∙_, subst}
-use mathlib.Core.Bool.{Bool, true, false, not, _&&_}
+use mathlib.Core.Bool.{Bool, true, false}
 use mathlib.Core.List.{List, [], _∷_, _++_, map}
 use mathlib.Core.Option.{Option, some, none}
 use Prim.Native.Nat.{ℕ, zero, suc, _+_, _≤_, _<_}
 use native.Mathlib.Numerals.{add-one}
 use native.Mathlib.Omega.{arith}
-use lib.Dec.{eqb}
 use lib.ListN.{length, take, drop, getD, set, length-map, length-append, length-set}
 use lib.Seq.{take-suc}
 use lib.Ieee.{Float}
@@ -23,17 +22,15 @@ use Rattle.sketch.specs.declared.Curve.{Curve}
 use Rattle.sketch.specs.declared.CurveKind.{CurveKind}
 use Rattle.sketch.specs.declared.CurveKind.the-variants.{Line, Arc, Circle, Bezier, Conic}
 use Rattle.sketch.proofs.CurveKind as K
-use Rattle.sketch.specs.Lists.{ite}
 use Rattle.sketch.specs.Blanks.{noCurve}
 use Rattle.sketch.specs.Drawing.{usesOf}
 use Rattle.sketch_geometry.specs.Geometry.{positionOf, shapeOf}
-use Rattle.sketch_geometry.specs.Columns.{PointColumns}
 use Rattle.support.specs.declared.Hits.{Hits}
 use Rattle.support.specs.declared.Hits.the-variants.{Found, Refused}
 use Rattle.support.specs.declared.Piece.the-variants as P
-use Rattle.support.specs.Freeform.{bezier, conic}
+use Rattle.support.specs.Freeform.{bezier}
 use Rattle.support.specs.Hits as H
-use Rattle.support.specs.Hits.{shapeHits, freeformHits, endlessLine}
+use Rattle.support.specs.Hits.{freeformHits, endlessLine}
 use Rattle.support.specs.Pieces.{zipPoints, hitsOf, withRoom, answerOf, listOf, HitsWritten}
 use Rattle.support.proofs.Coordinates.{points-stored}
 use Rattle.edit_plan.specs.Tables.{others}
@@ -43,8 +40,8 @@ use Rattle.modify.specs.declared.Nearest.{Nearest}
 use Rattle.modify.specs.declared.SearchStep.{SearchStep}
 use Rattle.modify.specs.declared.SearchStep.the-variants as L
 use Rattle.modify.specs.declared.SearchResult.the-variants as R
-use Rattle.modify.specs.Extend.{Support, boundary, curveHits, Best, bestOf, Search, stopped, finished, continueWith, nearestHit}
-use Rattle.modify.specs.ExtendContracts.{support, ControlsAre, Fits, bestIn, resumed, searchIn}
+use Rattle.modify.specs.Extend.{Support, boundary, curveHits, Best, bestOf, stopped, finished, continueWith, nearestHit}
+use Rattle.modify.specs.ExtendContracts.{ControlsAre, Fits, bestIn, resumed}
 use Rattle.modify.proofs.Uses.{curves-end, others-past, others-on}
 
 -- ---- boundaries

@@ -1,20 +1,18 @@
--- What is chosen for a curve, one law for each way out of the code. Assumes nothing.
-use mathlib.Core.Path.{_≡_, refl, sym, ap, _∙_}
+-- The plan for a curve, one law for each way out of the code. Assumes nothing.
+use mathlib.Core.Path.{_≡_, sym, ap, _∙_}
 use mathlib.Core.Bool.{Bool, true, false, not, _&&_, _||_, cond}
 use mathlib.Core.List.{List}
-use mathlib.Core.Option.{Option, some, none}
+use mathlib.Core.Option.{some, none}
 use Prim.Native.Nat.{ℕ}
 use native.Mathlib.Omega.{arith}
 use Rattle.geom.specs.declared.Vec2.{Vec2}
 use Rattle.shape.specs.declared.Shape.{Shape}
 use Rattle.shape.specs.Measures.{circle, isFull, point}
-use Rattle.sketch.specs.declared.Point.{Point}
 use Rattle.sketch.specs.declared.Curve.{Curve}
 use Rattle.sketch.specs.declared.CurveKind.{CurveKind}
 use Rattle.sketch.specs.declared.CurveKind.the-variants.{Line, Arc, Circle, Bezier, Conic}
 use Rattle.sketch.specs.Drawing.{Drawing}
-use Rattle.message.specs.declared.Operation.{Operation}
-use Rattle.message.specs.declared.Operation.the-variants.{Trim, Split, Extend}
+use Rattle.message.specs.declared.Operation.the-variants.{Trim, Split}
 use Rattle.sketch_geometry.specs.Geometry.{positionOf, shapeOf}
 use Rattle.cuts.specs.declared.Cutter.{Cutter}
 use Rattle.cuts.specs.Cuts.{cutPoints}

@@ -15,7 +15,7 @@ use Rattle.sketch.specs.declared.Point.{Point}
 use Rattle.sketch.specs.declared.Curve.{Curve}
 use Rattle.sketch.specs.declared.CurveKind.{CurveKind}
 use Rattle.sketch.specs.declared.CurveKind.the-variants.{Line, Arc, Circle, Bezier, Conic}
-use Rattle.sketch.specs.Lists.{ite, every, keep, concatMap}
+use Rattle.sketch.specs.Lists.{ite, every}
 use Rattle.sketch.specs.Blanks.{noCurve}
 use Rattle.sketch.specs.Drawing.{Drawing, curveIn}
 use Rattle.sketch.specs.Valid.{sortOf}
@@ -27,7 +27,6 @@ use Rattle.modify.specs.Edits.{noFreeform}
 use Rattle.sketch_geometry.specs.declared.Outline.{Outline}
 use Rattle.sketch_geometry.specs.declared.Outline.the-variants.{Freeform, Analytic as Outlined}
 use Rattle.sketch_geometry.specs.Columns.{shapeOfOutline}
-use Rattle.modify.specs.declared.Cutters.{Cutters}
 use Rattle.modify.specs.Contracts.{CurveIndex, ColumnsOf, CuttersAre}
 
 -- ---- one by its id

@@ -1,4 +1,4 @@
--- What an extend chooses, one law for each way out of the code. Assumes nothing.
+-- The plan of an extend, one law for each way out of the code. Assumes nothing.
 use mathlib.Core.Path.{_≡_, refl, sym, ap, _∙_, subst}
 use mathlib.Core.Bool.{Bool, true, false, not, _||_, cond}
 use mathlib.Core.List.{List, [], _∷_}
@@ -110,21 +110,21 @@ module _ (d : Drawing) (id : ℕ) (p : Vec2) (s : Support) (end : ℕ) {used : B
   abbrev line : Shape
   line = S.Line (s .a) (s .b)
 
-  abbrev chosen : PlanResult
-  chosen = planMove d (s .atB) (nearestHit (d .points) s (point line (param line p)) (others id (d .curves)) none 1000000)
+  abbrev planned : PlanResult
+  planned = planMove d (s .atB) (nearestHit (d .points) s (point line (param line p)) (others id (d .curves)) none 1000000)
 
   pub end-used : used ≡ true → Refused 14 ≡ extendEnd d id p s end
   unfolding extendEnd guardPlan
-  end-used h = sym (ap (λ b. guardPlan (not (b || isFixed (d .points) end)) 14 chosen) (sym u ∙ h))
+  end-used h = sym (ap (λ b. guardPlan (not (b || isFixed (d .points) end)) 14 planned) (sym u ∙ h))
 
   module _ (h : used ≡ false) {fixed : Bool} (f : isFixed (d .points) end ≡ fixed) where
-    free : extendEnd d id p s end ≡ guardPlan (not fixed) 14 chosen
+    free : extendEnd d id p s end ≡ guardPlan (not fixed) 14 planned
     unfolding extendEnd
-    free = ap (λ b. guardPlan (not (b || isFixed (d .points) end)) 14 chosen) (sym u ∙ h) ∙ ap (λ b. guardPlan (not b) 14 chosen) f
+    free = ap (λ b. guardPlan (not (b || isFixed (d .points) end)) 14 planned) (sym u ∙ h) ∙ ap (λ b. guardPlan (not b) 14 planned) f
 
     pub end-stuck : fixed ≡ true → Refused 14 ≡ extendEnd d id p s end
     unfolding guardPlan
-    end-stuck g = sym (free ∙ ap (λ b. guardPlan (not b) 14 chosen) g)
+    end-stuck g = sym (free ∙ ap (λ b. guardPlan (not b) 14 planned) g)
 
     module _ (g : fixed ≡ false) {sh : Shape} {t : Float} {foot : Vec2} (l : sh ≡ line) (m : t ≡ param sh p) (n : foot ≡ point sh t) where
       pub end-by-nearest-hit : {x : Search} → x ≡ nearestHit (d .points) s foot (others id (d .curves)) none 1000000 → {r : PlanResult} → r ≡ planMove d (s .atB) x → r ≡ extendEnd d id p s end
@@ -132,13 +132,13 @@ module _ (d : Drawing) (id : ℕ) (p : Vec2) (s : Support) (end : ℕ) {used : B
       end-by-nearest-hit {x} e k =
           let z : foot ≡ point line (param line p) = n ∙ ap (point sh) m ∙ ap (λ (y : Shape). point y (param y p)) l in
           k ∙ ap (planMove d (s .atB)) (e ∙ ap (λ (q : Vec2). nearestHit (d .points) s q (others id (d .curves)) none 1000000) z)
-          ∙ sym (free ∙ ap (λ b. guardPlan (not b) 14 chosen) g)
+          ∙ sym (free ∙ ap (λ b. guardPlan (not b) 14 planned) g)
 
 pub held-stands : (s : Sketch) (atB : Bool) (k end : ℕ) (r : EndPlan) → MovesAt atB k r → k < s .npoints → getD (s .points) k noPoint .id ≡ end → EndsAt s atB end r
 held-stands s atB k end (N.Refused n) h q e = tt
 held-stands s atB k end (N.Move atB′ k′ v w) h q e = (h .0, subst (λ (x : ℕ). x < s .npoints) (sym (h .1)) q, ap (λ (x : ℕ). getD (s .points) x noPoint .id) (h .1) ∙ e)
 
--- what was reached, as a choice
+-- what was reached, as a plan
 module _ (d : Drawing) (atB : Bool) (x : SearchResult) where
   pub reached-stop : {n : ℕ} → x ≡ R.Stopped n → Refused n ≡ planMove d atB (searchIn x)
   unfolding planMove

@@ -1,7 +1,7 @@
 -- An accepted extend moves one point and adds one relation; all else stays. Assumes nothing.
 use mathlib.Core.Path.{_≡_, refl, sym, ap, _∙_, subst}
 use mathlib.Core.Bool.{Bool, true, false, not, _||_, cond}
-use mathlib.Core.List.{List, [], _∷_, _++_, map}
+use mathlib.Core.List.{[], _∷_, _++_, map}
 use mathlib.Core.Option.{Option, some, none}
 use Prim.Native.Nat.{ℕ}
 use native.Mathlib.Omega.{arith}
@@ -30,14 +30,14 @@ use Rattle.edit_plan.specs.declared.Pin.the-variants.{On, At}
 use Rattle.edit_plan.specs.declared.Plan.{Plan}
 use Rattle.edit_plan.specs.declared.Plan.the-variants as P
 use Rattle.edit_plan.specs.declared.Removed.{Removed}
-use Rattle.edit_plan.specs.Outcome.{Outcome, refused, accepted, _then_, guard}
+use Rattle.edit_plan.specs.Outcome.{accepted, _then_, guard}
 use Rattle.edit_plan.specs.Tables.{okPosition, addRelation, withRelation, moved, movePoint, uses, others}
 use Rattle.edit_plan.specs.Steps.{endsOf, endsAt, pin, nothing}
-use Rattle.edit_plan.specs.ApplyPlan.{checkMet, moveEnd, applyPlanTo, applyPlanAt, applyPlan}
+use Rattle.edit_plan.specs.ApplyPlan.{checkMet, moveEnd, applyPlanTo, applyPlanAt}
 use Rattle.edit_plan.specs.Suited.{PinHolds}
 use Rattle.modify.specs.declared.PlanResult.{PlanResult}
 use Rattle.modify.specs.declared.PlanResult.the-variants.{Refused, Accepted}
-use Rattle.modify.specs.Planning.{guardPlan, pinTo}
+use Rattle.modify.specs.Planning.{pinTo}
 use Rattle.modify.specs.Edits.{planOnCurve, planOnFound, planEdit, applyPlanned, editOf}
 use Rattle.modify.specs.Extend.{Support, Search, stopped, finished, nearestHit, planMove, isFixed, extendEnd, extendCurve}
 use Rattle.modify.proofs.Suits.{guard-plan-accepted}
@@ -53,7 +53,7 @@ pub record Extended (d d′ : Drawing) (r : Removed) : Type 0 where
   pub next : d′ .next ≡ d .next
   pub report-is : r ≡ nothing
 
--- ---- what is chosen
+-- ---- the plan
 
 -- a move of that end
 record Goes (atB : Bool) (plan : Plan) : Type 0 where

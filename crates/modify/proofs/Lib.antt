@@ -2,6 +2,7 @@
 pub mod Others
 pub mod Suits
 pub mod Moves
+pub mod Untested
 pub mod Planned
 pub mod TrimSplitPlans
 pub mod CurvePlans

@@ -1,5 +1,5 @@
--- Whatever an extend chooses moves a line's end, and is held by another curve. Assumes nothing.
-use mathlib.Core.Path.{_≡_, refl, sym, ap, _∙_, subst}
+-- The plan of any extend moves a line's end, and pins it to another curve. Assumes nothing.
+use mathlib.Core.Path.{_≡_, refl, sym}
 use mathlib.Core.Bool.{Bool, true, false, not, _&&_, _||_, cond}
 use mathlib.Core.List.{List, [], _∷_}
 use mathlib.Core.Option.{Option, some, none}
@@ -29,9 +29,8 @@ use Rattle.edit_plan.specs.declared.Plan.the-variants as P
 use Rattle.edit_plan.specs.Tables.{uses, others}
 use Rattle.edit_plan.specs.Steps.{isLine, endsAt}
 use Rattle.edit_plan.specs.Suited.{PinHolds}
-use Rattle.modify.specs.declared.PlanResult.{PlanResult}
-use Rattle.modify.specs.declared.PlanResult.the-variants.{Refused, Accepted}
-use Rattle.modify.specs.Planning.{guardPlan, pinTo}
+use Rattle.modify.specs.declared.PlanResult.the-variants.{Accepted}
+use Rattle.modify.specs.Planning.{pinTo}
 use Rattle.modify.specs.Extend.{Support, gapOf, curveHits, Best, better, bestOf, Search, stopped, finished, continueWith, nearestHit, planMove, isFixed, extendEnd, extendCurve}
 use Rattle.modify.proofs.Others.{isOther, others-are, pin-held}
 use Rattle.modify.proofs.Suits.{guard-plan-accepted}
@@ -79,7 +78,7 @@ module _ (f : ℕ → Bool) where
       go ih (H.found qs b) = ih qs b
       go ih (H.refused n b) = tt
 
--- ---- the choice
+-- ---- the plan
 
 -- a move of an end of the curve t, held by another curve
 pub record Moves (d : Drawing) (t : ℕ) (plan : Plan) : Type 0 where

@@ -1,38 +1,36 @@
 -- Whatever cuts a curve is another curve of the drawing, and what it is held by another's. Assumes nothing.
 use mathlib.Core.Path.{_≡_, refl, sym, ap, _∙_}
-use mathlib.Core.Bool.{Bool, true, false, not, _&&_, _||_, cond}
+use mathlib.Core.Bool.{Bool, true, false, not, _&&_, cond}
 use mathlib.Core.List.{List, [], _∷_, _++_}
 use mathlib.Core.Option.{Option, some, none}
-use Prim.Native.Nat.{ℕ, zero, suc}
+use Prim.Native.Nat.{ℕ}
 use native.Mathlib.Omega.{arith}
 use lib.Dec.{eqb}
 use lib.Ieee.{Float, lt}
-use borrow.Author.Tests.{eq-eqb, ne-eqb, eqb-true, eqb-false, not-true}
+use borrow.Author.Tests.{eqb-false, not-true}
 use Rattle.float.specs.Order.{before}
 use Rattle.geom.specs.declared.Vec2.{Vec2}
 use Rattle.shape.specs.declared.Shape.{Shape}
 use Rattle.shape.specs.Measures.{isFull, param}
 use Rattle.sketch.specs.declared.Point.{Point}
 use Rattle.sketch.specs.declared.Curve.{Curve}
-use Rattle.sketch.specs.declared.CurveKind.{CurveKind}
-use Rattle.sketch.specs.declared.CurveKind.the-variants.{Line, Arc, Circle, Bezier, Conic}
-use Rattle.sketch.specs.Lists.{ite, keep, concatMap}
+use Rattle.sketch.specs.Lists.{ite, keep}
 use Rattle.sketch.specs.Lookup.{among}
 use Rattle.sketch.specs.Drawing.{Drawing, curveIds, curveIn, usesOf}
 use Rattle.sketch.specs.Facts.{Every}
-use Rattle.sketch.proofs.Bools.{never, and-left, and-right, both}
+use Rattle.sketch.proofs.Bools.{and-left, and-right, both}
 use Rattle.sketch_geometry.specs.Geometry.{shapeOf}
 use Rattle.cuts.specs.declared.Cutter.{Cutter}
 use Rattle.cuts.specs.declared.Cut.{Cut}
 use Rattle.cuts.specs.Lists.{firstOr, lastOr}
 use Rattle.cuts.specs.Cuts.{mkCut, cutsHere, cutStep, cutsOn, cutsBy, cutsAmong}
 use Rattle.cuts.specs.Bracket.{insertCut, sortCuts, inOrder, interior, lastOne, firstOne, beside, around, bracket}
-use Rattle.edit_plan.specs.declared.Pin.{Pin}
 use Rattle.edit_plan.specs.declared.Pin.the-variants.{On, At}
 use Rattle.edit_plan.specs.Tables.{uses, others}
 use Rattle.edit_plan.specs.Steps.{endsOf, endsAt}
 use Rattle.edit_plan.specs.Suited.{PinHolds}
-use Rattle.edit_plan.proofs.Every.{every-append, every-as, every-keep, or-left, or-right, among-left, among-right, among-same}
+use Rattle.chains.proofs.Pins.{ends-used}
+use Rattle.edit_plan.proofs.Every.{every-append, every-keep, or-right, among-left, among-right, among-same}
 use Rattle.edit_plan.proofs.Tables.{look-stays}
 use Rattle.modify.specs.Planning.{cutterOf, cuttersOf, cutsOf, nearEnd, pinTo}
 
@@ -185,18 +183,6 @@ uses-found (x ∷ cs) i c p e h = go (eqb i (x .id)) e (λ z. uses-found cs i c 
         among-left p (usesOf (x .kind) (x .slots)) (uses cs) (ap (λ (y : Curve). among p (usesOf (y .kind) (y .slots))) q ∙ h)
     go false e ih = among-right p (usesOf (x .kind) (x .slots)) (uses cs) (ih e)
 
--- the ends of a line or an arc are among the points that it uses
-ends-used : (k : CurveKind) (s : List ℕ) (e : ℕ × ℕ) → endsOf k ≡ some e → (among (e .0) (usesOf k s) ≡ true) × (among (e .1) (usesOf k s) ≡ true)
-unfolding endsOf usesOf
-ends-used (Line a b) s e h = let u : a ≡ e .0 = cc in let v : b ≡ e .1 = cc in (rw (eq-eqb (e .0) a (sym u)), or-right (eqb (e .1) a) _ (rw (eq-eqb (e .1) b (sym v))))
-ends-used (Arc c a b) s e h =
-    let u : a ≡ e .0 = cc in
-    let v : b ≡ e .1 = cc in
-    (or-right (eqb (e .0) c) _ (rw (eq-eqb (e .0) a (sym u))), or-right (eqb (e .1) c) _ (or-right (eqb (e .1) a) _ (rw (eq-eqb (e .1) b (sym v)))))
-ends-used (Circle c r) s e h = let z : _≡_ {A = ℕ} 0 1 = cc in absurd (omega arith)
-ends-used (Bezier n) s e h = let z : _≡_ {A = ℕ} 0 1 = cc in absurd (omega arith)
-ends-used (Conic a p b rho) s e h = let z : _≡_ {A = ℕ} 0 1 = cc in absurd (omega arith)
-
 module _ (d : Drawing) (t by : ℕ) (q : Vec2) (p : isOther t (d .curves) by ≡ true) where
   apart : by ≡ t → ⊥
   apart e = eqb-false t by (not-true (eqb t by) (and-left (not (eqb t by)) (among by (curveIds (d .curves))) p)) (sym e)
@@ -211,14 +197,14 @@ module _ (d : Drawing) (t by : ℕ) (q : Vec2) (p : isOther t (d .curves) by ≡
   unfolding pinTo endsAt
   pin-held = go (curveIn (d .curves) by) refl
     where
-      choose : (x : Curve) (e : ℕ × ℕ) → curveIn (d .curves) by ≡ some x → endsOf (x .kind) ≡ some e → (u v : Bool) → PinHolds d t (ite u (At (e .0)) (ite v (At (e .1)) (On by)))
-      choose x e h k true v = used x (e .0) h (ends-used (x .kind) (x .slots) e k .0)
-      choose x e h k false true = used x (e .1) h (ends-used (x .kind) (x .slots) e k .1)
-      choose x e h k false false = on-it
+      pin-holds : (x : Curve) (e : ℕ × ℕ) → curveIn (d .curves) by ≡ some x → endsOf (x .kind) ≡ some e → (u v : Bool) → PinHolds d t (ite u (At (e .0)) (ite v (At (e .1)) (On by)))
+      pin-holds x e h k true v = used x (e .0) h (ends-used (x .kind) (x .slots) e k .0)
+      pin-holds x e h k false true = used x (e .1) h (ends-used (x .kind) (x .slots) e k .1)
+      pin-holds x e h k false false = on-it
 
       ends : (x : Curve) → curveIn (d .curves) by ≡ some x → (o : Option (ℕ × ℕ)) → endsOf (x .kind) ≡ o → PinHolds d t (pinTo (d .points) q by o)
       ends x h none k = on-it
-      ends x h (some e) k = choose x e h k (nearEnd (d .points) q (e .0)) (nearEnd (d .points) q (e .1))
+      ends x h (some e) k = pin-holds x e h k (nearEnd (d .points) q (e .0)) (nearEnd (d .points) q (e .1))
 
       go : (o : Option Curve) → curveIn (d .curves) by ≡ o → PinHolds d t (pinTo (d .points) q by (endsAt o))
       go none h = on-it

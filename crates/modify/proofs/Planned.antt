@@ -1,6 +1,5 @@
 -- An accepted edit applied a plan whose pins are held; so it leaves a valid drawing, and has the shape that chains need.
-use mathlib.Core.Path.{_≡_, refl, sym, ap, _∙_, subst}
-use mathlib.Core.Bool.{Bool, true}
+use mathlib.Core.Path.{_≡_, refl, sym, subst}
 use mathlib.Core.Option.{Option, some, none}
 use Prim.Native.Nat.{ℕ}
 use native.Mathlib.Omega.{arith}
@@ -13,7 +12,7 @@ use Rattle.message.specs.declared.Operation.the-variants.{Trim, Split, Extend}
 use Rattle.relations.specs.Met.{allMet}
 use Rattle.edit_plan.specs.declared.Plan.{Plan}
 use Rattle.edit_plan.specs.declared.Removed.{Removed}
-use Rattle.edit_plan.specs.Outcome.{refused, accepted}
+use Rattle.edit_plan.specs.Outcome.{accepted}
 use Rattle.edit_plan.specs.Tables.{okPosition}
 use Rattle.edit_plan.specs.ApplyPlan.{applyPlan}
 use Rattle.edit_plan.specs.Suited.{Pinned}
@@ -22,7 +21,6 @@ use Rattle.chains.proofs.Edits.{plan-valid}
 use Rattle.modify.specs.declared.PlanResult.{PlanResult}
 use Rattle.modify.specs.declared.PlanResult.the-variants.{Refused, Accepted}
 use Rattle.modify.specs.Edits.{planOnCurve, planOnFound, planEdit, applyPlanned, editOf}
-use Rattle.modify.specs.Planning.{guardPlan}
 use Rattle.modify.proofs.Suits.{guard-plan-accepted, trim-curve-suited, split-curve-suited}
 use Rattle.modify.proofs.Moves.{extend-moves-end}
 

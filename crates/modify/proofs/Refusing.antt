@@ -1,5 +1,5 @@
 -- By which numbers an extend is refused before it moves anything. Assumes nothing.
-use mathlib.Core.Path.{_≡_, refl, sym, ap, _∙_, subst}
+use mathlib.Core.Path.{_≡_, sym, ap, _∙_, subst}
 use mathlib.Core.Bool.{Bool, true, false, not, _&&_, _||_, cond}
 use mathlib.Core.List.{List, [], _∷_, _++_}
 use mathlib.Core.Option.{Option, some, none}
@@ -23,8 +23,8 @@ use Rattle.sketch.specs.declared.CurveKind.the-variants.{Line, Arc, Circle, Bez
 use Rattle.sketch.specs.declared.Sketch.{Sketch}
 use Rattle.sketch.specs.Lists.{every, guardNumber}
 use Rattle.sketch.specs.Lookup.{among}
-use Rattle.sketch.specs.Drawing.{Drawing, view, limits, curveIn}
-use Rattle.sketch.specs.Valid.{tableFault, listFault, faultOf, sketchFault, relationsFault, curvesFault, pointsFault}
+use Rattle.sketch.specs.Drawing.{Drawing, view}
+use Rattle.sketch.specs.Valid.{tableFault, listFault, sketchFault}
 use Rattle.sketch_geometry.specs.Geometry.{positionOf}
 use Rattle.relations.specs.Met.{allMet}
 use Rattle.bernstein.specs.Roots as R
@@ -79,7 +79,7 @@ later-meets ps s foot o (Circle c r) budget = later-shape (s .a) (s .b) _ budget
 later-meets ps s foot o (Bezier n) budget = later-along (s .a) (s .b) (normalized (s .b -ᵥ s .a)) _ budget
 later-meets ps s foot o (Conic a m b rho) budget = later-along (s .a) (s .b) (normalized (s .b -ᵥ s .a)) _ budget
 
--- ---- the search over the curves, and the choice
+-- ---- the search over the curves, and the plan
 
 abbrev Stops : Search → Type 0
 Stops (stopped n) = 14 ≤ n

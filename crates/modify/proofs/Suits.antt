@@ -1,25 +1,23 @@
--- Whatever a trim or a split chooses suits its curve. Assumes nothing.
+-- The plan of any trim or split suits its curve. Assumes nothing.
 use mathlib.Core.Path.{_≡_, refl, sym, ap, _∙_, subst}
 use mathlib.Core.Bool.{Bool, true, false, not, _&&_, _||_, cond}
 use mathlib.Core.List.{List, [], _∷_, _++_}
 use mathlib.Core.Option.{Option, some, none}
-use Prim.Native.Nat.{ℕ, zero, suc}
+use Prim.Native.Nat.{ℕ, suc}
 use native.Mathlib.Omega.{arith}
 use lib.ListN.{length}
-use lib.Dec.{eqb}
 use lib.Ieee.{Float, lt}
 use borrow.Author.Tests.{ne-eqb, not-true}
 use Rattle.float.specs.Order.{before}
 use Rattle.geom.specs.declared.Vec2.{Vec2}
 use Rattle.shape.specs.declared.Shape.{Shape}
 use Rattle.shape.specs.declared.Shape.the-variants as S
-use Rattle.shape.specs.Measures.{arc, circle, isFull, point}
+use Rattle.shape.specs.Measures.{circle, isFull, point}
 use Rattle.shape.proofs.Opened.{opened}
-use Rattle.sketch.specs.declared.Point.{Point}
 use Rattle.sketch.specs.declared.Curve.{Curve}
 use Rattle.sketch.specs.declared.CurveKind.{CurveKind}
 use Rattle.sketch.specs.declared.CurveKind.the-variants.{Line, Arc, Circle, Bezier, Conic}
-use Rattle.sketch.specs.Lists.{ite, keep}
+use Rattle.sketch.specs.Lists.{keep}
 use Rattle.sketch.specs.Drawing.{Drawing}
 use Rattle.sketch.specs.Facts.{Every}
 use Rattle.sketch.proofs.Bools.{or-right-false}
@@ -33,11 +31,11 @@ use Rattle.edit_plan.specs.Suited.{suits, suitsOpen, suitsClosed, Pinned, Suite
 use Rattle.edit_plan.specs.Changes.{isCircle}
 use Rattle.modify.specs.declared.PlanResult.{PlanResult}
 use Rattle.modify.specs.declared.PlanResult.the-variants.{Refused, Accepted}
-use Rattle.modify.specs.Planning.{guardPlan, cutsOf, paramOfPick, pinnedPointOf, between, firstGoes, trimAt, trimPlan, splitFull, atEnd, splitPlan}
+use Rattle.modify.specs.Planning.{guardPlan, cutsOf, paramOfPick, firstGoes, trimAt, trimPlan, splitFull, atEnd, splitPlan}
 use Rattle.modify.specs.Edits.{isFullArc, noFreeform, trimCurve, splitCurve}
 use Rattle.modify.proofs.Others.{By, isOther, last-every, kept-are, bracket-by-others, pin-held}
 
--- what is chosen behind a test passed it
+-- a plan accepted behind a guard passed its test
 pub guard-plan-accepted : (b : Bool) (n : ℕ) (o : PlanResult) (plan : Plan) → guardPlan b n o ≡ Accepted plan → (b ≡ true) × (o ≡ Accepted plan)
 unfolding guardPlan
 guard-plan-accepted true n o plan h = (refl, h)

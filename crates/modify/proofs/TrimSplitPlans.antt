@@ -4,13 +4,12 @@ use mathlib.Core.Bool.{Bool, true, false, not, _&&_, _||_, cond}
 use mathlib.Core.List.{List, [], _∷_}
 use mathlib.Core.Option.{Option, some, none}
 use Prim.Native.Nat.{ℕ}
-use native.Mathlib.Omega.{arith}
 use lib.Dec.{eqb}
 use lib.ListN.{length}
 use lib.Ieee.{Float, lt, le}
 use types.Run.{OneOf, miss}
 use denote.Enum.Declared.{tagOf}
-use Rattle.float.specs.Numbers.{_⊕_, _⊖_, 1e-6, 1e-9}
+use Rattle.float.specs.Numbers.{_⊕_, _⊖_, 1e-9}
 use Rattle.float.specs.Thresholds.{leastOf, at-1e-6}
 use Rattle.float.proofs.Lengths.{exact-1e-6}
 use Rattle.geom.specs.Plane.{_-ᵥ_, dot}
@@ -24,7 +23,7 @@ use Rattle.sketch.specs.declared.Curve.{Curve}
 use Rattle.sketch.specs.declared.CurveKind.{CurveKind}
 use Rattle.sketch.specs.declared.CurveKind.the-variants.{Line, Arc, Circle, Bezier, Conic}
 use Rattle.sketch.proofs.CurveKind as K
-use Rattle.sketch.specs.Lists.{ite, keep}
+use Rattle.sketch.specs.Lists.{ite}
 use Rattle.sketch_geometry.specs.Geometry.{positionOf}
 use Rattle.cuts.specs.declared.Cut.{Cut}
 use Rattle.cuts.specs.declared.Neighbours.{Neighbours}
@@ -34,11 +33,9 @@ use Rattle.cuts.specs.Bracket.{neighbours}
 use Rattle.edit_plan.specs.declared.Pin.{Pin}
 use Rattle.edit_plan.specs.declared.Pin.the-variants.{On, At}
 use Rattle.edit_plan.specs.declared.Plan.the-variants as P
-use Rattle.modify.specs.declared.PlanResult.{PlanResult}
 use Rattle.modify.specs.declared.PlanResult.the-variants.{Refused, Accepted}
 use Rattle.modify.specs.Planning.{cuttersOf, paramOfPick, pinnedPointOf, trimAt, trimPlan, nearEnd, pinTo, between, firstGoes, splitFull, atEnd}
 use Rattle.edit_plan.specs.declared.PinnedPoint.{PinnedPoint}
-use Rattle.edit_plan.specs.declared.Plan.{Plan}
 use Rattle.edit_plan.specs.Tables.{others}
 use Rattle.edit_plan.specs.Steps.{endsOf, endsAt}
 use Rattle.edit_plan.specs.Changes.{isCircle}

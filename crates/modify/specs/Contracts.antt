@@ -8,12 +8,11 @@ use lib.ListN.{take, getD}
 use lib.Ieee.{Float}
 use Rattle.geom.specs.declared.Vec2.{Vec2}
 use Rattle.shape.specs.declared.Shape.{Shape}
-use Rattle.shape.specs.Measures.{point}
 use Rattle.sketch.specs.declared.Point.{Point}
 use Rattle.sketch.specs.declared.Curve.{Curve}
 use Rattle.sketch.specs.declared.Sketch.{Sketch}
 use Rattle.sketch.specs.Blanks.{noCurve}
-use Rattle.sketch.specs.Drawing.{Drawing, view, limits, curveIn}
+use Rattle.sketch.specs.Drawing.{Drawing, view, curveIn}
 use Rattle.sketch.specs.Valid.{sketchFault}
 use Rattle.message.specs.declared.Operation.{Operation}
 use Rattle.message.specs.declared.Operation.the-variants.{Trim, Split, Extend}
@@ -24,8 +23,7 @@ use Rattle.cuts.specs.declared.Cut.{Cut}
 use Rattle.edit_plan.specs.declared.Pin.{Pin}
 use Rattle.edit_plan.specs.declared.PinnedPoint.{PinnedPoint}
 use Rattle.edit_plan.specs.declared.Plan.{Plan}
-use Rattle.edit_plan.specs.declared.Removed.{Removed}
-use Rattle.edit_plan.specs.Outcome.{Outcome, refused}
+use Rattle.edit_plan.specs.Outcome.{refused}
 use Rattle.edit_plan.specs.Tables.{okPosition, others}
 use Rattle.edit_plan.specs.Steps.{endsAt}
 use Rattle.edit_plan.specs.Suited.{targetOf}
@@ -67,7 +65,7 @@ PinnedPointOf ids xs ys cs n sh k r = (d : Drawing) → ColumnsOf d ids xs ys cs
 abbrev pub TrimPlan : List ℕ → List Float → List Float → List Curve → ℕ → List Cutter → Shape → Vec2 → Plan → Type 0
 TrimPlan ids xs ys cs n os sh p r = (d : Drawing) (id : ℕ) → ColumnsOf d ids xs ys cs n → os ≡ cuttersOf (d .points) (others id (d .curves)) → r ≡ trimPlan d id sh p
 
--- what is chosen for the curve c, picked at p
+-- the plan of a trim, or of a split, of the curve c, picked at p
 abbrev pub Trims : List ℕ → List Float → List Float → List Curve → ℕ → Vec2 → Curve → PlanResult → Type 0
 Trims ids xs ys cs n p c r = (d : Drawing) → ColumnsOf d ids xs ys cs n → r ≡ trimCurve d p c (shapeOf (d .points) (c .kind))
 

@@ -1,25 +1,21 @@
 -- Trim, split and extend: refusals, in order, then the plan, and the plan applied. Definitions only.
 use Prim.Native.Nat.{ℕ}
 use mathlib.Core.Path.{_≡_}
-use mathlib.Core.Bool.{Bool, true, false, not, _&&_, _||_, cond}
-use mathlib.Core.List.{List, [], _∷_}
+use mathlib.Core.Bool.{Bool, true, not, _&&_, _||_}
 use mathlib.Core.Option.{Option, some, none}
 use lib.Dec.{eqb}
 use Rattle.geom.specs.declared.Vec2.{Vec2}
 use Rattle.shape.specs.declared.Shape.{Shape}
 use Rattle.shape.specs.Measures.{isFull}
 use Rattle.sketch.specs.declared.Curve.{Curve}
-use Rattle.sketch.specs.declared.CurveKind.{CurveKind}
-use Rattle.sketch.specs.declared.CurveKind.the-variants.{Line, Arc, Circle, Bezier, Conic}
 use Rattle.sketch.specs.declared.Sketch.{Sketch}
-use Rattle.sketch.specs.Lists.{ite, every}
+use Rattle.sketch.specs.Lists.{every}
 use Rattle.sketch.specs.Drawing.{Drawing, view, Limits, limits, curveIn}
 use Rattle.sketch.specs.Valid.{sortOf, sketchFault}
 use Rattle.message.specs.declared.Operation.{Operation}
 use Rattle.message.specs.declared.Operation.the-variants.{Trim, Split, Extend}
 use Rattle.sketch_geometry.specs.Geometry.{shapeOf}
 use Rattle.relations.specs.Met.{allMet, unmetAt}
-use Rattle.edit_plan.specs.declared.Plan.{Plan}
 use Rattle.edit_plan.specs.declared.Removed.{Removed}
 use Rattle.edit_plan.specs.declared.Edited.{Edited}
 use Rattle.edit_plan.specs.Outcome.{Outcome, refused, accepted, guard}
@@ -70,7 +66,7 @@ planOnFound op d p (some c) = planOnCurve op d p c
 abbrev pub planEdit : Operation → Drawing → ℕ → Vec2 → PlanResult
 planEdit op d t p = guardPlan (okPosition p) 9 (planOnFound op d p (curveIn (d .curves) t))
 
--- ---- an edit: choose, then apply
+-- ---- an edit: plan, then apply
 
 unfoldable pub applyPlanned : (Drawing → Bool) → Limits → Drawing → ℕ → PlanResult → Outcome Drawing Removed
 applyPlanned met m d t (Refused n) = refused n

@@ -3,7 +3,6 @@ use Prim.Native.Nat.{ℕ}
 use mathlib.Core.Bool.{Bool, true, false, not, _&&_, _||_, cond}
 use mathlib.Core.List.{List, [], _∷_, map}
 use mathlib.Core.Option.{Option, some, none}
-use lib.ListN.{take}
 use lib.Dec.{eqb}
 use lib.Ieee.{Float, lt, le, neg}
 use Rattle.float.specs.Numbers.{_⊖_, _⊗_, _⊘_, 1f, 1e-7, 1e-6}
@@ -20,7 +19,7 @@ use Rattle.sketch.specs.declared.CurveKind.the-variants.{Line, Arc, Circle, Bez
 use Rattle.sketch.specs.Lists.{ite}
 use Rattle.sketch.specs.Lookup.{among}
 use Rattle.sketch.specs.Drawing.{Drawing, curveIn, usesOf}
-use Rattle.sketch_geometry.specs.Geometry.{positionOf, shapeOf}
+use Rattle.sketch_geometry.specs.Geometry.{positionOf}
 use Rattle.relations.specs.Met.{allMet}
 use Rattle.support.specs.Freeform.{bezier, conic}
 use Rattle.support.specs.Hits as H
@@ -102,7 +101,7 @@ unfoldable pub nearestHit : List Point → Support → Vec2 → List Curve → O
 nearestHit ps s near [] best budget = finished best
 nearestHit ps s near (o ∷ os) best budget = continueWith (λ qs left. nearestHit ps s near os (bestOf s (o .id) best qs) left) (curveHits ps s near o (o .kind) budget)
 
--- ---- the choice
+-- ---- the plan
 
 -- 17 where two lie as near, 18 where there is none
 unfoldable pub planMove : Drawing → Bool → Search → PlanResult

@@ -2,7 +2,7 @@
 use Prim.Native.Nat.{ℕ, _≤_, _<_}
 use mathlib.Core.Path.{_≡_}
 use mathlib.Core.Bool.{Bool, true, false}
-use mathlib.Core.List.{List, [], _∷_, map}
+use mathlib.Core.List.{List, _∷_, map}
 use mathlib.Core.Option.{Option, some, none}
 use lib.Dec.{eqb}
 use lib.ListN.{length, take, getD}
@@ -29,8 +29,7 @@ use Rattle.edit_plan.specs.declared.Pin.{Pin}
 use Rattle.edit_plan.specs.declared.Pin.the-variants.{On, At}
 use Rattle.edit_plan.specs.declared.Plan.the-variants as P
 use Rattle.edit_plan.specs.declared.Edited.{Edited}
-use Rattle.edit_plan.specs.declared.Removed.{Removed}
-use Rattle.edit_plan.specs.Outcome.{Outcome, accepted, _then_, guard}
+use Rattle.edit_plan.specs.Outcome.{accepted, _then_, guard}
 use Rattle.edit_plan.specs.Tables.{okPosition, addRelation, movePoint, others}
 use Rattle.edit_plan.specs.Steps.{endsOf, pin, nothing}
 use Rattle.edit_plan.specs.Suited.{outcomeOf, targetOf}
@@ -91,7 +90,7 @@ abbrev pub FindsNearestHit : List ℕ → List Float → List Float → Vec2 →
 FindsNearestHit ids xs ys a b atB foot id cs r =
     (ps : List Point) → PointColumns ps ids xs ys → searchIn r ≡ nearestHit ps (support a b atB) foot (others id cs) none 1000000
 
--- ---- the choice
+-- ---- the plan
 
 abbrev pub planOf : EndPlan → PlanResult
 planOf (N.Refused n) = C.Refused n
@@ -112,7 +111,7 @@ EndsAt s atB end (N.Move atB′ k v w) = (atB′ ≡ atB) × (k < s .npoints) ×
 
 -- whichever sketch has these points and curves, if its columns are those and the end is one of its points
 pub record EndOf (s : Sketch) (id : ℕ) (p : Vec2) (l : Support) (end : ℕ) (r : EndPlan) : Type 0 where
-  pub choice : planOf r ≡ extendEnd (view s) id p l end
+  pub plan : planOf r ≡ extendEnd (view s) id p l end
   pub place : EndsAt s (l .atB) end r
 
 abbrev pub PlansEnd : List ℕ → List Float → List Float → List Point → List Curve → ℕ → ℕ → Vec2 → Support → ℕ → EndPlan → Type 0

@@ -1,4 +1,4 @@
-// The choice of a trim or a split, by geometry alone.
+// The plan of a trim or a split, by geometry alone.
 use crate::PlanResult;
 use crate::cutter_list::collect_cutters;
 use crate::pins::pin_at;
@@ -214,7 +214,7 @@ fn plan_from<'a>(
     trim_curve(c, curves, n, at, ids, near, xs, ys)
 }
 
-// What is chosen for the curve at a place, from columns of the points: of a split or (false) of a trim.
+// The plan for the curve at a place, from columns of the points: of a split or (false) of a trim.
 pub(crate) fn plan_on_curve<'a>(
     sk: Sketch,
     splits: bool,

@@ -1,6 +1,6 @@
 -- An edit of a replica: one law for each way out.
 use mathlib.Core.Path.{_≡_, refl, sym, ap, _∙_, subst}
-use mathlib.Core.Bool.{Bool, true, false, not, _&&_}
+use mathlib.Core.Bool.{Bool, true, false, not}
 use mathlib.Core.List.{List}
 use Prim.Native.Nat.{ℕ, _+_, _<_, _≤_, _/_, _%_}
 use native.Mathlib.Omega.{arith}
@@ -10,19 +10,17 @@ use lib.Ieee.{isNan}
 use borrow.Author.Tests.{le-leb, lt-leb}
 use Rattle.big_endian.specs.Fields.{over}
 use Rattle.sketch.specs.Lists.{ite, guardNumber}
-use Rattle.sketch.specs.Drawing.{Drawing, view, limits, curveIn}
+use Rattle.sketch.specs.Drawing.{Drawing, view, curveIn}
 use Rattle.sketch.specs.Valid.{okCoordinate, sketchFault}
+use Rattle.sketch.proofs.Bools.{and-both}
 use Rattle.sketch.proofs.Sketches.{sketch-valid}
 use Rattle.image.specs.Encode.{drawingSize}
 use Rattle.message.specs.Message.{encode, MessageWritten, messageSize}
-use Rattle.relations.specs.Met.{allMet}
 use Rattle.edit_plan.specs.declared.Removed.{Removed}
 use Rattle.edit_plan.specs.Outcome as O
 use Rattle.edit_plan.specs.Outcome.{guard}
 use Rattle.edit_plan.specs.Tables.{okPosition}
-use Rattle.modify.specs.declared.PlanResult.{PlanResult}
-use Rattle.modify.specs.Planning.{guardPlan}
-use Rattle.modify.specs.Edits.{planOnFound, applyPlanned, NoPlace}
+use Rattle.modify.specs.Edits.{planOnFound, NoPlace}
 use Rattle.agreement.specs.Machines as M
 use Rattle.agreement.specs.Machines.{State, callOutcome, withCount, stateAfter, maxEditNumber}
 use Rattle.replication.specs.declared.Replica.{Replica}
@@ -33,7 +31,7 @@ use Rattle.replication.specs.Protocol.{Edit, messageFor, protocol}
 use Rattle.replication.specs.Transitions as A
 use Rattle.replication.specs.Transitions.{stateOf, UnmetPlace, DeskPlace, DeskNoPlace, DeskNumbered, DeskEdits}
 use Rattle.replication.proofs.Decoding.{guard-accepted, literal}
-use Rattle.replication.proofs.Outcomes.{is-number}
+use Rattle.replication.proofs.Outcomes.{is-number, decided-place}
 use Rattle.mulkefi.specs.Outcomes.{CallOutcome, refused, updated, ifImageFits, deskOutcome}
 use Rattle.mulkefi.specs.Calls.{numberOf, bufferAfter, OutcomeSound, messageAfter, answerAfter, ResultWritten, deskEditOutcome, DeskEditWritten}
 use Rattle.mulkefi.proofs.Places.{unmet-whole, unmet-none}
@@ -56,16 +54,6 @@ counted-is n (O.accepted d r) t q h =
     let drawing : d ≡ t .drawing = ap (λ (x : State Drawing). x .drawing) u in
     let reply : r ≡ q = cc in
     (sym (ap (λ (x : State Drawing). x .count) u), λ i. O.accepted (drawing i) (reply i))
-
-decided-place : (b : Bool) (c : PlanResult) (d : Drawing) (t : ℕ) (d′ : Drawing) (r : Removed) → applyPlanned allMet limits d t (guardPlan b 9 c) ≡ O.accepted d′ r → b ≡ true
-unfolding applyPlanned guardPlan
-decided-place true c d t d′ r e = refl
-decided-place false c d t d′ r e = let z : _≡_ {A = ℕ} 0 1 = cc in absurd (omega arith)
-
-both-true : (a b : Bool) → (a && b) ≡ true → (a ≡ true) × (b ≡ true)
-both-true true true e = (refl, refl)
-both-true true false e = let z : _≡_ {A = ℕ} 0 1 = cc in absurd (omega arith)
-both-true false b e = let z : _≡_ {A = ℕ} 0 1 = cc in absurd (omega arith)
 
 -- ---- what an outcome leaves
 
@@ -130,7 +118,7 @@ module _ (s : Replica) (e : Edit) (b m a : List ℕ) where
       pub edit-numbers : T (not (isNan (e .at .x))) × T (not (isNan (e .at .y)))
       edit-numbers =
           let p = decided-place (okPosition (e .at)) (planOnFound (e .operation) (view (s .sketch)) (e .at) (curveIn (view (s .sketch) .curves) (e .curve))) (view (s .sketch)) (e .curve) _ _ (literal (view (s .sketch)) e _ _ (made-is .1)) in
-          let (p, q) = both-true (okCoordinate (e .at .x)) (okCoordinate (e .at .y)) p in
+          let (p, q) = and-both (okCoordinate (e .at .x)) (okCoordinate (e .at .y)) p in
           (is-number (e .at .x) p, is-number (e .at .y) q)
 
       module _ (b′ a′ : List ℕ) (n : ℕ) (w : ResultWritten (ifImageFits (length b) (stateOf (x .replica)) q) b b′ a a′ n) where

@@ -3,12 +3,12 @@
 use mathlib.Core.Path.{_≡_, refl, sym, ap, ap₂, _∙_, subst}
 use mathlib.Core.Bool.{Bool, true, false}
 use mathlib.Core.List.{List, [], _∷_, _++_}
-use Prim.Native.Nat.{ℕ, zero, suc, _+_, _/_, _%_, _≤_, _<_}
+use Prim.Native.Nat.{ℕ, zero, suc, _+_, _/_, _%_, _≤_}
 use native.Mathlib.Omega.{arith}
 use lib.ListN.{length, take, getD, length-take, length-map}
-use lib.Dec.{leb, ltb, eqb}
+use lib.Dec.{leb}
 use lib.Seq.{take-all, take-at}
-use borrow.Author.Tests.{le-leb, leb-true, leb-false, eq-eqb, ne-eqb, eqb-true, eqb-false}
+use borrow.Author.Tests.{le-leb, leb-true, leb-false, eq-eqb, ne-eqb}
 use Rattle.big_endian.specs.Fields.{over}
 use Rattle.big_endian.specs.Laws.{Bytes, length-over}
 use Rattle.sketch.specs.Lists.{ite}
@@ -31,14 +31,14 @@ use Rattle.edit_plan.specs.Outcome as O
 use Rattle.edit_plan.specs.Steps.{nothing}
 use Rattle.edit_plan.proofs.Tables.{Holds}
 use Rattle.agreement.specs.Machines as M
-use Rattle.agreement.specs.Machines.{State, initial, Call, callOutcome, stateAfter, DeskStep, DeskStepValid, DeskRun, messages, WallStep, WallStepValid, WallRun, wallTransition, Delivered}
+use Rattle.agreement.specs.Machines.{State, initial, Call, callOutcome, stateAfter, DeskStepValid, DeskRun, messages, WallStepValid, WallRun, wallTransition, Delivered}
 use Rattle.agreement.proofs.Reference.{Step, called}
 use Rattle.replication.specs.Protocol.{Edit, messageFor, protocol}
 use Rattle.replication.specs.Replication.{ReplicationCorrect}
 use Rattle.replication.proofs.Demand3.{replication-correct}
 use Rattle.replication.proofs.WallCases.{WallCase, is-refused, is-old, is-applied, wall-case, edit-keeps-valid}
 use Rattle.mulkefi.specs.Outcomes.{CallOutcome, refused, old, updated, ifImageFits, onImage, deskOutcome, deskOn, wallOutcome, wallOn}
-use Rattle.mulkefi.specs.Calls.{OutcomeSound, bufferAfter, messageAfter, answerFor, answerAfter, CallWritten, deskCallOutcome, DeskCallWritten, wallCallOutcome, WallCallWritten}
+use Rattle.mulkefi.specs.Calls.{OutcomeSound, messageAfter, answerFor, CallWritten, deskCallOutcome, DeskCallWritten, wallCallOutcome, WallCallWritten}
 use Rattle.mulkefi.specs.Hosts.{Memory, stateIn, StartsWith, memoryAfter, reportIn, DeskUse, editOfUse, afterDesk, deskReplyIn, deskStepIn, deskStepsIn, DeskUses, WallUse, afterWall, wallReplyIn, wallStepIn, wallStepsIn, WallUses}
 
 -- ---- an image's size, by its drawing

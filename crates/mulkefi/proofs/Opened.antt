@@ -1,14 +1,12 @@
 -- What was read from the buffer's front: the ways out that desk and wall share, and what a call on the replica means for the whole.
 use mathlib.Core.Path.{_≡_, refl, sym, ap, _∙_, subst}
-use mathlib.Core.Bool.{Bool, true, false}
+use mathlib.Core.Bool.{true, false}
 use mathlib.Core.List.{List}
-use Prim.Native.Nat.{ℕ, zero, suc, _≤_, _/_, _%_}
+use Prim.Native.Nat.{ℕ, _/_, _%_}
 use native.Mathlib.Omega.{arith}
 use lib.ListN.{length, take}
-use lib.Seq.{take-all}
 use lib.Dec.{leb}
 use lib.Ieee.{Float}
-use borrow.Author.Tests.{leb-false}
 use Rattle.sketch.specs.Lists.{ite}
 use Rattle.sketch.specs.Drawing.{Drawing, view}
 use Rattle.image.specs.declared.ImageRead.{ImageRead}
@@ -16,43 +14,16 @@ use Rattle.message.specs.declared.Operation.{Operation}
 use Rattle.image.specs.Image as I
 use Rattle.image.specs.Decode.{outcome, ReadAnswer}
 use Rattle.message.specs.Message.{operationOf, isOperation}
+use Rattle.image.proofs.RoundTrips.{result-refused, result-none}
 use Rattle.replication.specs.declared.Replica.{Replica}
 use Rattle.replication.specs.Protocol.{Edit}
 use Rattle.replication.specs.Transitions.{stateOf, UnmetPlace}
+use Rattle.replication.proofs.Program.{take-least}
 use Rattle.mulkefi.specs.Outcomes.{CallOutcome, refused, onImage, deskOn, wallOn}
 use Rattle.mulkefi.specs.Calls.{numberOf, bufferAfter, OutcomeSound, messageAfter, answerAfter, CallWritten, mkEdit, mkEditByNumber, deskCallOutcome, deskEditOutcome, DeskEditWritten, DeskCallWritten, wallCallOutcome, WallDeliveryWritten, WallCallWritten}
 use Rattle.mulkefi.proofs.Places.{unmet-none}
 
--- ---- the reader's answer
-
-result-number : (m n : ℕ) (d e : Drawing) → I.resultOf m d ≡ I.resultOf n e → m ≡ n
-unfolding I.resultOf
-result-number zero zero d e h = refl
-result-number zero (suc n) d e h = let z : _≡_ {A = ℕ} 0 1 = cc in absurd (omega arith)
-result-number (suc m) zero d e h = let z : _≡_ {A = ℕ} 0 1 = cc in absurd (omega arith)
-result-number (suc m) (suc n) d e h = cc
-
-pub read-number : (r : ImageRead) (s : List ℕ) → outcome r ≡ I.parse s → r .refusal ≡ I.imageFault s
-read-number r s e = result-number (r .refusal) (I.imageFault s) (view (r .sketch)) (I.drawingOf s) e
-
-result-refused : (n : ℕ) (d : Drawing) → (n ≡ 0 → ⊥) → I.resultOf n d ≡ I.refused n
-unfolding I.resultOf
-result-refused zero d h = absurd (h refl)
-result-refused (suc n) d h = refl
-
-result-accepted : (n : ℕ) (d : Drawing) → n ≡ 0 → I.resultOf n d ≡ I.accepted d
-unfolding I.resultOf
-result-accepted zero d h = refl
-result-accepted (suc n) d h = absurd (omega arith)
-
 -- ---- the image at the buffer's front
-
-take-least : (n : ℕ) (l : List ℕ) → take (ite (leb n (length l)) n (length l)) l ≡ take n l
-take-least n l = go (leb n (length l)) refl
-  where
-    go : (t : Bool) → leb n (length l) ≡ t → take (ite t n (length l)) l ≡ take n l
-    go true e = refl
-    go false e = let h : length l ≤ n = omega (arith, leb-false n (length l) e) in take-all (length l) l (omega arith) ∙ sym (take-all n l h)
 
 module _ (b : List ℕ) (len size : ℕ) (f : size ≡ ite (leb len (length b)) len (length b)) (i : ImageRead) (h : ReadAnswer (take size b) i) where
   parsed : I.parse (take len b) ≡ outcome i
@@ -98,7 +69,7 @@ module _ (b : List ℕ) (len size : ℕ) (f : size ≡ ite (leb len (length b)) 
     replica = record { sketch = i .sketch; count = count }
 
     read : I.parse (take len b) ≡ I.accepted (view (i .sketch))
-    read = parsed ∙ result-accepted (i .refusal) (view (i .sketch)) z
+    read = parsed ∙ result-none (i .refusal) (view (i .sketch)) z
 
     same : (d : Drawing) → I.parse (take len b) ≡ I.accepted d → view (i .sketch) ≡ d
     same d e = let w : _≡_ {A = I.ParseResult} (I.accepted (view (i .sketch))) (I.accepted d) = sym read ∙ e in cc

@@ -1,6 +1,5 @@
 -- The outcome of a call on lent memory: the image's refusal, then the desk's or the wall's own, then the room for the new image. Definitions only.
 use Prim.Native.Nat.{ℕ}
-use mathlib.Core.Bool.{Bool, _&&_}
 use mathlib.Core.List.{List}
 use lib.Dec.{leb}
 use Rattle.sketch.specs.Lists.{ite}

@@ -1,50 +1,29 @@
 -- The entry points' answers, one law for each way out.
-use mathlib.Core.Path.{_≡_, refl, sym, ap, _∙_}
-use mathlib.Core.Bool.{true, false}
+use mathlib.Core.Path.{_≡_, sym, ap, _∙_}
+use mathlib.Core.Bool.{false}
 use mathlib.Core.List.{List}
-use Prim.Native.Nat.{ℕ, zero, suc, _<_, _≤_}
-use native.Mathlib.Omega.{arith}
+use Prim.Native.Nat.{ℕ, _≤_}
 use lib.ListN.{length}
-use lib.Dec.{leb, eqb}
-use borrow.Author.Tests.{ne-eqb, eq-eqb, le-leb}
+use lib.Dec.{eqb}
+use borrow.Author.Tests.{ne-eqb, le-leb}
 use Rattle.big_endian.specs.Laws.{Bytes}
 use Rattle.sketch.specs.Lists.{guardNumber}
-use Rattle.sketch.specs.Drawing.{Drawing, view, limits}
-use Rattle.sketch.specs.Valid.{sketchFault, faultOf}
+use Rattle.sketch.specs.Drawing.{view}
+use Rattle.sketch.specs.Valid.{sketchFault}
 use Rattle.sketch.specs.declared.Sketch.{Sketch}
 use Rattle.image.specs.declared.ImageRead.{ImageRead}
-use Rattle.image.specs.Image.{imageFault, drawingOf, resultOf, parse, accepted}
-use Rattle.image.specs.Decode.{outcome, ReadAnswer}
+use Rattle.image.specs.Image.{imageFault, drawingOf, parse}
+use Rattle.image.specs.Decode.{ReadAnswer}
 use Rattle.image.specs.Encode.{encode, drawingSize, ImageWritten}
 use Rattle.image.proofs.RoundTrips.{image-kept, encode-back, size-back}
+use Rattle.image.proofs.Answers.{read-number, read-drawing}
 use Rattle.message.specs.declared.Message.{Message}
-use Rattle.message.specs.declared.MessageRead.the-variants.{Accepted, Refused}
+use Rattle.message.specs.declared.MessageRead.the-variants.{Accepted}
 use Rattle.message.specs.Message as M
 use Rattle.message.specs.Message.{messageFault, messageOf}
 use Rattle.message.proofs.MessageRoundTrips as T
 use Rattle.message.proofs.MessageRoundTrips.{result-accepted, message-kept}
 use Rattle.probe.specs.Probe.{Copied}
-
--- an answer's number is the parse result's
-result-number : (m n : ℕ) (d e : Drawing) → resultOf m d ≡ resultOf n e → m ≡ n
-unfolding resultOf
-result-number zero zero d e h = refl
-result-number zero (suc n) d e h = let z : _≡_ {A = ℕ} 0 1 = cc in absurd (omega arith)
-result-number (suc m) zero d e h = let z : _≡_ {A = ℕ} 0 1 = cc in absurd (omega arith)
-result-number (suc m) (suc n) d e h = cc
-
--- an accepted answer's drawing is the parse result's
-result-drawing : (m n : ℕ) (d e : Drawing) → resultOf m d ≡ resultOf n e → m ≡ 0 → d ≡ e
-unfolding resultOf
-result-drawing zero zero d e h z = cc
-result-drawing zero (suc n) d e h z = let y : _≡_ {A = ℕ} 0 1 = cc in absurd (omega arith)
-result-drawing (suc m) n d e h z = absurd (omega arith)
-
-pub read-number : (r : ImageRead) (s : List ℕ) → outcome r ≡ parse s → r .refusal ≡ imageFault s
-read-number r s e = result-number (r .refusal) (imageFault s) (view (r .sketch)) (drawingOf s) e
-
-pub read-drawing : (r : ImageRead) (s : List ℕ) → outcome r ≡ parse s → r .refusal ≡ 0 → view (r .sketch) ≡ drawingOf s
-read-drawing r s e z = result-drawing (r .refusal) (imageFault s) (view (r .sketch)) (drawingOf s) e z
 
 -- bytes that are refused are not copied
 pub not-copied : (fault : ℕ) (bytes before : List ℕ) (r : ℕ) → r ≡ fault → (r ≡ 0 → ⊥) → Copied fault bytes before before r

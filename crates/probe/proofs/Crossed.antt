@@ -1,5 +1,5 @@
 -- What is answered of two shapes, one law for each number of crossings.
-use mathlib.Core.Path.{_≡_, refl}
+use mathlib.Core.Path.{_≡_}
 use mathlib.Core.List.{List}
 use lib.Ieee.{Float}
 use Rattle.geom.specs.declared.Vec2.{Vec2}

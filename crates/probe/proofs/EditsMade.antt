@@ -24,7 +24,8 @@ use Rattle.edit_plan.specs.Outcome.{refused, accepted, guard}
 use Rattle.edit_plan.specs.Suited.{outcomeOf}
 use Rattle.modify.specs.Edits.{editOf, editUntested, EditAnswer}
 use Rattle.probe.specs.Edits.{editImage, numberOf, leftIn, Wrote, EditMade, editAdds, repeated}
-use Rattle.probe.proofs.Places.{place-low, untested-valid}
+use Rattle.modify.proofs.Untested.{untested-valid}
+use Rattle.probe.proofs.Places.{place-low}
 
 -- a place below 65536 fits above the number
 place-is : (p : ℕ) → p < 65536 → p % 65536 ≡ p

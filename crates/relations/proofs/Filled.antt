@@ -1,24 +1,21 @@
 -- The columns in which a sketch's tables are laid out: what a turn keeps, and what they hold in the end. Assumes nothing.
 use mathlib.Core.Path.{_≡_, refl, subst, sym, _∙_}
-use mathlib.Core.Bool.{Bool, true, false}
+use mathlib.Core.Bool.{Bool, true}
 use mathlib.Core.List.{List, [], _∷_}
 use Prim.Native.Nat.{ℕ, zero, suc, _+_, _≤_, _<_, min}
 use native.Mathlib.Omega.{arith}
 use lib.ListN.{length, take, getD, set, length-set, length-take}
-use lib.Seq.{getD-set-same, getD-set-other, getD-take}
-use lib.Dec.{eqb}
+use lib.Seq.{getD-take}
 use lib.Ieee.{Float, nan}
-use borrow.Author.Tests.{eqb-true, eqb-false}
 use types.Run.{OneOf, miss}
 use denote.Enum.Declared.{tagOf}
 use Rattle.float.specs.Numbers.{0f}
-use Rattle.geom.specs.Plane.{vec}
 use Rattle.sketch.specs.Lists.{every}
 use Rattle.sketch.specs.Lookup.{Found, among, Ascends}
 use Rattle.sketch.specs.Drawing.{view, limits, pointIds, curveIds, usesOf}
 use Rattle.sketch.specs.Valid.{distinct, soundCurve, hasPoint}
 use Rattle.sketch.specs.Facts.{Every, Valid}
-use Rattle.sketch.specs.Blanks.{noPoint, noCurve}
+use Rattle.sketch.specs.Blanks.{noCurve}
 use Rattle.sketch.specs.declared.Point.{Point}
 use Rattle.sketch.specs.declared.Curve.{Curve}
 use Rattle.sketch.specs.declared.CurveKind.{CurveKind}
@@ -29,9 +26,10 @@ use Rattle.sketch.proofs.Bools.{and-left, and-right, at-most-or-above, never}
 use Rattle.sketch.proofs.Facts.{rising-ascends}
 use Rattle.sketch.proofs.Walks.{column-on}
 use Rattle.sketch_geometry.specs.Columns.{PointColumns}
+use Rattle.sketch_geometry.proofs.Filled.{each-on}
 use Rattle.relations.specs.declared.CurveRow.{CurveRow}
 use Rattle.relations.specs.Columns.{CurveColumns, IdAt, RowOf}
-use Rattle.relations.specs.Filled.{partsOf, partsAt, EachOfFirst, CurvesFilled}
+use Rattle.relations.specs.Filled.{partsOf, partsAt, CurvesFilled}
 
 -- ---- a kind's parts
 
@@ -47,14 +45,6 @@ freeform-parts (Bezier n) h = refl
 freeform-parts (Conic a p b rho) h = refl
 
 -- ---- a turn
-
--- one entry more
-each-on : {A : Type 0} (P : ℕ → A → Type 0) (d : A) (column : List A) (i : ℕ) (v : A) → i < length column → P i v → EachOfFirst i d column P → EachOfFirst (i + 1) d (set column i v) P
-each-on P d column i v h e w k q = go (eqb k i) refl
-  where
-    go : (b : Bool) → eqb k i ≡ b → P k (getD (set column i v) k d)
-    go true u = let z : k ≡ i = eqb-true k i u in rw (z, getD-set-same column i v d h) e
-    go false u = let z = eqb-false k i u in rw (getD-set-other column i k v d z) (w k (omega arith))
 
 pub curves-begun : (curves : List Curve) (points ids kinds firsts seconds : List ℕ) (numbers : List Float)
     → CurvesFilled curves 0 points ids kinds firsts seconds numbers ids kinds firsts seconds numbers

@@ -1,30 +1,26 @@
 -- Points and curves found by way of columns are the ones that the columns hold. Assumes nothing.
-use mathlib.Core.Path.{_≡_, refl, sym, ap, _∙_}
+use mathlib.Core.Path.{_≡_, sym, ap, _∙_}
 use mathlib.Core.Bool.{false}
-use mathlib.Core.List.{List, [], _∷_, map}
+use mathlib.Core.List.{List}
 use mathlib.Core.Option.{some}
-use Prim.Native.Nat.{ℕ, zero, suc, _≤_, _<_}
+use Prim.Native.Nat.{ℕ, _≤_, _<_}
 use native.Mathlib.Omega.{arith}
 use lib.ListN.{length, getD, length-map, List·getD-eq-default}
-use lib.Dec.{eqb}
 use lib.Ieee.{Float, nan}
-use borrow.Author.Tests.{eq-eqb, ne-eqb}
-use Rattle.geom.specs.Plane.{vec}
 use Rattle.sketch.specs.Lookup.{among, Ascends, Found}
-use Rattle.sketch.specs.Drawing.{pointIds, curveIds, curveIn}
-use Rattle.sketch.specs.Blanks.{noPoint, noCurve}
+use Rattle.sketch.specs.Drawing.{curveIds, curveIn}
+use Rattle.sketch.specs.Blanks.{noCurve}
 use Rattle.sketch.specs.declared.Point.{Point}
 use Rattle.sketch.specs.declared.Curve.{Curve}
 use Rattle.sketch.specs.declared.CurveKind.{CurveKind}
 use Rattle.sketch.specs.declared.CurveKind.the-variants.{Line, Arc, Circle, Bezier, Conic}
-use Rattle.sketch.proofs.Bools.{or-left-false, or-right-false, at-most-or-above}
-use Rattle.sketch.proofs.Ascent.{above-at, above-ascends}
+use Rattle.sketch.proofs.Bools.{at-most-or-above}
 use Rattle.sketch.proofs.Facts.{getD-mapped, curve-at, curve-nowhere}
 use Rattle.relations.specs.declared.CurveData.{CurveData}
 use Rattle.sketch_geometry.specs.Geometry.{positionOf, shapeOf, shapeFrom, shapeIn}
 use Rattle.sketch_geometry.specs.Columns.{position, PointColumns}
 use Rattle.sketch_geometry.proofs.Found.{position-stands}
-use Rattle.relations.specs.Columns.{CurveColumns, IdAt, RowOf, wholeOf, whole}
+use Rattle.relations.specs.Columns.{CurveColumns, RowOf, wholeOf, whole}
 use Rattle.relations.proofs.CurveMeasures.{whole-line, whole-arc, whole-circle, whole-none}
 
 -- ---- a curve by its place

@@ -7,15 +7,14 @@ use mathlib.Core.Option.{Option, some, none}
 use lib.Dec.{eqb}
 use lib.ListN.{length, take, getD}
 use lib.Ieee.{Float, nan}
-use Rattle.geom.specs.Plane.{vec, distance}
-use Rattle.geom.specs.declared.Vec2.{Vec2}
+use Rattle.geom.specs.Plane.{distance}
 use Rattle.shape.specs.Measures.{circle}
 use Rattle.shape.specs.declared.Shape.{Shape}
 use Rattle.shape.specs.declared.Shape.the-variants as S
 use Rattle.sketch.specs.Lists.{ite}
 use Rattle.sketch.specs.Lookup.{Ascends}
-use Rattle.sketch.specs.Drawing.{pointIds, curveIds}
-use Rattle.sketch.specs.Blanks.{noPoint, noCurve}
+use Rattle.sketch.specs.Drawing.{curveIds}
+use Rattle.sketch.specs.Blanks.{noCurve}
 use Rattle.sketch.specs.declared.Point.{Point}
 use Rattle.sketch.specs.declared.Curve.{Curve}
 use Rattle.sketch.specs.declared.CurveKind.{CurveKind}

@@ -6,9 +6,8 @@ use lib.ListN.{length, take, getD}
 use lib.Ieee.{Float, nan}
 use Rattle.float.specs.Numbers.{0f}
 use Rattle.sketch.specs.Lookup.{Found}
-use Rattle.sketch.specs.Drawing.{pointIds, curveIds}
-use Rattle.sketch.specs.Blanks.{noPoint, noCurve}
-use Rattle.sketch.specs.declared.Point.{Point}
+use Rattle.sketch.specs.Drawing.{curveIds}
+use Rattle.sketch.specs.Blanks.{noCurve}
 use Rattle.sketch.specs.declared.Curve.{Curve}
 use Rattle.sketch.specs.declared.CurveKind.{CurveKind}
 use Rattle.sketch.specs.declared.CurveKind.the-variants.{Line, Arc, Circle, Bezier, Conic}

@@ -8,9 +8,10 @@ use borrow.Author.Tests.{eq-eqb, ne-eqb, eqb-false}
 use lib.Ieee.{Float, div, nan, inf, fin, ofBits, fits, isNan, nanBits, binary64}
 use lib.Ieee.Bits.{ofBits-fits, nanBits-is}
 use Rattle.sketch.specs.declared.Sketch.{Sketch}
-use Rattle.sketch.specs.Lists.{ite, guardNumber}
+use Rattle.sketch.specs.Lists.{guardNumber}
 use Rattle.sketch.specs.Drawing.{Drawing, view, limits, curveIn}
 use Rattle.sketch.specs.Valid.{okCoordinate, sketchFault}
+use Rattle.sketch.proofs.Bools.{and-both}
 use Rattle.image.proofs.Floats.{coordinate-rejects, number-float, nan-fails}
 use Rattle.sketch_geometry.proofs.Found.{no-number}
 use Rattle.relations.specs.Met.{allMet}
@@ -55,13 +56,8 @@ first-else s k {n} e h = sym (rw (eq-eqb (sketchFault s) 0 (sym e ∙ h)))
 
 -- ---- picks
 
-both-true : (a b : Bool) → (a && b) ≡ true → (a ≡ true) × (b ≡ true)
-both-true true true e = (refl, refl)
-both-true true false e = let z : _≡_ {A = ℕ} 0 1 = cc in absurd (omega arith)
-both-true false b e = let z : _≡_ {A = ℕ} 0 1 = cc in absurd (omega arith)
-
 -- what an edit accepts is in range
-decided-place : (b : Bool) (c : PlanResult) (d : Drawing) (t : ℕ) (d′ : Drawing) (r : Removed) → applyPlanned allMet limits d t (guardPlan b 9 c) ≡ accepted d′ r → b ≡ true
+pub decided-place : (b : Bool) (c : PlanResult) (d : Drawing) (t : ℕ) (d′ : Drawing) (r : Removed) → applyPlanned allMet limits d t (guardPlan b 9 c) ≡ accepted d′ r → b ≡ true
 unfolding applyPlanned guardPlan
 decided-place true c d t d′ r e = refl
 decided-place false c d t d′ r e = let z : _≡_ {A = ℕ} 0 1 = cc in absurd (omega arith)
@@ -87,7 +83,7 @@ pub both-numbers : (a b : ℕ) {p q t : Bool} → p ≡ not (nanBits binary64 a)
 both-numbers a b e f h = rw (← e, ← f) h
 
 pub may-float : (a b : ℕ) → (not (nanBits binary64 a) && not (nanBits binary64 b)) ≡ true → T (not (nanBits binary64 a)) × T (not (nanBits binary64 b))
-may-float a b h = let (p, q) = both-true (not (nanBits binary64 a)) (not (nanBits binary64 b)) h in (subst T (sym p) tt, subst T (sym q) tt)
+may-float a b h = let (p, q) = and-both (not (nanBits binary64 a)) (not (nanBits binary64 b)) h in (subst T (sym p) tt, subst T (sym q) tt)
 
 -- bits of a NaN are no pick (9)
 nan-place : (a b : ℕ) → (not (nanBits binary64 a) && not (nanBits binary64 b)) ≡ false → okPosition (record { x = ofBits binary64 a; y = ofBits binary64 b }) ≡ false
@@ -161,7 +157,7 @@ module _ (s : Sketch) (e : Edit) (r : Edited) (a : EditAnswer (e .operation) s (
   pub accepted-place : r .refusal ≡ 0 → (okCoordinate (e .at .x) ≡ true) × (okCoordinate (e .at .y) ≡ true)
   accepted-place z =
       let q = guard-accepted (eqb (sketchFault s) 0) (sketchFault s) (editOf (e .operation) limits (view s) (e .curve) (e .at)) _ _ (sym (a .outcome) ∙ out-accepted z) .1 in
-      both-true _ _ (decided-place (okPosition (e .at)) (planOnFound (e .operation) (view s) (e .at) (curveIn (view s .curves) (e .curve))) (view s) (e .curve) _ _ q)
+      and-both _ _ (decided-place (okPosition (e .at)) (planOnFound (e .operation) (view s) (e .at) (curveIn (view s .curves) (e .curve))) (view s) (e .curve) _ _ q)
 
   pub unmet : UnmetPlace e (view s) (r .refusal) (r .place)
   unmet = record { before = a .unmet-before; after = a .unmet-after }

@@ -19,6 +19,7 @@ use Rattle.image.specs.Encode.{encode, drawingSize, ImageWritten}
 use Rattle.image.specs.Image.{headerSize}
 use Rattle.message.specs.Message.{messageSize}
 use Rattle.image.specs.Records.{curveSize, pointSize, relationSize}
+use Rattle.image.proofs.RoundTrips.{result-refused, result-none}
 use Rattle.agreement.specs.Machines.{State, initial}
 use Rattle.replication.specs.declared.Replica.{Replica}
 use Rattle.replication.specs.declared.Started.{Started}
@@ -44,7 +45,7 @@ least-above a b {r} e p q = go (leb a b) e
     go true e = omega arith
     go false e = omega arith
 
-take-least : (n : ℕ) (l : List ℕ) → take (least n (length l)) l ≡ take n l
+pub take-least : (n : ℕ) (l : List ℕ) → take (least n (length l)) l ≡ take n l
 take-least n l = go (leb n (length l)) refl
   where
     go : (t : Bool) → leb n (length l) ≡ t → take (ite t n (length l)) l ≡ take n l
@@ -166,16 +167,6 @@ module _ (sk : Sketch) (v : sketchFault sk ≡ 0) (b now : List ℕ) (r : ℕ) (
       record { size = rw t (sym size); buffer = buffer-is; within = omega (arith, size, leb-true (drawingSize (view sk)) (length b) t) }
 
 -- ---- the whole
-
-result-refused : (n : ℕ) (d : Drawing) → (n ≡ 0 → ⊥) → I.resultOf n d ≡ I.refused n
-unfolding I.resultOf
-result-refused zero d h = absurd (h refl)
-result-refused (suc n) d h = refl
-
-pub result-none : (n : ℕ) (d : Drawing) → n ≡ 0 → I.resultOf n d ≡ I.accepted d
-unfolding I.resultOf
-result-none zero d h = refl
-result-none (suc n) d h = absurd (omega arith)
 
 pub end-is : (n : ℕ) {f k r : ℕ} → k ≡ f → r ≡ least (4 + k) n → r ≡ least (4 + f) n
 end-is n p q = q ∙ ap (λ (k : ℕ). least (4 + k) n) p

@@ -1,7 +1,7 @@
 -- The ways out of a run over both whole lists.
 use mathlib.Core.Path.{_≡_, refl, sym, ap, _∙_, subst}
 use mathlib.Core.Bool.{Bool, true, false, _&&_}
-use mathlib.Core.List.{List, [], _∷_}
+use mathlib.Core.List.{List}
 use Prim.Native.Nat.{ℕ, zero, suc, _+_, _*_, _-_, _/_, _≤_, _<_}
 use native.Mathlib.Omega.{arith}
 use lib.ListN.{length}
@@ -12,6 +12,7 @@ use Rattle.sketch.specs.Drawing.{Drawing, view}
 use Rattle.sketch.proofs.Sketches.{sketch-valid}
 use Rattle.image.specs.Image as I
 use Rattle.image.specs.Decode.{drawingIn}
+use Rattle.image.proofs.RoundTrips.{result-none, result-number}
 use Rattle.message.specs.Message.{messageSize}
 use Rattle.agreement.specs.Machines.{State, initial, messages, WallRun, wallAfter}
 use Rattle.replication.specs.declared.Replica.{Replica}
@@ -20,7 +21,6 @@ use Rattle.replication.specs.Protocol.{protocol}
 use Rattle.replication.specs.Transitions.{stateOf, Starts}
 use Rattle.replication.specs.RunBoth.{firstNonzero, callsIn, hasRoom, DeskRan, messagesInLog, WallRan, RunsBoth, callSize, maxRoom}
 use Rattle.replication.proofs.Demand3.{replication-correct}
-use Rattle.replication.proofs.Program.{result-none}
 use Rattle.replication.proofs.Runs.{deliver, log-holds, log-after}
 
 -- ---- room
@@ -40,13 +40,6 @@ room-is size room e = go (leb maxRoom room) refl (leb (size / callSize) ((room -
     go false p b q e = let z : _≡_ {A = ℕ} 0 1 = cc in absurd (omega arith)
 
 -- ---- the start
-
-result-number : (n m : ℕ) (d d′ : Drawing) → I.resultOf n d ≡ I.resultOf m d′ → n ≡ m
-unfolding I.resultOf
-result-number zero zero d d′ e = refl
-result-number zero (suc m) d d′ e = let z : _≡_ {A = ℕ} 0 1 = cc in absurd (omega arith)
-result-number (suc n) zero d d′ e = let z : _≡_ {A = ℕ} 0 1 = cc in absurd (omega arith)
-result-number (suc n) (suc m) d d′ e = cc
 
 or-first : (n m : ℕ) → (n ≡ 0 → ⊥) → firstNonzero n m ≡ n
 or-first zero m h = absurd (h refl)

@@ -14,6 +14,7 @@ use Rattle.big_endian.specs.Fields.{field, over}
 use Rattle.big_endian.specs.Laws.{length-over}
 use Rattle.sketch.specs.Lists.{ite, concatMap}
 use Rattle.sketch.specs.Drawing.{Drawing, view}
+use Rattle.sketch.proofs.Lists.{concat-map-append}
 use Rattle.sketch.specs.Valid.{sketchFault}
 use Rattle.message.specs.Message.{encode, messageSize}
 use Rattle.message.proofs.MessageRoundTrips.{length-message}
@@ -42,8 +43,7 @@ map-more f [] x = refl
 map-more f (u ∷ xs) x = ap (λ r. f u ∷ r) (map-more f xs x)
 
 concat-map-more : {A B : Type 0} (f : A → List B) (xs : List A) (x : A) → concatMap f (xs ++ (x ∷ [])) ≡ concatMap f xs ++ f x
-concat-map-more f [] x = append-nil (f x)
-concat-map-more f (u ∷ xs) x = ap (λ r. f u ++ r) (concat-map-more f xs x) ∙ sym (append-assoc (f u) (concatMap f xs) (f x))
+concat-map-more f xs x = concat-map-append f xs (x ∷ []) ∙ ap (λ r. concatMap f xs ++ r) (append-nil (f x))
 
 take-more : (xs : List ℕ) (j : ℕ) → j < length xs → take (suc j) xs ≡ take j xs ++ (getD xs j 0 ∷ [])
 take-more [] j h = absurd (omega arith)

@@ -15,7 +15,7 @@ use Rattle.message.specs.Message.{messageFault, messageOf, parse}
 use Rattle.message.proofs.MessageRoundTrips.{result-refused}
 use Rattle.edit_plan.specs.declared.Edited.{Edited}
 use Rattle.edit_plan.specs.declared.Removed.{Removed}
-use Rattle.edit_plan.specs.Outcome.{Outcome, refused}
+use Rattle.edit_plan.specs.Outcome.{Outcome}
 use Rattle.edit_plan.specs.Suited.{outcomeOf}
 use Rattle.modify.specs.Edits.{EditAnswer}
 use Rattle.agreement.specs.Machines as M

@@ -1,5 +1,5 @@
 -- Both whole lists in one run: edits to the desk, then the desk's messages to the wall, in any order. Definitions only.
-use Prim.Native.Nat.{ℕ, _+_, _*_, _-_, _/_, _≤_, _<_, zero, suc}
+use Prim.Native.Nat.{ℕ, _+_, _*_, _-_, _/_, _≤_, zero, suc}
 use mathlib.Core.Path.{_≡_}
 use mathlib.Core.Bool.{Bool, _&&_}
 use mathlib.Core.List.{List, [], _∷_, _++_, map}

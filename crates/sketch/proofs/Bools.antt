@@ -1,10 +1,10 @@
 -- Tests joined by `and` and `or`, and numbers compared.
 use mathlib.Core.Path.{_≡_, refl, sym}
-use mathlib.Core.Bool.{Bool, true, false, _&&_, _||_}
+use mathlib.Core.Bool.{Bool, true, false, not, _&&_, _||_}
 use Prim.Native.Nat.{ℕ, _≤_, _<_}
 use native.Mathlib.Omega.{arith}
-use lib.Dec.{leb}
-use borrow.Author.Tests.{leb-true, leb-false}
+use lib.Dec.{leb, ltb}
+use borrow.Author.Tests.{leb-true, leb-false, lt-ltb, le-ltb, le-leb, lt-leb}
 
 pub never : {A : Type 0} → false ≡ true → A
 never h = let z : _≡_ {A = ℕ} 0 1 = cc in absurd (omega arith)
@@ -47,6 +47,9 @@ at-most-or-above {A} m n f g = go (leb m n) refl
     go : (b : Bool) → leb m n ≡ b → A
     go true e = f (leb-true m n e)
     go false e = g (leb-false m n e)
+
+pub leb-ltb : (a x : ℕ) → leb a x ≡ not (ltb x a)
+leb-ltb a x = at-most-or-above a x (λ h. rw (le-leb a x h, le-ltb x a h)) (λ h. rw (lt-leb a x h, lt-ltb x a h))
 
 pub joined : {a b c d : Bool} → a ≡ c → b ≡ d → (a && b) ≡ (c && d)
 joined e f = cc

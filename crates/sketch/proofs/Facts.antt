@@ -1,6 +1,6 @@
 -- A drawing breaks no rule exactly where the facts of a valid one hold.
 use mathlib.Core.Path.{_≡_, refl, _∙_}
-use mathlib.Core.Bool.{Bool, true, false, _&&_}
+use mathlib.Core.Bool.{Bool, true, false, not, _&&_, _||_}
 use mathlib.Core.List.{List, [], _∷_, map}
 use mathlib.Core.Option.{some, none}
 use Prim.Native.Nat.{ℕ, zero, suc, _<_}
@@ -14,10 +14,10 @@ use Rattle.sketch.specs.declared.Relation.{Relation}
 use Rattle.sketch.specs.Lists.{guardNumber, ite}
 use Rattle.sketch.specs.Lookup.{among, Above, Ascends, sortAmong}
 use Rattle.sketch.specs.Drawing.{Drawing, Limits, curveIn, pointIds, curveIds}
-use Rattle.sketch.specs.Valid.{okPoint, okCurve, okRelation, sortOf, soundCurve, soundRelation, hasPoint, sortAt, sortIn, tableFault, listFault, curvesFault, relationsFault, faultOf}
+use Rattle.sketch.specs.Valid.{okPoint, okNumber, okCurve, okRelation, sortOf, isLineSort, soundCurve, soundRelation, hasPoint, sortAt, sortIn, tableFault, listFault, curvesFault, relationsFault, faultOf}
 use Rattle.sketch.specs.Columns.{sortsOf}
 use Rattle.sketch.specs.Facts.{Every, Rising, Valid}
-use Rattle.sketch.proofs.Bools.{never, and-left, and-right, both, all-three, three, or-left-false, or-right-false}
+use Rattle.sketch.proofs.Bools.{never, and-left, and-right, and-both, both, all-three, three, or-left-false, or-right-false}
 use Rattle.sketch.proofs.Ascent.{above-ascends, above-at}
 
 -- ---- rules
@@ -226,3 +226,9 @@ unfolding curveIn
 curve-nowhere i [] h = refl
 curve-nowhere i (c ∷ cs) h =
     rw (or-left-false (eqb i (c .id)) (among i (curveIds cs)) h) (curve-nowhere i cs (or-right-false (eqb i (c .id)) (among i (curveIds cs)) h))
+
+-- a curve that passes has a number in range
+pub ok-number : (c : Curve) → okCurve c ≡ true → okNumber (c .kind) ≡ true
+ok-number c e =
+    let line = not (c .infinite) || isLineSort (sortOf (c .kind)) in
+    and-both line (okNumber (c .kind)) (and-both (line && okNumber (c .kind)) _ e .0) .1

@@ -1,5 +1,6 @@
 -- The laws that the proofs of `sketch` share.
 pub mod Bools
+pub mod Lists
 pub mod Ascent
 pub mod Bisection
 pub mod Walks

@@ -6,7 +6,7 @@ use Prim.Native.Nat.{ℕ, _≤_, _<_}
 use native.Mathlib.Omega.{arith}
 use lib.ListN.{length, take, length-take, length-map}
 use lib.Dec.{leb, ltb}
-use borrow.Author.Tests.{leb-true, ltb-false, lt-ltb, le-ltb, le-leb, lt-leb}
+use borrow.Author.Tests.{leb-true, ltb-false, le-leb, lt-leb}
 use Rattle.sketch.specs.declared.Point.{Point}
 use Rattle.sketch.specs.declared.Curve.{Curve}
 use Rattle.sketch.specs.declared.Sketch.{Sketch}
@@ -16,13 +16,10 @@ use Rattle.sketch.specs.Drawing.{view, limits, pointIds, curveIds}
 use Rattle.sketch.specs.Valid.{okPoint, okCurve, soundCurve, hasPoint, pointsFault, curvesFault, relationsFault, sketchFault}
 use Rattle.sketch.specs.Facts.{Sized, Valid}
 use Rattle.sketch.specs.Columns.{sortsOf, shapesFault, PointsChecked, CurvesChecked, RelationsChecked}
-use Rattle.sketch.proofs.Bools.{all-three, or-left-false, or-right-false, at-most-or-above}
+use Rattle.sketch.proofs.Bools.{all-three, or-left-false, or-right-false, leb-ltb}
 use Rattle.sketch.proofs.Facts.{guard-number-none, none-guard-number, table-first, table-later, table-ascends, curves-by-column, relations-by-columns, fault-valid, valid-fault}
 
 -- ---- three counts against three limits
-
-leb-ltb : (a x : ℕ) → leb a x ≡ not (ltb x a)
-leb-ltb a x = at-most-or-above a x (λ h. rw (le-leb a x h, le-ltb x a h)) (λ h. rw (lt-leb a x h, lt-ltb x a h))
 
 module _ (a b c x y z : ℕ) where
   none-over : ltb x a || ltb y b || ltb z c ≡ false → (a ≤ x) × (b ≤ y) × (c ≤ z)

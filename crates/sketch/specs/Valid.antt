@@ -1,6 +1,6 @@
 -- Which drawings an image can give: the number of the first broken rule (3, 4 or 5, in an image's order), 0 where none is.
-use mathlib.Core.Bool.{Bool, true, false, not, _&&_, _||_}
-use mathlib.Core.List.{List, [], _∷_, map}
+use mathlib.Core.Bool.{Bool, true, not, _&&_, _||_}
+use mathlib.Core.List.{List, [], _∷_}
 use mathlib.Core.Option.{Option, some, none}
 use Prim.Native.Nat.{ℕ, suc}
 use lib.ListN.{length, drop}

@@ -1,8 +1,8 @@
 -- The columns in which a sketch's points are laid out: what a turn keeps, and what they hold in the end. Assumes nothing.
-use mathlib.Core.Path.{_≡_, refl, sym, ap, _∙_}
+use mathlib.Core.Path.{_≡_, refl}
 use mathlib.Core.Bool.{Bool, true, false}
-use mathlib.Core.List.{List, [], _∷_}
-use Prim.Native.Nat.{ℕ, zero, suc, _+_, _≤_, _<_, min}
+use mathlib.Core.List.{List}
+use Prim.Native.Nat.{ℕ, _+_, _≤_, _<_, min}
 use native.Mathlib.Omega.{arith}
 use lib.ListN.{length, take, getD, set, length-set, length-take}
 use lib.Seq.{getD-set-same, getD-set-other, getD-take}
@@ -14,13 +14,13 @@ use Rattle.sketch.specs.Lookup.{Ascends}
 use Rattle.sketch.specs.Drawing.{pointIds}
 use Rattle.sketch.specs.Blanks.{noPoint}
 use Rattle.sketch.specs.declared.Point.{Point}
-use Rattle.sketch.proofs.Walks.{Column, column-on}
+use Rattle.sketch.proofs.Walks.{column-on}
 use Rattle.sketch_geometry.specs.Columns.{position, PointColumns, PointsFilled}
 
 -- ---- a turn
 
 -- one entry more
-each-on : {A : Type 0} (P : ℕ → A → Type 0) (d : A) (column : List A) (i : ℕ) (v : A) → i < length column → P i v → ((k : ℕ) → k < i → P k (getD column k d)) → (k : ℕ) → k < i + 1 → P k (getD (set column i v) k d)
+pub each-on : {A : Type 0} (P : ℕ → A → Type 0) (d : A) (column : List A) (i : ℕ) (v : A) → i < length column → P i v → ((k : ℕ) → k < i → P k (getD column k d)) → (k : ℕ) → k < i + 1 → P k (getD (set column i v) k d)
 each-on P d column i v h e w k q = go (eqb k i) refl
   where
     go : (b : Bool) → eqb k i ≡ b → P k (getD (set column i v) k d)

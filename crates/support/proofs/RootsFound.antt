@@ -14,7 +14,7 @@ use Rattle.bernstein.specs.Roots.{rootsOf, searchOf, leftIn, Searched}
 use Rattle.bernstein.proofs.Levels.{room-enough}
 use Rattle.support.specs.declared.Hits.the-variants.{Refused}
 use Rattle.support.specs.Freeform.{Freeform}
-use Rattle.support.specs.Hits.{HitsResult, found, refused, resolved, resolvedAt}
+use Rattle.support.specs.Hits.{found, refused, resolved, resolvedAt}
 use Rattle.support.specs.Pieces.{HitsWritten}
 use Rattle.support.proofs.Answers.{met-refused}
 

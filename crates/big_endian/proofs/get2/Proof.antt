@@ -1,6 +1,6 @@
 use Rattle.big_endian.specs.Laws.{field-past, field-split}
 use lib.ListN.{length}
-use Prim.Native.Nat.{_≤_, _<_, _+_}
+use Prim.Native.Nat.{_≤_, _+_}
 use native.Mathlib.Omega.{arith}
 use borrow.Author.Needs.{needs}
 use Rattle.big_endian.proofs.get2.Statement.{statement}

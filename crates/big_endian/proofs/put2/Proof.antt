@@ -1,6 +1,4 @@
 use Rattle.big_endian.specs.Laws.{put-nothing, put-bytes}
-use lib.ListN.{length}
-use Prim.Native.Nat.{_≤_, _<_, _+_}
 use native.Mathlib.Omega.{arith}
 use borrow.Author.Needs.{needs}
 use Rattle.big_endian.proofs.put2.Statement.{statement}

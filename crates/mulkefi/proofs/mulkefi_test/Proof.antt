@@ -1,5 +1,5 @@
 -- `mulkefi::mulkefi_test` meets its contract.
-use Rattle.mulkefi.proofs.Opened.{read-number}
+use Rattle.image.proofs.Answers.{read-number}
 use borrow.Author.Needs.{needs}
 use Rattle.mulkefi.proofs.mulkefi_test.Statement.{statement}
 use Rattle.mulkefi.proofs.mulkefi_test.Tie as tie

@@ -1,6 +1,6 @@
-use Rattle.probe.proofs.Answers.{read-number, not-copied, image-copied, message-copied}
-use mathlib.Core.Path.{_≡_, refl, sym, ap, _∙_}
-use native.Mathlib.Omega.{arith}
+use Rattle.image.proofs.Answers.{read-number}
+use Rattle.probe.proofs.Answers.{not-copied, image-copied}
+use mathlib.Core.Path.{refl}
 use borrow.Author.Needs.{needs}
 use Rattle.probe.proofs.mulkefi_image_copy.Statement.{statement}
 use Rattle.probe.proofs.mulkefi_image_copy.Tie as tie

@@ -1,7 +1,6 @@
 use Rattle.message.proofs.MessageRoundTrips.{result-refused}
-use Rattle.probe.proofs.Answers.{read-number, not-copied, image-copied, message-copied}
-use mathlib.Core.Path.{_≡_, refl, sym, ap, _∙_}
-use native.Mathlib.Omega.{arith}
+use Rattle.probe.proofs.Answers.{not-copied, message-copied}
+use mathlib.Core.Path.{sym, _∙_}
 use borrow.Author.Needs.{needs}
 use Rattle.probe.proofs.mulkefi_message_copy.Statement.{statement}
 use Rattle.probe.proofs.mulkefi_message_copy.Tie as tie

@@ -1,7 +1,6 @@
-use Rattle.probe.proofs.Answers.{read-number, read-drawing, not-copied, image-copied, message-copied}
+use Rattle.image.proofs.Answers.{read-number, read-drawing}
 use Rattle.probe.specs.Probe.{unread, tested}
-use mathlib.Core.Path.{_≡_, refl, sym, ap, _∙_}
-use native.Mathlib.Omega.{arith}
+use mathlib.Core.Path.{sym, _∙_}
 use borrow.Author.Needs.{needs}
 use Rattle.probe.proofs.mulkefi_sketch_test.Statement.{statement}
 use Rattle.probe.proofs.mulkefi_sketch_test.Tie as tie

@@ -2,7 +2,6 @@ use Rattle.sketch_geometry.proofs.Found.{no-number}
 use lib.ListN.{List·getD-eq-default}
 use lib.Ieee.{nan}
 use mathlib.Core.Path.{sym, refl, _∙_}
-use native.Mathlib.Omega.{arith}
 use borrow.Author.Needs.{needs}
 use Rattle.sketch_geometry.proofs.number_at.Statement.{statement}
 use Rattle.sketch_geometry.proofs.number_at.Tie as tie

@@ -1,4 +1,3 @@
-use native.Mathlib.Omega.{arith}
 use borrow.Author.Needs.{needs}
 use Rattle.sketch_geometry.proofs.position_at.Statement.{statement}
 use Rattle.sketch_geometry.proofs.position_at.Tie as tie

@@ -1,6 +1,5 @@
 use Rattle.sketch_geometry.proofs.Found.{position-found}
 use mathlib.Core.Path.{_∙_}
-use native.Mathlib.Omega.{arith}
 use borrow.Author.Needs.{needs}
 use Rattle.sketch_geometry.proofs.position_of.Statement.{statement}
 use Rattle.sketch_geometry.proofs.position_of.Tie as tie

@@ -1,5 +1,4 @@
 use Rattle.sketch_geometry.proofs.Shapes.{of-line, of-arc, of-circle, of-freeform}
-use native.Mathlib.Omega.{arith}
 use borrow.Author.Needs.{needs}
 use Rattle.sketch_geometry.proofs.shape_of.Statement.{statement}
 use Rattle.sketch_geometry.proofs.shape_of.Tie as tie

@@ -1,6 +1,5 @@
 use Rattle.big_endian.specs.Laws.{field-split, field-one}
-use lib.ListN.{length}
-use Prim.Native.Nat.{_≤_, _<_, _+_}
+use Prim.Native.Nat.{_+_}
 use native.Mathlib.Omega.{arith}
 use borrow.Author.Needs.{needs}
 use Rattle.big_endian.proofs.load.load2.Statement.{statement}

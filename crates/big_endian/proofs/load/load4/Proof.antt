@@ -1,6 +1,4 @@
 use Rattle.big_endian.specs.Laws.{field-split}
-use lib.ListN.{length}
-use Prim.Native.Nat.{_≤_, _<_, _+_}
 use native.Mathlib.Omega.{arith}
 use borrow.Author.Needs.{needs}
 use Rattle.big_endian.proofs.load.load4.Statement.{statement}

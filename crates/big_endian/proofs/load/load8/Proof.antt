@@ -1,6 +1,5 @@
 use mathlib.Core.Path.{refl, _∙_}
 use Rattle.big_endian.specs.Laws.{field-flat}
-use native.Mathlib.Omega.{arith}
 use borrow.Author.Needs.{needs}
 use Rattle.big_endian.proofs.load.load8.Statement.{statement}
 use Rattle.big_endian.proofs.load.load8.Tie as tie

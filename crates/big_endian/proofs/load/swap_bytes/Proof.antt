@@ -1,5 +1,4 @@
 use Rattle.big_endian.specs.Laws.{turns}
-use native.Mathlib.Omega.{arith}
 use borrow.Author.Needs.{needs}
 use Rattle.big_endian.proofs.load.swap_bytes.Statement.{statement}
 use Rattle.big_endian.proofs.load.swap_bytes.Tie as tie

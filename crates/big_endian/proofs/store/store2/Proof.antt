@@ -1,7 +1,5 @@
 use lib.ListN.{length-set}
 use Rattle.big_endian.specs.Laws.{store-two}
-use lib.ListN.{length}
-use Prim.Native.Nat.{_≤_, _<_, _+_}
 use native.Mathlib.Omega.{arith}
 use borrow.Author.Needs.{needs}
 use Rattle.big_endian.proofs.store.store2.Statement.{statement}

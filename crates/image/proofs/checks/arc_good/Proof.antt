@@ -1,5 +1,4 @@
 use Rattle.image.proofs.RecordChecks.{good-arc}
-use native.Mathlib.Omega.{arith}
 use borrow.Author.Needs.{needs}
 use Rattle.image.proofs.checks.arc_good.Statement.{statement}
 use Rattle.image.proofs.checks.arc_good.Tie as tie

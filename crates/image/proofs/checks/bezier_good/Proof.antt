@@ -1,11 +1,10 @@
-use mathlib.Core.Path.{_≡_, refl, sym, ap, _∙_}
+use mathlib.Core.Path.{ap, _∙_}
 use Prim.Native.Nat.{ℕ, _+_}
 use lib.ListN.{drop}
 use lib.Dec.{eqb}
 use Rattle.sketch.specs.Lists.{every}
 use Rattle.image.specs.Records.{slotsOf}
 use Rattle.image.proofs.RecordChecks.{good-bezier}
-use native.Mathlib.Omega.{arith}
 use borrow.Author.Needs.{needs}
 use Rattle.image.proofs.checks.bezier_good.Statement.{statement}
 use Rattle.image.proofs.checks.bezier_good.Tie as tie

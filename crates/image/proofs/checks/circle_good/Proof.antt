@@ -1,5 +1,4 @@
 use Rattle.image.proofs.RecordChecks.{good-circle}
-use native.Mathlib.Omega.{arith}
 use borrow.Author.Needs.{needs}
 use Rattle.image.proofs.checks.circle_good.Statement.{statement}
 use Rattle.image.proofs.checks.circle_good.Tie as tie

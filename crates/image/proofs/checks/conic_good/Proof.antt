@@ -1,5 +1,4 @@
 use Rattle.image.proofs.RecordChecks.{good-conic}
-use native.Mathlib.Omega.{arith}
 use borrow.Author.Needs.{needs}
 use Rattle.image.proofs.checks.conic_good.Statement.{statement}
 use Rattle.image.proofs.checks.conic_good.Tie as tie

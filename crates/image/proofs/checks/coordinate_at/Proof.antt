@@ -5,7 +5,6 @@ use borrow.Author.Tests.{not-true, not-false}
 use Rattle.sketch.specs.Valid.{okCoordinate}
 use Rattle.image.proofs.Floats.{number-bits, coordinate-rejects}
 use Rattle.image.proofs.RecordChecks.{out-of-range}
-use native.Mathlib.Omega.{arith}
 use borrow.Author.Needs.{needs}
 use Rattle.image.proofs.checks.coordinate_at.Statement.{statement}
 use Rattle.image.proofs.checks.coordinate_at.Tie as tie

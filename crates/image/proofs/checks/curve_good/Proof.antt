@@ -1,5 +1,4 @@
 use Rattle.image.proofs.RecordChecks.{kind-is, unknown}
-use native.Mathlib.Omega.{arith}
 use borrow.Author.Needs.{needs}
 use Rattle.image.proofs.checks.curve_good.Statement.{statement}
 use Rattle.image.proofs.checks.curve_good.Tie as tie

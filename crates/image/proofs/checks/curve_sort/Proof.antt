@@ -1,5 +1,4 @@
 use Rattle.image.proofs.RecordChecks.{sort-line, sort-arc, sort-circle, sort-bezier, sort-conic}
-use native.Mathlib.Omega.{arith}
 use borrow.Author.Needs.{needs}
 use Rattle.image.proofs.checks.curve_sort.Statement.{statement}
 use Rattle.image.proofs.checks.curve_sort.Tie as tie

@@ -1,4 +1,4 @@
-use mathlib.Core.Path.{_≡_, refl, sym, ap, _∙_}
+use mathlib.Core.Path.{ap, _∙_}
 use mathlib.Core.Bool.{Bool}
 use mathlib.Core.List.{List}
 use Prim.Native.Nat.{ℕ, _+_}
@@ -9,7 +9,6 @@ use Rattle.sketch.specs.Lookup.{among}
 use Rattle.sketch.proofs.CurveCases.{sound-line, sound-arc, sound-circle, sound-bezier, sound-conic}
 use Rattle.image.specs.Records.{curveOf}
 use Rattle.image.proofs.RecordChecks.{spells-line, spells-arc, spells-circle, spells-bezier, spells-conic, bezier-slots}
-use native.Mathlib.Omega.{arith}
 use borrow.Author.Needs.{needs}
 use Rattle.image.proofs.checks.curve_sound.Statement.{statement}
 use Rattle.image.proofs.checks.curve_sound.Tie as tie

@@ -1,6 +1,4 @@
 use Rattle.image.proofs.Floats.{number-test}
-use borrow.Author.Needs.{needs}
-use native.Mathlib.Omega.{arith}
 use Rattle.image.proofs.checks.is_number.Statement.{statement}
 use Rattle.image.proofs.checks.is_number.Tie as tie
 use Rattle.image.proofs.checks.is_number.Reads as reads

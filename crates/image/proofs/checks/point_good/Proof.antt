@@ -1,4 +1,3 @@
-use native.Mathlib.Omega.{arith}
 use borrow.Author.Needs.{needs}
 use Rattle.image.proofs.checks.point_good.Statement.{statement}
 use Rattle.image.proofs.checks.point_good.Tie as tie

@@ -5,7 +5,6 @@ use borrow.Author.Tests.{not-true, not-false}
 use Rattle.sketch.specs.Valid.{okRadius}
 use Rattle.image.proofs.Floats.{number-bits, radius-rejects}
 use Rattle.image.proofs.RecordChecks.{out-of-range}
-use native.Mathlib.Omega.{arith}
 use borrow.Author.Needs.{needs}
 use Rattle.image.proofs.checks.radius_at.Statement.{statement}
 use Rattle.image.proofs.checks.radius_at.Tie as tie

@@ -1,5 +1,4 @@
 use Rattle.image.proofs.RelationChecks.{bare-1, bare-2, bare-3, bare-4, bare-7, measured-5, measured-6, measured-8, measured-9, relation-is, no-relation}
-use native.Mathlib.Omega.{arith}
 use borrow.Author.Needs.{needs}
 use Rattle.image.proofs.checks.relation_good.Statement.{statement}
 use Rattle.image.proofs.checks.relation_good.Tie as tie

@@ -5,7 +5,6 @@ use Rattle.sketch.specs.Lookup.{among, sortAmong}
 use Rattle.sketch.proofs.RelationCases.{sound-coincident, sound-on-curve, sound-collinear, sound-equal, sound-length, sound-distance, sound-midpoint, sound-arc-length, sound-arc-sweep}
 use Rattle.image.specs.Records.{relationOf}
 use Rattle.image.proofs.RelationChecks.{is-coincident, is-on-curve, is-collinear, is-equal, is-length, is-distance, is-midpoint, is-arc-length, is-arc-sweep}
-use native.Mathlib.Omega.{arith}
 use borrow.Author.Needs.{needs}
 use Rattle.image.proofs.checks.relation_sound.Statement.{statement}
 use Rattle.image.proofs.checks.relation_sound.Tie as tie

@@ -1,7 +1,7 @@
 use mathlib.Core.Path.{_≡_, refl, sym, ap, _∙_}
 use mathlib.Core.Bool.{Bool, true, false}
 use Prim.Native.Nat.{ℕ, _-_}
-use lib.ListN.{length, take, drop, getD, length-take}
+use lib.ListN.{take, drop, getD, length-take}
 use lib.Seq.{getD-take}
 use denote.Ref.{now}
 use borrow.Author.Tests.{not-true, not-false}

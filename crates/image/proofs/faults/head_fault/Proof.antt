@@ -1,7 +1,6 @@
 use Rattle.image.specs.Image.{headFault}
 use Rattle.sketch.specs.Lists.{guardNumber}
-use borrow.Author.Tests.{lt-leb, le-leb, lt-ltb, le-ltb, eq-eqb, ne-eqb}
-use native.Mathlib.Omega.{arith}
+use borrow.Author.Tests.{lt-leb, le-leb, eq-eqb, ne-eqb}
 use borrow.Author.Needs.{needs}
 use Rattle.image.proofs.faults.head_fault.Statement.{statement}
 use Rattle.image.proofs.faults.head_fault.Tie as tie

@@ -1,8 +1,8 @@
-use mathlib.Core.Path.{_≡_, refl, sym, ap, _∙_}
+use mathlib.Core.Path.{sym, _∙_}
 use Prim.Native.Nat.{_≤_}
 use lib.ListN.{length-take}
 use Rattle.image.proofs.Headers.{head-kept}
-use Rattle.image.proofs.Verdicts.{by-header, by-point, points-rise, points-listed, past-points}
+use Rattle.image.proofs.Answers.{by-header, by-point, points-rise, points-listed, past-points}
 use native.Mathlib.Omega.{arith}
 use borrow.Author.Needs.{needs}
 use Rattle.image.proofs.faults.image_fault.Statement.{statement}

@@ -1,8 +1,7 @@
-use mathlib.Core.Path.{_≡_, refl, sym, ap, _∙_}
 use Prim.Native.Nat.{_≤_}
 use lib.ListN.{length-take}
 use Rattle.image.proofs.Headers.{head-kept}
-use Rattle.image.proofs.Verdicts.{by-curve, curves-rise, past-curves}
+use Rattle.image.proofs.Answers.{by-curve, curves-rise, past-curves}
 use native.Mathlib.Omega.{arith}
 use borrow.Author.Needs.{needs}
 use Rattle.image.proofs.faults.shapes_fault.Statement.{statement}

@@ -1,7 +1,6 @@
-use mathlib.Core.Path.{_≡_, refl, sym, ap, _∙_}
+use mathlib.Core.Path.{refl, sym, _∙_}
 use Rattle.image.specs.declared.ImageRead.{ImageRead}
-use Rattle.image.proofs.Verdicts.{refused-by, accepted-as, drawing-refused, drawing-accepted}
-use native.Mathlib.Omega.{arith}
+use Rattle.image.proofs.Answers.{refused-by, accepted-as, drawing-refused, drawing-accepted}
 use borrow.Author.Needs.{needs}
 use Rattle.image.proofs.reader.read.Statement.{statement}
 use Rattle.image.proofs.reader.read.Tie as tie

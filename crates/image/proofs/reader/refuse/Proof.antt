@@ -1,6 +1,5 @@
 use mathlib.Core.Path.{refl}
 use Rattle.sketch.specs.Lists.{guardNumber}
-use native.Mathlib.Omega.{arith}
 use borrow.Author.Needs.{needs}
 use Rattle.image.proofs.reader.refuse.Statement.{statement}
 use Rattle.image.proofs.reader.refuse.Tie as tie

@@ -1,6 +1,5 @@
 use Rattle.image.proofs.Floats.{number-bits}
 use Rattle.image.proofs.Plain.{plain-number}
-use native.Mathlib.Omega.{arith}
 use borrow.Author.Needs.{needs}
 use Rattle.image.proofs.records.curve_at.Statement.{statement}
 use Rattle.image.proofs.records.curve_at.Tie as tie

@@ -1,6 +1,4 @@
-use borrow.Author.Tests.{lt-leb, le-leb, lt-ltb, le-ltb, eq-eqb, ne-eqb}
-use borrow.Author.Needs.{needs}
-use native.Mathlib.Omega.{arith}
+use borrow.Author.Tests.{eq-eqb, ne-eqb}
 use Rattle.image.proofs.records.kept_slots.Statement.{statement}
 use Rattle.image.proofs.records.kept_slots.Tie as tie
 use Rattle.image.proofs.records.kept_slots.Reads as reads

@@ -1,7 +1,6 @@
-use borrow.Author.Tests.{lt-leb, le-leb, lt-ltb, le-ltb, eq-eqb, ne-eqb}
-use Rattle.image.specs.Records.{usedSlots, kindOf, idsAt, relationBy, curveFields, relationFields}
-use mathlib.Core.Path.{_≡_, refl, sym, ap, _∙_}
-use native.Mathlib.Omega.{arith}
+use borrow.Author.Tests.{ne-eqb}
+use Rattle.image.specs.Records.{kindOf}
+use mathlib.Core.Path.{sym, ap}
 use borrow.Author.Needs.{needs}
 use Rattle.image.proofs.records.kind_of.Statement.{statement}
 use Rattle.image.proofs.records.kind_of.Tie as tie

@@ -1,6 +1,5 @@
 use Rattle.image.proofs.Floats.{number-bits}
-use Rattle.image.proofs.Plain.{plain-x, plain-y, plain-number, plain-value}
-use native.Mathlib.Omega.{arith}
+use Rattle.image.proofs.Plain.{plain-value}
 use borrow.Author.Needs.{needs}
 use Rattle.image.proofs.records.relation_at.Statement.{statement}
 use Rattle.image.proofs.records.relation_at.Tie as tie

@@ -1,8 +1,6 @@
-use borrow.Author.Tests.{lt-leb, le-leb, lt-ltb, le-ltb, eq-eqb, ne-eqb}
-use Rattle.image.specs.Records.{usedSlots, kindOf, idsAt, relationBy, curveFields, relationFields}
-use mathlib.Core.Path.{_≡_, refl, sym, ap, _∙_}
-use borrow.Author.Needs.{needs}
-use native.Mathlib.Omega.{arith}
+use borrow.Author.Tests.{ne-eqb}
+use Rattle.image.specs.Records.{relationBy}
+use mathlib.Core.Path.{sym, ap}
 use Rattle.image.proofs.records.relation_by.Statement.{statement}
 use Rattle.image.proofs.records.relation_by.Tie as tie
 use Rattle.image.proofs.records.relation_by.Reads as reads

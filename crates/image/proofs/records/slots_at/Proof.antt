@@ -1,5 +1,4 @@
-use Rattle.image.specs.Records.{usedSlots, kindOf, idsAt, relationBy, curveFields, relationFields}
-use native.Mathlib.Omega.{arith}
+use Rattle.image.specs.Records.{idsAt}
 use borrow.Author.Needs.{needs}
 use Rattle.image.proofs.records.slots_at.Statement.{statement}
 use Rattle.image.proofs.records.slots_at.Tie as tie

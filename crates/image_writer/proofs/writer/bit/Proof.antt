@@ -1,6 +1,5 @@
-use Rattle.image.specs.Encode.{bit, kindByte, degreeOf, numberBits, slotIds, flagByte, relationByte, firstId, secondId, valueBits}
-use mathlib.Core.Path.{_≡_, refl, sym, ap, _∙_}
-use borrow.Author.Needs.{needs}
+use Rattle.image.specs.Encode.{bit}
+use mathlib.Core.Path.{sym, ap}
 use native.Mathlib.Omega.{arith}
 use Rattle.image_writer.proofs.writer.bit.Statement.{statement}
 use Rattle.image_writer.proofs.writer.bit.Tie as tie

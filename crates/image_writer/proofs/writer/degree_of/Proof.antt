@@ -1,6 +1,5 @@
-use Rattle.image.specs.Encode.{bit, kindByte, degreeOf, numberBits, slotIds, flagByte, relationByte, firstId, secondId, valueBits}
-use mathlib.Core.Path.{_≡_, refl, sym, ap, _∙_}
-use native.Mathlib.Omega.{arith}
+use Rattle.image.specs.Encode.{degreeOf}
+use mathlib.Core.Path.{sym, ap}
 use borrow.Author.Needs.{needs}
 use Rattle.image_writer.proofs.writer.degree_of.Statement.{statement}
 use Rattle.image_writer.proofs.writer.degree_of.Tie as tie

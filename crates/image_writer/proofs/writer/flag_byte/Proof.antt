@@ -1,4 +1,4 @@
-use Rattle.image.specs.Encode.{bit, kindByte, degreeOf, numberBits, slotIds, flagByte, relationByte, firstId, secondId, valueBits}
+use Rattle.image.specs.Encode.{bit, flagByte}
 use native.Mathlib.Omega.{arith}
 use borrow.Author.Needs.{needs}
 use Rattle.image_writer.proofs.writer.flag_byte.Statement.{statement}

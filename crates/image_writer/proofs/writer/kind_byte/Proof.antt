@@ -1,6 +1,5 @@
-use Rattle.image.specs.Encode.{bit, kindByte, degreeOf, numberBits, slotIds, flagByte, relationByte, firstId, secondId, valueBits}
-use mathlib.Core.Path.{_≡_, refl, sym, ap, _∙_}
-use native.Mathlib.Omega.{arith}
+use Rattle.image.specs.Encode.{kindByte}
+use mathlib.Core.Path.{sym, ap}
 use borrow.Author.Needs.{needs}
 use Rattle.image_writer.proofs.writer.kind_byte.Statement.{statement}
 use Rattle.image_writer.proofs.writer.kind_byte.Tie as tie

@@ -1,8 +1,7 @@
-use Rattle.sketch.specs.Valid.{okCoordinate, okNumber, okRadius, okRho, okRelation, okMeasure}
-use Rattle.image.proofs.Floats.{number-float, coordinate-rejects, radius-rejects, rho-rejects, measure-rejects}
-use Rattle.image.specs.Encode.{bit, kindByte, degreeOf, numberBits, slotIds, flagByte, relationByte, firstId, secondId, valueBits}
-use mathlib.Core.Path.{_≡_, refl, sym, ap, _∙_}
-use native.Mathlib.Omega.{arith}
+use Rattle.sketch.specs.Valid.{okNumber, okRadius, okRho}
+use Rattle.image.proofs.Floats.{number-float, radius-rejects, rho-rejects}
+use Rattle.image.specs.Encode.{numberBits}
+use mathlib.Core.Path.{sym, ap, _∙_}
 use borrow.Author.Needs.{needs}
 use Rattle.image_writer.proofs.writer.number_bits.Statement.{statement}
 use Rattle.image_writer.proofs.writer.number_bits.Tie as tie

@@ -1,6 +1,5 @@
-use Rattle.image.specs.Encode.{bit, kindByte, degreeOf, numberBits, slotIds, flagByte, relationByte, firstId, secondId, valueBits}
-use mathlib.Core.Path.{_≡_, refl, sym, ap, _∙_}
-use native.Mathlib.Omega.{arith}
+use Rattle.image.specs.Encode.{relationByte}
+use mathlib.Core.Path.{sym, ap}
 use borrow.Author.Needs.{needs}
 use Rattle.image_writer.proofs.writer.relation_byte.Statement.{statement}
 use Rattle.image_writer.proofs.writer.relation_byte.Tie as tie

@@ -1,6 +1,6 @@
 use lib.ListN.{length-map}
 use Rattle.image_writer.proofs.Written.{ready, unfit, short, wrote}
-use mathlib.Core.Path.{_≡_, refl, sym, ap, _∙_, subst}
+use mathlib.Core.Path.{sym, _∙_}
 use native.Mathlib.Omega.{arith}
 use borrow.Author.Needs.{needs}
 use Rattle.image_writer.proofs.writer.write.Statement.{statement}

@@ -1,12 +1,12 @@
-use Rattle.image.proofs.Curves.{length-curve, length-slots, ok-number}
+use Rattle.image.proofs.Curves.{length-curve, length-slots}
+use Rattle.sketch.proofs.Facts.{ok-number}
 use Rattle.image.specs.Encode.{encodeCurve}
 use Rattle.image.specs.Records.{curveSize}
 use lib.ListN.{length, length-map}
 use Prim.Native.Nat.{_≤_, _+_}
 use Rattle.big_endian.specs.Laws.{run-starts, run-puts, run-over}
 use mathlib.Core.List.{append-assoc}
-use borrow.Author.Tests.{not-true, not-false}
-use mathlib.Core.Path.{_≡_, refl, sym, ap, _∙_, subst}
+use mathlib.Core.Path.{_≡_, sym, _∙_}
 use native.Mathlib.Omega.{arith}
 use borrow.Author.Needs.{needs}
 use Rattle.image_writer.proofs.writer.write_curve.Statement.{statement}

@@ -4,13 +4,11 @@ use Rattle.image.specs.Encode.{encodeCurve}
 use Rattle.image.specs.Records.{curveSize}
 use Rattle.sketch.specs.Valid.{okCurve}
 use Rattle.sketch.specs.declared.Curve.{Curve}
-use lib.Seq.{take-all}
-use lib.ListN.{length, take, drop, getD}
-use Prim.Native.Nat.{_≤_, _<_, _+_, _*_, _-_}
-use mathlib.Core.List.{List, _∷_, [], map, map-append}
-use Rattle.image.proofs.Tables.{Writing, writing-starts, writing-turns, every-at, every-map}
-use borrow.Author.Tests.{not-true, not-false}
-use mathlib.Core.Path.{_≡_, refl, sym, ap, _∙_, subst}
+use lib.ListN.{length, take}
+use Prim.Native.Nat.{_≤_, _*_, _-_}
+use mathlib.Core.List.{List}
+use Rattle.image.proofs.Tables.{Writing, writing-starts, writing-turns, every-at}
+use mathlib.Core.Path.{_≡_, refl, sym, ap, _∙_}
 use borrow.Author.Needs.{needs}
 use native.Mathlib.Omega.{arith}
 use Rattle.image_writer.proofs.writer.write_curves.Statement.{statement}

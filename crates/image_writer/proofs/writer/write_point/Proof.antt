@@ -1,10 +1,10 @@
-use Rattle.sketch.specs.Valid.{okCoordinate, okNumber, okRadius, okRho, okRelation, okMeasure}
+use Rattle.sketch.specs.Valid.{okCoordinate}
 use Rattle.sketch.proofs.Bools.{and-both}
-use Rattle.image.proofs.Floats.{number-float, coordinate-rejects, radius-rejects, rho-rejects, measure-rejects}
-use Rattle.image.specs.Encode.{encodePoint, encodeCurve, encodeRelation, header}
-use Rattle.big_endian.specs.Laws.{run-starts, run-puts, run-over}
+use Rattle.image.proofs.Floats.{number-float, coordinate-rejects}
+use Rattle.image.specs.Encode.{encodePoint}
+use Rattle.big_endian.specs.Laws.{run-starts, run-puts}
 use mathlib.Core.List.{append-assoc}
-use mathlib.Core.Path.{_≡_, refl, sym, ap, _∙_}
+use mathlib.Core.Path.{_∙_}
 use native.Mathlib.Omega.{arith}
 use borrow.Author.Needs.{needs}
 use Rattle.image_writer.proofs.writer.write_point.Statement.{statement}

@@ -1,7 +1,7 @@
-use Rattle.image.specs.Encode.{encodePoint, encodeCurve, encodeRelation, header}
-use Rattle.big_endian.specs.Laws.{run-starts, run-puts, run-over}
+use Rattle.image.specs.Encode.{encodeRelation}
+use Rattle.big_endian.specs.Laws.{run-starts, run-puts}
 use mathlib.Core.List.{append-assoc}
-use mathlib.Core.Path.{_≡_, refl, sym, ap, _∙_}
+use mathlib.Core.Path.{_∙_}
 use native.Mathlib.Omega.{arith}
 use borrow.Author.Needs.{needs}
 use Rattle.image_writer.proofs.writer.write_relation.Statement.{statement}

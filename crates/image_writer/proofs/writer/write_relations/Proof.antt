@@ -5,13 +5,11 @@ use Rattle.image.specs.Encode.{encodeRelation}
 use Rattle.image.specs.Records.{relationSize}
 use Rattle.sketch.specs.Valid.{okRelation}
 use Rattle.sketch.specs.declared.RelationSlot.{RelationSlot}
-use lib.Seq.{take-all}
-use lib.ListN.{length, take, drop, getD}
-use Prim.Native.Nat.{_≤_, _<_, _+_, _*_, _-_}
+use lib.ListN.{length, take}
+use Prim.Native.Nat.{_≤_, _-_}
 use mathlib.Core.List.{List, _∷_, [], map, map-append}
 use Rattle.image.proofs.Tables.{Writing, writing-starts, writing-turns, every-at, every-map}
-use borrow.Author.Tests.{not-true, not-false}
-use mathlib.Core.Path.{_≡_, refl, sym, ap, _∙_, subst}
+use mathlib.Core.Path.{_≡_, refl, sym, ap, _∙_}
 use borrow.Author.Needs.{needs}
 use native.Mathlib.Omega.{arith}
 use Rattle.image_writer.proofs.writer.write_relations.Statement.{statement}

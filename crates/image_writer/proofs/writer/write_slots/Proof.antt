@@ -3,12 +3,11 @@ use Rattle.big_endian.specs.Laws.{length-bytes, over-fits}
 use Rattle.big_endian.specs.Fields.{over, bytes}
 use Prim.Native.Nat.{ℕ}
 use lib.Seq.{take-all}
-use lib.ListN.{length, take, drop, getD}
-use Prim.Native.Nat.{_≤_, _<_, _+_, _*_, _-_}
-use mathlib.Core.List.{List, _∷_, [], map, map-append}
-use Rattle.image.proofs.Tables.{Writing, writing-starts, writing-turns, every-at, every-map}
-use borrow.Author.Tests.{not-true, not-false}
-use mathlib.Core.Path.{_≡_, refl, sym, ap, _∙_, subst}
+use lib.ListN.{length, getD}
+use Prim.Native.Nat.{_≤_, _-_}
+use mathlib.Core.List.{List}
+use Rattle.image.proofs.Tables.{Writing, writing-starts, writing-turns}
+use mathlib.Core.Path.{_≡_, refl, ap, _∙_}
 use borrow.Author.Needs.{needs}
 use native.Mathlib.Omega.{arith}
 use Rattle.image_writer.proofs.writer.write_slots.Statement.{statement}

@@ -1,6 +1,5 @@
 use Rattle.message.specs.Message.{operationByte}
-use mathlib.Core.Path.{_≡_, refl, sym, ap, _∙_}
-use native.Mathlib.Omega.{arith}
+use mathlib.Core.Path.{sym, ap}
 use borrow.Author.Needs.{needs}
 use Rattle.message.proofs.messages.operation_byte.Statement.{statement}
 use Rattle.message.proofs.messages.operation_byte.Tie as tie

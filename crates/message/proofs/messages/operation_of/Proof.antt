@@ -1,8 +1,6 @@
 use Rattle.message.specs.Message.{operationOf}
-use borrow.Author.Tests.{lt-leb, le-leb, lt-ltb, le-ltb, eq-eqb, ne-eqb}
-use mathlib.Core.Path.{_≡_, refl, sym, ap, _∙_}
-use borrow.Author.Needs.{needs}
-use native.Mathlib.Omega.{arith}
+use borrow.Author.Tests.{ne-eqb}
+use mathlib.Core.Path.{sym, ap}
 use Rattle.message.proofs.messages.operation_of.Statement.{statement}
 use Rattle.message.proofs.messages.operation_of.Tie as tie
 use Rattle.message.proofs.messages.operation_of.Reads as reads

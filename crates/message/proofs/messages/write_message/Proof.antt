@@ -1,10 +1,9 @@
-use Rattle.message.specs.Message.{encode, MessageWritten, messageSize}
+use Rattle.message.specs.Message.{encode, messageSize}
 use Rattle.sketch.specs.Lists.{guardNumber}
 use borrow.Author.Tests.{lt-leb, le-leb}
-use Rattle.big_endian.specs.Laws.{run-starts, run-puts, run-over}
+use Rattle.big_endian.specs.Laws.{run-starts, run-puts}
 use mathlib.Core.List.{append-assoc}
-use borrow.Author.Tests.{not-true, not-false}
-use mathlib.Core.Path.{_≡_, refl, sym, ap, _∙_, subst}
+use mathlib.Core.Path.{_∙_}
 use native.Mathlib.Omega.{arith}
 use Prim.Native.Nat.{_≤_}
 use lib.ListN.{length}

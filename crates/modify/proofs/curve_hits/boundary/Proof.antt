@@ -1,6 +1,4 @@
-use mathlib.Core.Path.{_≡_, refl, sym, ap, _∙_}
 use Rattle.modify.proofs.CurveHits.{bound-endless, bound-line, bound-round}
-use native.Mathlib.Omega.{arith}
 use borrow.Author.Needs.{needs}
 use Rattle.modify.proofs.curve_hits.boundary.Statement.{statement}
 use Rattle.modify.proofs.curve_hits.boundary.Tie as tie

@@ -1,5 +1,4 @@
-use mathlib.Core.Path.{_≡_, refl, sym, ap, _∙_}
-use Prim.Native.Nat.{_-_, _≤_}
+use Prim.Native.Nat.{_-_}
 use mathlib.Core.List.{List}
 use Rattle.sketch.specs.declared.Point.{Point}
 use Rattle.sketch_geometry.specs.Columns.{PointColumns}

@@ -1,4 +1,4 @@
-use mathlib.Core.Path.{_≡_, refl, sym, ap, _∙_}
+use mathlib.Core.Path.{_∙_}
 use Rattle.modify.proofs.CutterLists.{answered-none, answered-some}
 use Rattle.modify.specs.ExtendContracts.{support}
 use Rattle.modify.proofs.CurveHits.{with-room, met-fits, met-as, outlined-is, meets-shape, meets-bezier, meets-conic}

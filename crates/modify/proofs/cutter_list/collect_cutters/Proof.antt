@@ -1,7 +1,7 @@
 use lib.ListN.{length-set}
 use Rattle.modify.proofs.CutterLists.{answered-none, answered-some, gather-end}
 use Rattle.modify.proofs.CutterLists.{Gathering, gather-start, gather-freeform, gather-target, gather-other}
-use mathlib.Core.Path.{_≡_, refl, sym, ap, _∙_}
+use mathlib.Core.Path.{_≡_}
 use Prim.Native.Nat.{_-_, _≤_}
 use mathlib.Core.List.{List}
 use lib.ListN.{length}

@@ -1,8 +1,6 @@
 use Rattle.modify.proofs.CutterLists.{Seeking, index-start, index-here, index-on, index-end}
-use mathlib.Core.Path.{_≡_, refl, sym, ap, _∙_}
 use Prim.Native.Nat.{_-_}
 use borrow.Author.Needs.{needs}
-use native.Mathlib.Omega.{arith}
 use Rattle.modify.proofs.cutter_list.curve_place.Statement.{statement}
 use Rattle.modify.proofs.cutter_list.curve_place.Tie as tie
 use Rattle.modify.proofs.cutter_list.curve_place.Reads as reads

@@ -206,9 +206,9 @@ returns-4 c =
     let k = c .before .before .before .before .before .before .before .before .before .before .before .before .before .before .before .before .before .before .before .before .before .before .before .before .find-target .result .place in
     let it = c .before .before .before .before .before .before .before .before .before .is-split .result in
     let op = ap (λ x. cond x Split Trim) (c .before .before .before .before .before .before .before .before .before .is-split .ensures) ∙ cut-is (a .operation) (sym (c .before .before .before .before .before .before .before .before .before .before .before .is-extend .ensures) ∙ c .before .before .before .before .before .before .before .before .before .before .if3 .left) in
-    let chosen = c .before .before .before .before .plan-on-curve .ensures in
+    let planned = c .before .before .before .before .plan-on-curve .ensures in
     subst (λ op. EditAnswer op (a .sk) (a .curve) (a .at) (c .answer3 .result)) op
-    (target-found-answer b (cond it Split Trim) (edit-refused it (a .sk) k (a .at) (b .valid) (b .place) (b .picked) (target-found-curve b) chosen (c .before .before .number .given .1) (c .answer3 .ensures .0) (c .answer3 .ensures .1) (c .answer3 .ensures .3) (c .answer3 .ensures .2)))
+    (target-found-answer b (cond it Split Trim) (edit-refused it (a .sk) k (a .at) (b .valid) (b .place) (b .picked) (target-found-curve b) planned (c .before .before .number .given .1) (c .answer3 .ensures .0) (c .answer3 .ensures .1) (c .answer3 .ensures .3) (c .answer3 .ensures .2)))
 
 returns-5 : tie.Need-returns-5
 returns-5 c =
@@ -217,11 +217,11 @@ returns-5 c =
     let k = c .before .before .before .before .before .before .before .before .before .before .before .before .before .before .before .before .before .before .before .before .before .before .before .before .find-target .result .place in
     let it = c .before .before .before .before .before .before .before .before .before .is-split .result in
     let op = ap (λ x. cond x Split Trim) (c .before .before .before .before .before .before .before .before .before .is-split .ensures) ∙ cut-is (a .operation) (sym (c .before .before .before .before .before .before .before .before .before .before .before .is-extend .ensures) ∙ c .before .before .before .before .before .before .before .before .before .before .if3 .left) in
-    let chosen = c .before .before .before .before .plan-on-curve .ensures in
+    let planned = c .before .before .before .before .plan-on-curve .ensures in
     let plan = c .before .before .plan .given .1 in
-    let suited = edit-suited it (a .sk) k (a .at) (b .valid) (b .place) (b .picked) (target-found-curve b) chosen plan in
+    let suited = edit-suited it (a .sk) k (a .at) (b .valid) (b .place) (b .picked) (target-found-curve b) planned plan in
     subst (λ op. EditAnswer op (a .sk) (a .curve) (a .at) (c .apply-plan .result)) op
-    (target-found-answer b (cond it Split Trim) (edit-applied it (a .sk) k (a .at) (b .valid) (b .place) (b .picked) (target-found-curve b) chosen plan (c .apply-plan .ensures (b .valid) (b .place) suited)))
+    (target-found-answer b (cond it Split Trim) (edit-applied it (a .sk) k (a .at) (b .valid) (b .place) (b .picked) (target-found-curve b) planned plan (c .apply-plan .ensures (b .valid) (b .place) suited)))
 
 pub edit-spec : {M : Type 1} → statement M
 edit-spec =

@@ -1,6 +1,5 @@
 use mathlib.Core.Path.{refl}
 use Rattle.modify.specs.Contracts.{isExtend}
-use native.Mathlib.Omega.{arith}
 use borrow.Author.Needs.{needs}
 use Rattle.modify.proofs.edits.is_extend.Statement.{statement}
 use Rattle.modify.proofs.edits.is_extend.Tie as tie

@@ -24,7 +24,7 @@ returns c = λ next np nr rs z w h.
     let st = c .before .before .before .before .before .before in
     let a = st .args in
     let s = its st next np nr rs in
-    record { choice = end-used (view s) (a .id) (a .at) (support (a .a) (a .b) (a .atb)) (a .end) (c .before .used-by-other .ensures) (c .if1 .taken); place = tt }
+    record { plan = end-used (view s) (a .id) (a .at) (support (a .a) (a .b) (a .atb)) (a .end) (c .before .used-by-other .ensures) (c .if1 .taken); place = tt }
 
 place-near-requires : tie.Need-place-near-requires
 place-near-requires c κs = search needs
@@ -49,7 +49,7 @@ returns-3 c = λ next np nr rs z w h.
     let a = st .args in
     let s = its st next np nr rs in
     let found = c .before .before .before .place-near .ensures in
-    record { choice = end-stuck (view s) (a .id) (a .at) (support (a .a) (a .b) (a .atb)) (a .end) (c .before .before .before .before .before .used-by-other .ensures) (c .before .before .before .before .if1 .left) (end-fixed s w found h) (c .if3 .taken); place = tt }
+    record { plan = end-stuck (view s) (a .id) (a .at) (support (a .a) (a .b) (a .atb)) (a .end) (c .before .before .before .before .before .used-by-other .ensures) (c .before .before .before .before .if1 .left) (end-fixed s w found h) (c .if3 .taken); place = tt }
 
 from-line-requires : tie.Need-from-line-requires
 from-line-requires c κs = search needs
@@ -78,7 +78,7 @@ returns-4 c = λ next np nr rs z w h.
     let a = st .args in
     let s = its st next np nr rs in
     let found = c .before .before .before .before .before .before .before .before .before .before .place-near .ensures in
-    record { choice = end-by-nearest-hit (view s) (a .id) (a .at) (support (a .a) (a .b) (a .atb)) (a .end) (c .before .before .before .before .before .before .before .before .before .before .before .before .used-by-other .ensures) (c .before .before .before .before .before .before .before .before .before .before .before .if1 .left) (end-fixed s w found h) (c .before .before .before .before .before .before .before .if3 .left) (c .before .before .before .before .before .before .from-line .ensures) (c .before .before .before .before .before .param .ensures) (c .before .before .before .before .point .ensures) (c .before .before .before .nearest-hit .ensures _ w) (reached-stop _ _ _ (c .before .number .given .1)); place = tt }
+    record { plan = end-by-nearest-hit (view s) (a .id) (a .at) (support (a .a) (a .b) (a .atb)) (a .end) (c .before .before .before .before .before .before .before .before .before .before .before .before .used-by-other .ensures) (c .before .before .before .before .before .before .before .before .before .before .before .if1 .left) (end-fixed s w found h) (c .before .before .before .before .before .before .before .if3 .left) (c .before .before .before .before .before .before .from-line .ensures) (c .before .before .before .before .before .param .ensures) (c .before .before .before .before .point .ensures) (c .before .before .before .nearest-hit .ensures _ w) (reached-stop _ _ _ (c .before .number .given .1)); place = tt }
 
 returns-5 : tie.Need-returns-5
 returns-5 c = λ next np nr rs z w h.
@@ -87,7 +87,7 @@ returns-5 c = λ next np nr rs z w h.
     let s = its st next np nr rs in
     let found = c .before .before .before .before .before .before .before .before .before .before .before .place-near .ensures in
     record {
-      choice = end-by-nearest-hit (view s) (a .id) (a .at) (support (a .a) (a .b) (a .atb)) (a .end) (c .before .before .before .before .before .before .before .before .before .before .before .before .before .used-by-other .ensures) (c .before .before .before .before .before .before .before .before .before .before .before .before .if1 .left) (end-fixed s w found h) (c .before .before .before .before .before .before .before .before .if3 .left) (c .before .before .before .before .before .before .before .from-line .ensures) (c .before .before .before .before .before .before .param .ensures) (c .before .before .before .before .before .point .ensures) (c .before .before .before .before .nearest-hit .ensures _ w) (reached-best _ _ _ (c .before .before .best .given .1) (c .plan-move .ensures .0 (view s) (record { points = w; curves = refl })));
+      plan = end-by-nearest-hit (view s) (a .id) (a .at) (support (a .a) (a .b) (a .atb)) (a .end) (c .before .before .before .before .before .before .before .before .before .before .before .before .before .used-by-other .ensures) (c .before .before .before .before .before .before .before .before .before .before .before .before .if1 .left) (end-fixed s w found h) (c .before .before .before .before .before .before .before .before .if3 .left) (c .before .before .before .before .before .before .before .from-line .ensures) (c .before .before .before .before .before .before .param .ensures) (c .before .before .before .before .before .point .ensures) (c .before .before .before .before .nearest-hit .ensures _ w) (reached-best _ _ _ (c .before .before .best .given .1) (c .plan-move .ensures .0 (view s) (record { points = w; curves = refl })));
       place = held-stands s (a .atb) (c .before .before .before .before .before .before .before .before .before .before .before .place-near .result) (a .end) (c .plan-move .result) (c .plan-move .ensures .1) (end-place s w found h) (end-id s w found h);
     }
 

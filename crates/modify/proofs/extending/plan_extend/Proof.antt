@@ -52,7 +52,7 @@ returns-2 c =
     let two = c .before .moving-end .ensures in
     let atb = le (c .before .before .before .dist .result) (c .before .before .dist2 .result) in
     let r = c .plan-end .ensures (k .next) (k .npoints) (k .nrelations) (k .relations) (st .pre .0 .points) (st .pre .4) (line-end k (a .place) e (st .pre .0) (st .pre .1) (st .pre .2) (long st) atb two) in
-    (line-at (view k) (a .at) (targetOf k (a .place)) e (st .pre .3) (c .before .before .before .before .before .position-of .ensures _ (st .pre .4)) (c .before .before .before .before .position-of2 .ensures _ (st .pre .4)) (c .before .before .before .dist .ensures) (c .before .before .dist2 .ensures) two (r .choice), stands-at k (a .place) e atb two (c .plan-end .result) (r .place))
+    (line-at (view k) (a .at) (targetOf k (a .place)) e (st .pre .3) (c .before .before .before .before .before .position-of .ensures _ (st .pre .4)) (c .before .before .before .before .position-of2 .ensures _ (st .pre .4)) (c .before .before .before .dist .ensures) (c .before .before .dist2 .ensures) two (r .plan), stands-at k (a .place) e atb two (c .plan-end .result) (r .place))
 
 pub plan-extend-spec : {M : Type 1} → statement M
 plan-extend-spec =

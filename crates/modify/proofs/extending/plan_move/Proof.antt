@@ -1,7 +1,6 @@
-use mathlib.Core.Path.{_≡_, refl, sym, ap, _∙_}
+use mathlib.Core.Path.{refl}
 use borrow.Author.Tests.{not-true, not-false}
 use Rattle.modify.proofs.ExtendPlans.{held-none, held-tied, held-moves}
-use native.Mathlib.Omega.{arith}
 use borrow.Author.Needs.{needs}
 use Rattle.modify.proofs.extending.plan_move.Statement.{statement}
 use Rattle.modify.proofs.extending.plan_move.Tie as tie

@@ -1,4 +1,4 @@
-use mathlib.Core.Path.{_≡_, refl, sym, ap, _∙_}
+use mathlib.Core.Path.{refl, sym, _∙_}
 use borrow.Author.Tests.{not-true, not-false}
 use Rattle.sketch.proofs.Bools.{joined}
 use Rattle.modify.proofs.Answers.{test-pick, test-curve, test-passed}

@@ -1,7 +1,5 @@
-use mathlib.Core.Path.{_≡_, refl, sym, ap, _∙_}
 use borrow.Author.Tests.{not-true, not-false}
 use Rattle.modify.proofs.NearestHit.{better-first, better-nearer, better-farther, better-other, better-apart, better-same}
-use native.Mathlib.Omega.{arith}
 use borrow.Author.Needs.{needs}
 use Rattle.modify.proofs.nearest_hit.better.Statement.{statement}
 use Rattle.modify.proofs.nearest_hit.better.Tie as tie

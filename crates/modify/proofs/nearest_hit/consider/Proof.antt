@@ -1,6 +1,4 @@
-use mathlib.Core.Path.{_≡_, refl, sym, ap, _∙_}
 use Rattle.modify.proofs.NearestHit.{weigh-in, weigh-out}
-use native.Mathlib.Omega.{arith}
 use borrow.Author.Needs.{needs}
 use Rattle.modify.proofs.nearest_hit.consider.Statement.{statement}
 use Rattle.modify.proofs.nearest_hit.consider.Tie as tie

@@ -1,6 +1,4 @@
-use mathlib.Core.Path.{_≡_, refl, sym, ap, _∙_}
 use Rattle.modify.proofs.NearestHit.{gap-at-b, gap-at-a}
-use native.Mathlib.Omega.{arith}
 use borrow.Author.Needs.{needs}
 use Rattle.modify.proofs.nearest_hit.gap_of.Statement.{statement}
 use Rattle.modify.proofs.nearest_hit.gap_of.Tie as tie

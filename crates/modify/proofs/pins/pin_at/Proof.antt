@@ -1,4 +1,3 @@
-use mathlib.Core.Path.{_≡_, refl, sym, ap, _∙_}
 use Rattle.modify.proofs.TrimSplitPlans.{ends-line, ends-arc, ends-none, pin-found, pin-nowhere, pin-bare}
 use native.Mathlib.Omega.{arith}
 use borrow.Author.Needs.{needs}

@@ -1,6 +1,5 @@
 use Rattle.modify.proofs.TrimSplitPlans.{near-end, pin-first, pin-second, pin-curve}
-use mathlib.Core.Path.{_≡_, refl, sym, ap, _∙_}
-use native.Mathlib.Omega.{arith}
+use mathlib.Core.Path.{sym, _∙_}
 use borrow.Author.Needs.{needs}
 use Rattle.modify.proofs.pins.pin_to.Statement.{statement}
 use Rattle.modify.proofs.pins.pin_to.Tie as tie

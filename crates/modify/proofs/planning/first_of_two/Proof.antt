@@ -1,6 +1,5 @@
 use Rattle.modify.proofs.TrimSplitPlans.{two-full, two-open}
-use mathlib.Core.Path.{_≡_, refl, sym, ap, _∙_}
-use native.Mathlib.Omega.{arith}
+use mathlib.Core.Path.{sym, _∙_}
 use borrow.Author.Needs.{needs}
 use Rattle.modify.proofs.planning.first_of_two.Statement.{statement}
 use Rattle.modify.proofs.planning.first_of_two.Tie as tie

@@ -1,6 +1,4 @@
 use Rattle.modify.proofs.TrimSplitPlans.{is-circle, no-circle}
-use mathlib.Core.Path.{_≡_, refl, sym, ap, _∙_}
-use native.Mathlib.Omega.{arith}
 use borrow.Author.Needs.{needs}
 use Rattle.modify.proofs.planning.is_circle.Statement.{statement}
 use Rattle.modify.proofs.planning.is_circle.Tie as tie

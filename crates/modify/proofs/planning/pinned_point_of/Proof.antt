@@ -1,5 +1,4 @@
 use Rattle.modify.proofs.TrimSplitPlans.{place-is}
-use native.Mathlib.Omega.{arith}
 use borrow.Author.Needs.{needs}
 use Rattle.modify.proofs.planning.pinned_point_of.Statement.{statement}
 use Rattle.modify.proofs.planning.pinned_point_of.Tie as tie

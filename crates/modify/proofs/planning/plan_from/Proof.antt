@@ -1,5 +1,4 @@
 use Rattle.modify.proofs.CurvePlans.{as-split, as-trim}
-use native.Mathlib.Omega.{arith}
 use borrow.Author.Needs.{needs}
 use Rattle.modify.proofs.planning.plan_from.Statement.{statement}
 use Rattle.modify.proofs.planning.plan_from.Tie as tie

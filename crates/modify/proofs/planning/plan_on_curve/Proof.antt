@@ -1,6 +1,5 @@
 use mathlib.Core.Path.{refl}
 use Rattle.sketch.specs.Drawing.{view}
-use native.Mathlib.Omega.{arith}
 use borrow.Author.Needs.{needs}
 use Rattle.modify.proofs.planning.plan_on_curve.Statement.{statement}
 use Rattle.modify.proofs.planning.plan_on_curve.Tie as tie

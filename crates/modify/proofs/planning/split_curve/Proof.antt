@@ -2,7 +2,6 @@ use borrow.Author.Tests.{not-true, not-false}
 use mathlib.Core.Path.{sym, _∙_}
 use Rattle.modify.proofs.CutterLists.{answered-none, answered-some}
 use Rattle.modify.proofs.CurvePlans.{split-bare, split-barred, split-inside, split-beside, split-round}
-use native.Mathlib.Omega.{arith}
 use borrow.Author.Needs.{needs}
 use Rattle.modify.proofs.planning.split_curve.Statement.{statement}
 use Rattle.modify.proofs.planning.split_curve.Tie as tie

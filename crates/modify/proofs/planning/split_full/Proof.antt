@@ -1,8 +1,6 @@
 use Rattle.modify.proofs.TrimSplitPlans.{bracketed}
 use Rattle.cuts.specs.Bracket.{bracket}
-use Rattle.modify.proofs.TrimSplitPlans.{picked, full-few, full-two}
-use mathlib.Core.Path.{_≡_, refl, sym, ap, _∙_}
-use native.Mathlib.Omega.{arith}
+use Rattle.modify.proofs.TrimSplitPlans.{full-few, full-two}
 use borrow.Author.Needs.{needs}
 use Rattle.modify.proofs.planning.split_full.Statement.{statement}
 use Rattle.modify.proofs.planning.split_full.Tie as tie

@@ -1,10 +1,4 @@
 use Rattle.modify.proofs.TrimSplitPlans.{open-at-an-end, open-inside}
-use Rattle.modify.specs.Planning.{atEnd}
-use mathlib.Core.Bool.{cond}
-use lib.Ieee.{le}
-use Rattle.modify.proofs.TrimSplitPlans.{picked, at-an-end, inside}
-use mathlib.Core.Path.{_≡_, refl, sym, ap, _∙_}
-use native.Mathlib.Omega.{arith}
 use borrow.Author.Needs.{needs}
 use Rattle.modify.proofs.planning.split_open.Statement.{statement}
 use Rattle.modify.proofs.planning.split_open.Tie as tie

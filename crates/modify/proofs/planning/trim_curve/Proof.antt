@@ -1,6 +1,5 @@
 use Rattle.modify.proofs.CutterLists.{answered-none, answered-some}
 use Rattle.modify.proofs.CurvePlans.{trim-bare, trim-barred, trim-beside, trim-planned}
-use native.Mathlib.Omega.{arith}
 use borrow.Author.Needs.{needs}
 use Rattle.modify.proofs.planning.trim_curve.Statement.{statement}
 use Rattle.modify.proofs.planning.trim_curve.Tie as tie

@@ -1,6 +1,4 @@
-use mathlib.Core.Path.{_≡_, refl, sym, ap, _∙_}
 use Rattle.modify.proofs.TrimSplitPlans.{picked, plan-whole, plan-one, plan-two}
-use native.Mathlib.Omega.{arith}
 use borrow.Author.Needs.{needs}
 use Rattle.modify.proofs.planning.trim_plan.Statement.{statement}
 use Rattle.modify.proofs.planning.trim_plan.Tie as tie

@@ -1,7 +1,5 @@
-use mathlib.Core.Path.{_≡_, refl, sym, ap, _∙_}
-use Prim.Native.Nat.{_-_, _≤_}
+use Prim.Native.Nat.{_-_}
 use Rattle.modify.proofs.Uses.{UsedFrom, used-start, used-past, used-here, used-on, used-end}
-use native.Mathlib.Omega.{arith}
 use borrow.Author.Needs.{needs}
 use Rattle.modify.proofs.point_uses.used_by_other.Statement.{statement}
 use Rattle.modify.proofs.point_uses.used_by_other.Tie as tie

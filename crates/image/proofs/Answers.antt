@@ -3,22 +3,21 @@ use mathlib.Core.Path.{_≡_, refl, sym, ap, _∙_}
 use mathlib.Core.Bool.{Bool, true, false}
 use mathlib.Core.List.{List, [], _∷_, map}
 use Prim.Native.Nat.{ℕ, zero, suc}
-use native.Mathlib.Omega.{arith}
-use lib.ListN.{length, take}
+use lib.ListN.{take}
 use Rattle.sketch.specs.Lists.{guardNumber}
-use Rattle.sketch.specs.Lookup.{Ascends, among, sortAmong}
+use Rattle.sketch.specs.Lookup.{Ascends, among}
 use Rattle.sketch.specs.Drawing.{pointIds, curveIds, view}
 use Rattle.sketch.specs.Columns.{sortsOf}
-use Rattle.sketch.specs.Valid.{soundCurve, hasPoint, tableFault, listFault}
+use Rattle.sketch.specs.Valid.{soundCurve, tableFault}
 use Rattle.sketch.proofs.Facts.{table-first, table-later, table-ascends, sort-among}
 use Rattle.image.specs.declared.ImageRead.{ImageRead}
-use Rattle.image.specs.Records.{pointOf, curveOf, relationOf, curveSize, pointSize}
+use Rattle.image.specs.Records.{pointOf, curveOf, curveSize, pointSize}
 use Rattle.image.specs.Image.{nextAt, pointCount, curveCount, headFault, pointRows, curveRows, relationRows, drawingOf, rowId, recordsFault, imageFault, resultOf, parse, headerSize}
 use Rattle.image.specs.Decode.{outcome, emptyDrawing, drawingIn}
-use Rattle.image.specs.Contracts.{goodPoint, goodCurve, goodRelation, rowSort, PointsTested, CurvesTested, SortsFilled, relationsTested, relationsAfter, shapesAfter}
+use Rattle.image.specs.Contracts.{goodPoint, goodCurve, rowSort, PointsTested, CurvesTested, SortsFilled, relationsTested, relationsAfter, shapesAfter}
 use Rattle.image.proofs.Tables.{length-rows}
-use Rattle.image.proofs.Headers.{Head, head-kept, head-passes}
-use Rattle.image.proofs.RoundTrips.{result-refused}
+use Rattle.image.proofs.Headers.{head-kept, head-passes}
+use Rattle.image.proofs.RoundTrips.{result-refused, result-number, result-drawing}
 
 -- ---- the header
 
@@ -127,3 +126,11 @@ drawing-accepted s r o z = sym (ap drawingIn (sym o ∙ ap (λ (n : ℕ). result
 
 pub accepted-as : (s : List ℕ) {n : ℕ} → n ≡ imageFault s → n ≡ 0 → (r : ImageRead) → r .refusal ≡ 0 → view (r .sketch) ≡ drawingOf s → outcome r ≡ parse s
 accepted-as s e h r f v = rw (f, v, ← e, h)
+
+-- ---- a reader's answer that stands for what the bytes are read as
+
+pub read-number : (r : ImageRead) (s : List ℕ) → outcome r ≡ parse s → r .refusal ≡ imageFault s
+read-number r s e = result-number (r .refusal) (imageFault s) (view (r .sketch)) (drawingOf s) e
+
+pub read-drawing : (r : ImageRead) (s : List ℕ) → outcome r ≡ parse s → r .refusal ≡ 0 → view (r .sketch) ≡ drawingOf s
+read-drawing r s e z = result-drawing (r .refusal) (imageFault s) (view (r .sketch)) (drawingOf s) e z
