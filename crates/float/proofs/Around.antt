@@ -68,16 +68,16 @@ nearest-nearer a m q apart = go (compare a m) (cmp a m)
     go Ordering·eq h = absurd (apart h)
     go Ordering·gt h = inr (omega arith, h)
 
+pub pow-twice : (p : ℕ) → 0 < p → 2 ^ p ≡ 2 ^ (p - 1) * 2
+pow-twice p h = ap (λ (x : ℕ). 2 ^ x) (one-back p h) ∙ pow-suc 2 (p - 1)
+  where
+    one-back : (p : ℕ) → 0 < p → p ≡ suc (p - 1)
+    one-back p h = omega arith
+
 -- m * 2 ^ z with m of p digits is not the square of a middle: that is odd but for its zeros, and has more digits
 pub no-tie : (p q k z m : ℕ) → m < 2 ^ p → (0 < k → 2 ^ (p - 1) ≤ q) → 0 < p → 2 ≤ z → m * 2 ^ z ≡ sq (2 * q + 1) * 2 ^ (k + k) → ⊥
 no-tie p q k z m short full P two e = go (ltb (k + k) z) (ltb→lt (k + k) z) (nltb→le (k + k) z)
   where
-    whole : (p : ℕ) → 0 < p → 2 ^ p ≡ 2 ^ (p - 1) * 2
-    whole p P = ap (λ (x : ℕ). 2 ^ x) (one-back p P) ∙ pow-suc 2 (p - 1)
-      where
-        one-back : (p : ℕ) → 0 < p → p ≡ suc (p - 1)
-        one-back p h = omega arith
-
     odd-even : (a b : ℕ) → a * 2 ≡ 4 * sq q + 4 * q + 1 → ⊥
     odd-even a b h = omega arith
 
@@ -104,7 +104,7 @@ no-tie p q k z m short full P two e = go (ltb (k + k) z) (ltb→lt (k + k) z) (n
         let f : m * 2 ^ z ≡ sq (2 * q + 1) * 2 ^ (c - z) * 2 ^ z =
         e ∙ ap (λ (x : ℕ). sq (2 * q + 1) * x) (ap (λ (x : ℕ). 2 ^ x) (sym (back c z (b tt))) ∙ pow-add 2 (c - z) z) ∙ sym (mul-assoc (sq (2 * q + 1)) (2 ^ (c - z)) (2 ^ z)) in
         let g : m ≡ sq (2 * q + 1) * 2 ^ (c - z) = eq-of-mul-eq-mul-right (2 ^ z) (pow-pos z) m (sq (2 * q + 1) * 2 ^ (c - z)) f in
-        large (2 ^ (p - 1)) 0 (sym (whole p P)) (full (some two (b tt)))
+        large (2 ^ (p - 1)) 0 (sym (pow-twice p P)) (full (some two (b tt)))
         (le-trans (le-of-eq (sym (sq-half q) ∙ sym (mul-one (sq (2 * q + 1))))) (le-trans (mul-le-mul-left (sq (2 * q + 1)) (pow-pos (c - z))) (le-of-eq (sym g))))
 
 sq-lt : (a b : ℕ) → a < b → sq a < sq b

@@ -3,7 +3,7 @@ use mathlib.Core.Path.{_≡_, refl, sym, _∙_, ap, subst}
 use mathlib.Core.Bool.{Bool, true, false, true≢false}
 use mathlib.Core.Logic.{inl, inr}
 use Prim.Native.Nat.{ℕ, suc, _+_, _-_, _*_, _/_, _^_, _≤_, _<_}
-use native.Mathlib.Nat.{add-mul, one-mul, mul-assoc, mul-comm, mul-left-comm, pow-suc, le-of-eq, le-trans, le-of-lt, lt-of-lt-of-le, lt-of-le-of-lt, lt-irrefl, eq-or-lt-of-le, mul-le-mul-right, mul-lt-mul-of-pos-right, le-of-mul-le-mul-right, lt-of-mul-lt-mul-right, le-div-iff-mul-le}
+use native.Mathlib.Nat.{add-mul, one-mul, mul-assoc, mul-comm, mul-left-comm, le-of-eq, le-trans, le-of-lt, lt-of-lt-of-le, lt-of-le-of-lt, lt-irrefl, eq-or-lt-of-le, mul-le-mul-right, mul-lt-mul-of-pos-right, le-of-mul-le-mul-right, lt-of-mul-lt-mul-right, le-div-iff-mul-le}
 use native.Mathlib.Omega.{arith}
 use borrow.Author.Tests.{ltb-true, ltb-false, lt-ltb, le-ltb}
 use lib.Dec.{T, ltb}
@@ -17,6 +17,7 @@ use lib.Ieee.Order.{transfer}
 use lib.Ieee.Positive.{num, den, den-pos, value→cross}
 use Rattle.float.specs.Root.{plain}
 use Rattle.float.proofs.Patterns.{toBits-of}
+use Rattle.float.proofs.Around.{pow-twice}
 use Rattle.float.proofs.Units.{in-units, in-range}
 use Rattle.float.proofs.Unsigned.{unsigned}
 use Rattle.float.proofs.Plain.{_⊑_, plain-lt}
@@ -24,12 +25,6 @@ use Rattle.float.proofs.Plain.{_⊑_, plain-lt}
 -- ---- n units, written with p digits, rise with n
 abbrev written : ℕ → ℕ → ℕ
 written p n = (size n - p) * 2 ^ (p - 1) + n / 2 ^ (size n - p)
-
-twice : (p : ℕ) → 0 < p → 2 ^ p ≡ 2 ^ (p - 1) * 2
-twice p h = ap (λ (x : ℕ). 2 ^ x) (back p h) ∙ pow-suc 2 (p - 1)
-  where
-    back : (p : ℕ) → 0 < p → p ≡ suc (p - 1)
-    back p h = omega arith
 
 fewer : (x y p : ℕ) → x ≤ y → x - p ≤ y - p
 fewer x y p h = omega arith
@@ -45,7 +40,7 @@ written-rises p m n P h =
           let a : m / 2 ^ j < 2 ^ p = kept-lt p m in
           let b : H ≤ n / 2 ^ k = le-div-iff-mul-le (pow-pos k) .1 (le-trans (le-of-eq (sym (pow-add 2 (p - 1) k))) (size-reaches n (p - 1 + k) (all-in-use (size n) p j P l))) in
           let c : (j + 1) * H ≤ k * H = mul-le-mul-right H (next j k l) in
-          apart (j * H) H (m / 2 ^ j) (k * H) (n / 2 ^ k) (2 ^ p) (twice p P) a b (one-more j H) c
+          apart (j * H) H (m / 2 ^ j) (k * H) (n / 2 ^ k) (2 ^ p) (pow-twice p P) a b (one-more j H) c
     ]
   where
     same : (a : ℕ) {b c : ℕ} → b ≤ c → a + b ≤ a + c
@@ -102,7 +97,7 @@ module _ (f : Format) where
       let H = 2 ^ (p - 1) in
       let a : n / 2 ^ k < 2 ^ p = kept-lt p n in
       let b : (k + 2) * H ≤ (2 * e + 1) * H = mul-le-mul-right H (few (size n) e p P E (size-le n (e + p - 2 + suc e) h)) in
-      close (k * H) H (n / 2 ^ k) (2 ^ p) (twice p (two-le-pos p P)) a (add-mul k 2 H) b
+      close (k * H) H (n / 2 ^ k) (2 ^ p) (pow-twice p (two-le-pos p P)) a (add-mul k 2 H) b
     where
       few : (z e p : ℕ) → 2 ≤ p → p ≤ suc e → z ≤ e + p - 2 + suc e → z - p + 2 ≤ 2 * e + 1
       few z e p P E h = omega arith
