@@ -29,7 +29,7 @@ pub fn is_operation(number: u32) -> bool
     (1 <= number) & (number <= 3)
 }
 
-// The operation that a number means. Readers turn other numbers away before they ask.
+// The operation that a number means. Readers refuse other numbers before they ask.
 pub fn operation_of(number: u32) -> Operation
     ensures { λ r. ⌜ r ≡ operationOf number ⌝ }
 {
