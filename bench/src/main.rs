@@ -1,7 +1,7 @@
 //! The engine beside the oracle: the same inputs in one process, both built for release.
 //!
 //! `bench [subject]`: all of them, or one of images, sketches, relations, numbers,
-//! shapes, roots, edits and screens.
+//! shapes, roots, edits and replicas.
 
 mod bridge;
 mod edits;
@@ -47,7 +47,7 @@ fn main() {
     if wanted("edits") {
         edits::run();
     }
-    if wanted("screens") {
+    if wanted("replicas") {
         replicas::run();
     }
 }
