@@ -1,12 +1,13 @@
 //! The engine beside the oracle: the same inputs in one process, both built for release.
 //!
 //! `bench [subject]`: all of them, or one of images, sketches, relations, numbers,
-//! shapes, roots, edits and replicas.
+//! shapes, magnitudes, roots, edits and replicas.
 
 mod bridge;
 mod edits;
 mod images;
 mod inputs;
+mod magnitudes;
 mod numbers;
 mod relations;
 mod replicas;
@@ -40,6 +41,9 @@ fn main() {
     }
     if wanted("shapes") {
         shapes::run();
+    }
+    if wanted("magnitudes") {
+        magnitudes::run();
     }
     if wanted("roots") {
         roots::run();

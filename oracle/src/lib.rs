@@ -11,6 +11,7 @@ pub mod examples;
 pub mod figure;
 pub mod generate;
 pub mod image;
+pub mod magnitude;
 pub mod message;
 pub mod program;
 pub mod recording;

@@ -1,7 +1,7 @@
 //! The calls of the static library as its header declares them.
 //!
-//! Each answers 0, or a refusal's number with the place of a relation not met times 65,536 added,
-//! and a refusal alters nothing of the caller's. Slices go over as pointer and length; a length of 0
+//! All but the first and the last answer 0, or a refusal's number with the place of a relation not
+//! met times 65,536 added, and a refusal alters nothing of the caller's. Slices go over as pointer and length; a length of 0
 //! still wants a pointer that is not null. Lent memory must not overlap.
 
 extern "C" {
@@ -51,4 +51,8 @@ extern "C" {
         budget: usize,
         answer: *mut u64,
     ) -> u32;
+
+    /// How many finite numbers a list begins with. Where that is all of them, it writes their largest
+    /// magnitude.
+    pub fn mulkefi_largest_magnitude(numbers: *const f64, n: usize, largest: *mut f64) -> usize;
 }

@@ -11,7 +11,8 @@ use Rattle.float.specs.Numbers.{_⊖_, 0f, 1f, 1e-13, 1e-10}
 use Rattle.float.specs.Sign.{abs}
 use Rattle.bernstein.specs.Evaluate.{evaluateOf}
 use Rattle.bernstein.specs.Bisect.{bisectOf}
-use Rattle.bernstein.specs.Roots.{RootsResult, found, refused, allFinite, tiny, toleranceOf, slopes, derivativeOf, sortOnto, insert, dedupAfter, dedupOf, knotsOf, isZero, zerosOf, noSignChange, withRoot, andThen, bisectFrom, bisectBetween, gathered, sortedDedup, levelOf, onLevel, rootsAt, rootsOf}
+use Rattle.float.specs.Magnitude.{allFinite}
+use Rattle.bernstein.specs.Roots.{RootsResult, found, refused, tiny, toleranceOf, slopes, derivativeOf, sortOnto, insert, dedupAfter, dedupOf, knotsOf, isZero, zerosOf, noSignChange, withRoot, andThen, bisectFrom, bisectBetween, gathered, sortedDedup, levelOf, onLevel, rootsAt, rootsOf}
 use Rattle.bernstein.specs.declared.Bisected.{Bisected}
 use Rattle.bernstein.specs.declared.Bisected.the-variants.{At, Spent}
 use Rattle.bernstein.proofs.OrderWalks.{insert-length}

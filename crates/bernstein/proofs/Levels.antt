@@ -9,7 +9,10 @@ use lib.ListN.{length, take, drop, length-append, length-take}
 use lib.Seq.{take-at, take-append-le}
 use lib.Ieee.{Float, lt}
 use Rattle.float.specs.Numbers.{_⊗_, 0f, 1f, 1e-28, 2e-13, 1e-13, 1e-10}
-use Rattle.bernstein.specs.Roots.{RootsResult, found, refused, allFinite, largestOf, tiny, toleranceOf, derivativeOf, sortOnto, dedupOf, knotsOf, zerosOf, bisectBetween, gathered, sortedDedup, levelOf, onLevel, rootsAt, rootsOf, searchOf, answerOf, leftIn, Searched}
+use Rattle.float.specs.Magnitude.{allFinite, largestOf, magnitudeOf}
+use Rattle.float.specs.declared.Magnitude.the-variants.{Largest, NotFinite}
+use Rattle.float.proofs.LargestMagnitude.{magnitude-largest, magnitude-not-finite}
+use Rattle.bernstein.specs.Roots.{RootsResult, found, refused, tiny, toleranceOf, derivativeOf, sortOnto, dedupOf, knotsOf, zerosOf, bisectBetween, gathered, sortedDedup, levelOf, onLevel, rootsAt, rootsOf, searchOf, answerOf, leftIn, Searched}
 use Rattle.bernstein.specs.Contracts.{listOf, RootsAtFront}
 use Rattle.bernstein.specs.declared.Roots.{Roots}
 use Rattle.bernstein.specs.declared.Roots.the-variants.{Found, Refused}
@@ -101,10 +104,6 @@ module _ (c ts : List Float) (b : ℕ) (o : RootsResult) (el : levelOf c ts b �
 
 -- ---- the search, by its first test that decides
 
-pub tiny-is : (c : List Float) (m : Float) (b : Bool) → m ≡ largestOf 0f c → lt m 1e-28 ≡ b → tiny c ≡ b
-unfolding tiny
-tiny-is c m b e h = rw (← e) h
-
 pub none-given : (c : List Float) (b : ℕ) → length c ≡ 0 → rootsOf c b ≡ refused 20 b
 unfolding rootsOf rootsAt
 none-given [] b e = refl
@@ -115,27 +114,34 @@ unfolding rootsOf
 too-many c b h = rw (lt-ltb 15 (length c) h)
 
 module _ (c : List Float) (b : ℕ) (h : length c ≤ 15) where
-  pub not-finite : 0 < length c → allFinite c ≡ false → rootsOf c b ≡ refused 20 b
+  pub not-finite : 0 < length c → (k : ℕ) → magnitudeOf c ≡ NotFinite k → rootsOf c b ≡ refused 20 b
   unfolding rootsOf rootsAt
-  not-finite g e = rw (le-ltb 15 (length c) h) (at (length c) g)
+  not-finite g k e = rw (le-ltb 15 (length c) h) (at (length c) g)
     where
       at : (n : ℕ) → 0 < n → rootsAt n c b ≡ refused 20 b
       at zero g = absurd (omega arith)
-      at (suc n) g = rw e
+      at (suc n) g = rw (magnitude-not-finite c k e .0)
 
-  module _ (e : allFinite c ≡ true) where
-    pub all-tiny : 0 < length c → tiny c ≡ true → rootsOf c b ≡ found [] b
+  module _ (m : Float) (e : magnitudeOf c ≡ Largest m) where
+    all-finite : allFinite c ≡ true
+    all-finite = magnitude-largest c m e .0
+
+    tiny-is : (t : Bool) → lt m 1e-28 ≡ t → tiny c ≡ t
+    unfolding tiny
+    tiny-is t l = rw (← magnitude-largest c m e .1) l
+
+    pub all-tiny : 0 < length c → lt m 1e-28 ≡ true → rootsOf c b ≡ found [] b
     unfolding rootsOf rootsAt
     all-tiny g t = rw (le-ltb 15 (length c) h) (at (length c) g)
       where
         at : (n : ℕ) → 0 < n → rootsAt n c b ≡ found [] b
         at zero g = absurd (omega arith)
-        at (suc n) g = rw (e, t)
+        at (suc n) g = rw (all-finite, tiny-is true t)
 
-    module _ (t : tiny c ≡ false) where
+    module _ (t : lt m 1e-28 ≡ false) where
       pub constant : length c ≡ 1 → rootsOf c b ≡ found [] b
       unfolding rootsOf rootsAt
-      constant g = rw (le-ltb 15 (length c) h, g, e, t)
+      constant g = rw (le-ltb 15 (length c) h, g, all-finite, tiny-is false t)
 
       steps : 1 < length c → rootsOf c b ≡ onLevel c (rootsOf (derivativeOf c) b)
       unfolding rootsOf rootsAt
@@ -148,7 +154,7 @@ module _ (c : List Float) (b : ℕ) (h : length c ≤ 15) where
           at (suc zero) g = absurd (omega arith)
           at (suc (suc n)) g =
               let k : suc (suc n) - 1 ≡ suc n = omega arith in
-              rw (k, e, t, ne-eqb (suc n) 0 (λ x. omega arith))
+              rw (k, all-finite, tiny-is false t, ne-eqb (suc n) 0 (λ x. omega arith))
 
 -- ---- after the call of itself: d holds the derivative, r is the answer, and k what z became
 
@@ -179,13 +185,13 @@ module _ (c d k z : List Float) (b : ℕ) (r : Roots) (hc : 1 < length c) (h : l
     pub sub-few : length (take m k) ≤ 26
     sub-few = omega (arith, roots-count (derivativeOf c) b, ap count sub-found, derivative-length c)
 
-    pub sub-level : allFinite c ≡ true → tiny c ≡ false → rootsOf c b ≡ levelOf c (take m k) left
+    pub sub-level : (top : Float) → magnitudeOf c ≡ Largest top → lt top 1e-28 ≡ false → rootsOf c b ≡ levelOf c (take m k) left
     unfolding onLevel
-    sub-level f t = steps c b h f t hc ∙ ap (onLevel c) sub-found
+    sub-level top f t = steps c b h top f t hc ∙ ap (onLevel c) sub-found
 
-  pub sub-refused : (w left : ℕ) → r ≡ Refused w left → allFinite c ≡ true → tiny c ≡ false → rootsOf c b ≡ refused w left
+  pub sub-refused : (w left : ℕ) → r ≡ Refused w left → (top : Float) → magnitudeOf c ≡ Largest top → lt top 1e-28 ≡ false → rootsOf c b ≡ refused w left
   unfolding onLevel
-  sub-refused w left e f t = steps c b h f t hc ∙ ap (onLevel c) (sym below ∙ refusal-is _ w left (sym e ∙ es .answer))
+  sub-refused w left e top f t = steps c b h top f t hc ∙ ap (onLevel c) (sym below ∙ refusal-is _ w left (sym e ∙ es .answer))
 
 -- ---- the room
 

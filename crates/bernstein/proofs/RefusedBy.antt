@@ -8,7 +8,8 @@ use lib.ListN.{length}
 use lib.Ieee.{Float}
 use Rattle.bernstein.specs.Evaluate.{evaluateOf}
 use Rattle.bernstein.specs.Bisect.{bisectOf}
-use Rattle.bernstein.specs.Roots.{RootsResult, found, refused, allFinite, tiny, toleranceOf, derivativeOf, knotsOf, zerosOf, noSignChange, withRoot, andThen, bisectFrom, bisectBetween, gathered, sortedDedup, levelOf, onLevel, rootsAt, rootsOf}
+use Rattle.float.specs.Magnitude.{allFinite}
+use Rattle.bernstein.specs.Roots.{RootsResult, found, refused, tiny, toleranceOf, derivativeOf, knotsOf, zerosOf, noSignChange, withRoot, andThen, bisectFrom, bisectBetween, gathered, sortedDedup, levelOf, onLevel, rootsAt, rootsOf}
 use Rattle.bernstein.specs.declared.Bisected.{Bisected}
 use Rattle.bernstein.specs.declared.Bisected.the-variants.{At, Spent}
 

@@ -1,14 +1,15 @@
 -- The roots from 0 to 1 of a polynomial in Bernstein form, within a budget of halvings. Definitions only.
 use Prim.Native.Nat.{ℕ, zero, suc, _-_}
 use mathlib.Core.List.{List, [], _∷_, _++_}
-use mathlib.Core.Bool.{Bool, true, false, cond}
+use mathlib.Core.Bool.{Bool, true, cond}
 use mathlib.Core.Path.{_≡_}
 use lib.Dec.{eqb, ltb}
 use lib.ListN.{length, drop}
 use lib.Ieee.{Float, lt, le}
 use Rattle.float.specs.Numbers.{_⊖_, _⊗_, asFloat, 0f, 1f, 1e-28, 1e-13, 2e-13, 1e-10}
-use Rattle.float.specs.Sign.{abs, isFinite}
-use Rattle.float.specs.Order.{max, before}
+use Rattle.float.specs.Sign.{abs}
+use Rattle.float.specs.Order.{before}
+use Rattle.float.specs.Magnitude.{allFinite, largestOf}
 use Rattle.bernstein.specs.Evaluate.{evaluateOf}
 use Rattle.bernstein.specs.Bisect.{sameSign, bisectOf}
 use Rattle.bernstein.specs.declared.Bisected.{Bisected}
@@ -22,15 +23,6 @@ pub data RootsResult : Type 0 where
   refused : ℕ → ℕ → RootsResult
 
 -- ---- the coefficients
-
-unfoldable pub allFinite : List Float → Bool
-allFinite [] = true
-allFinite (x ∷ xs) = cond (isFinite x) (allFinite xs) false
-
--- the largest magnitude, and m at least
-unfoldable pub largestOf : Float → List Float → Float
-largestOf m [] = m
-largestOf m (x ∷ xs) = largestOf (max m (abs x)) xs
 
 -- so small that all of it counts as nothing
 unfoldable pub tiny : List Float → Bool

@@ -3,7 +3,6 @@ use crate::Bisected;
 use crate::Roots;
 use crate::bisection::bisect;
 use crate::bisection::same_sign;
-use crate::coefficients::largest;
 use crate::sort_dedup::sort_dedup;
 use crate::value::evaluate;
 ghost use Prim.Native.Nat.{_+_, _≤_};
@@ -11,6 +10,7 @@ ghost use mathlib.Core.List.{[], _∷_, _++_};
 ghost use mathlib.Core.Path.{_≡_};
 ghost use lib.ListN.{length, take, drop};
 ghost use Rattle.float.specs.Numbers.{0f, 1f, 1e-10};
+ghost use Rattle.float.specs.Magnitude.{largestOf};
 ghost use Rattle.bernstein.specs.Roots.{sortOnto, dedupOf, isZero, zerosOf, noSignChange, bisectBetween, gathered, levelOf, Searched};
 ghost use Rattle.bernstein.specs.Contracts.{RootsAtFront};
 
@@ -122,12 +122,18 @@ fn settle(f: &mut [f64], out: &mut [f64]) -> usize
     r
 }
 
-// One level of the search, at the derivative's roots ts.
-pub(crate) fn roots_between(c: &[f64], ts: &[f64], out: &mut [f64], budget: usize) -> Roots
-    requires { ⌜ (length (now ts) ≤ 26) × (28 ≤ length (now out)) ⌝ }
+// One level of the search, at the derivative's roots ts; the largest magnitude of c is known.
+pub(crate) fn roots_between(
+    c: &[f64],
+    largest: f64,
+    ts: &[f64],
+    out: &mut [f64],
+    budget: usize,
+) -> Roots
+    requires { ⌜ (length (now ts) ≤ 26) × (28 ≤ length (now out)) × (largest ≡ largestOf 0f (now c)) ⌝ }
     ensures { λ r. ⌜ Searched (levelOf (now (c .entry)) (now (ts .entry)) budget) (now (out .entry)) (now (out .exit)) r ⌝ }
 {
-    let eps = largest(c) * 2e-13;
+    let eps = largest * 2e-13;
     let n = ts.len() + 2;
     let mut k = join(ts);
     let m = sort_dedup(&mut k[..n], 1e-13);

@@ -1,10 +1,9 @@
 // The search for the roots from 0 to 1.
 use crate::MOST;
 use crate::Roots;
-use crate::coefficients::all_finite;
 use crate::coefficients::derivative;
-use crate::coefficients::largest;
 use crate::level::roots_between;
+use float::Magnitude;
 ghost use Prim.Native.Nat.{_≤_};
 ghost use lib.ListN.{length};
 ghost use Rattle.bernstein.specs.Roots.{rootsOf, searchOf, Searched};
@@ -24,10 +23,10 @@ fn roots_in(c: &[f64], found: &mut [f64], budget: usize) -> Roots
     if MOST < n {
         return Roots::Refused(20, budget);
     }
-    if !all_finite(c) {
+    let Magnitude::Largest(largest) = float::largest_magnitude(c) else {
         return Roots::Refused(20, budget);
-    }
-    if largest(c) < 1e-28 {
+    };
+    if largest < 1e-28 {
         return Roots::Found(0, budget);
     }
     if n == 1 {
@@ -39,7 +38,7 @@ fn roots_in(c: &[f64], found: &mut [f64], budget: usize) -> Roots
     let Roots::Found(m, left) = below else {
         return below;
     };
-    roots_between(c, &ts[..m], found, left)
+    roots_between(c, largest, &ts[..m], found, left)
 }
 
 // Finds the roots of the polynomial with the coefficients c and puts them, in order, to the front of found. Each halving takes one of

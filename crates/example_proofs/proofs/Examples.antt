@@ -6,9 +6,10 @@ use Rattle.sketch.specs.Drawing.{curveIn, usesOf, pointsOf}
 use Rattle.sketch.specs.Valid.{okCoordinate, sortOf}
 use Rattle.image.specs.Image.{headFault, rowsAt, resultOf}
 use Rattle.image.specs.Encode.{header, encode}
+use Rattle.float.specs.Magnitude.{allFinite, largestOf, finiteFront, magnitudeOf}
 use Rattle.bernstein.specs.Evaluate.{casteljauStep, casteljauSteps, evaluateOf}
 use Rattle.bernstein.specs.Bisect.{middle, narrow, sameSign, bisectOf}
-use Rattle.bernstein.specs.Roots.{allFinite, largestOf, tiny, toleranceOf, slopes, derivativeOf, insert, sortOnto, dedupAfter, dedupOf, knotsOf, isZero, zerosOf, noSignChange, withRoot, andThen, bisectFrom, bisectBetween, gathered, sortedDedup, levelOf, onLevel, rootsAt, rootsOf}
+use Rattle.bernstein.specs.Roots.{tiny, toleranceOf, slopes, derivativeOf, insert, sortOnto, dedupAfter, dedupOf, knotsOf, isZero, zerosOf, noSignChange, withRoot, andThen, bisectFrom, bisectBetween, gathered, sortedDedup, levelOf, onLevel, rootsAt, rootsOf}
 use Rattle.shape.proofs.Opened.{opened}
 use Rattle.sketch_geometry.specs.Geometry.{positionOf, shapeOf, shapeFrom}
 use Rattle.relations.specs.Met.{met, on}
@@ -33,7 +34,7 @@ unfolding field bytes guardNumber headFault rowsAt resultOf header encode
 opened-images = tt
 
 unfoldable opened-roots : Unit {0}
-unfolding casteljauStep casteljauSteps evaluateOf middle narrow sameSign bisectOf allFinite largestOf tiny toleranceOf slopes derivativeOf insert sortOnto dedupAfter dedupOf knotsOf isZero zerosOf noSignChange withRoot andThen bisectFrom bisectBetween gathered sortedDedup levelOf onLevel rootsAt rootsOf
+unfolding casteljauStep casteljauSteps evaluateOf middle narrow sameSign bisectOf allFinite largestOf finiteFront magnitudeOf tiny toleranceOf slopes derivativeOf insert sortOnto dedupAfter dedupOf knotsOf isZero zerosOf noSignChange withRoot andThen bisectFrom bisectBetween gathered sortedDedup levelOf onLevel rootsAt rootsOf
 opened-roots = tt
 
 unfoldable opened-edits : Unit {0}
@@ -59,4 +60,8 @@ examples-hold =
       root-at-the-start = refl;
       root-touched = refl;
       extended = refl;
+      magnitude-of-none = refl;
+      magnitude-of-minus-zero = refl;
+      magnitude-below-zero = refl;
+      magnitude-not-finite-twice = refl;
     }

@@ -2,8 +2,11 @@
 use mathlib.Core.Path.{_≡_}
 use mathlib.Core.List.{List, [], _∷_}
 use Prim.Native.Nat.{ℕ}
-use lib.Ieee.{Float, neg, binary64, ofBits}
+use lib.Ieee.{Float, nan, inf, neg, binary64, ofBits}
+use mathlib.Core.Bool.{true}
 use Rattle.float.specs.Numbers.{asFloat, ½, 0f, 1f}
+use Rattle.float.specs.Magnitude.{magnitudeOf}
+use Rattle.float.specs.declared.Magnitude.the-variants.{Largest, NotFinite}
 use Rattle.bernstein.specs.Roots as R
 use Rattle.bernstein.specs.Roots.{rootsOf, found}
 use Rattle.geom.specs.Plane.{vec}
@@ -68,3 +71,8 @@ pub record Examples : Type 0 where
   pub extended :
       editOf Extend limits T5 3 (mkVec 2 0)
       ≡ accepted (mkDrawing 7 (mkPoint 1 0 0 ∷ mkPoint 2 5 0 ∷ below 4 5 ∷ mkPoint 5 5 1 ∷ []) (mkLine 3 1 2 ∷ mkLine 6 4 5 ∷ []) (PointOnCurve 2 6 ∷ [])) nothing
+  -- 02's, of the largest magnitude
+  pub magnitude-of-none : magnitudeOf [] ≡ Largest 0f
+  pub magnitude-of-minus-zero : magnitudeOf (neg 0f ∷ []) ≡ Largest 0f
+  pub magnitude-below-zero : magnitudeOf (neg (asFloat 3) ∷ asFloat 2 ∷ []) ≡ Largest (asFloat 3)
+  pub magnitude-not-finite-twice : magnitudeOf (1f ∷ nan ∷ inf true ∷ []) ≡ NotFinite 1

@@ -9,6 +9,7 @@ pub mod Signs
 pub mod Ordered
 pub mod TotalOrder
 pub mod Larger
+pub mod LargestMagnitude
 pub mod Literals
 -- ---- what these, and the proofs of the functions, rest on
 pub mod WholeRoots

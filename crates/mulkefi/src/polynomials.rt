@@ -1,7 +1,9 @@
-// Roots of a polynomial in Bernstein form.
+// Roots of a polynomial in Bernstein form, and the largest magnitude of its coefficients or of any list.
 use bernstein::Roots;
+use float::Magnitude;
 ghost use lib.ListN.{length};
 ghost use Rattle.bernstein.specs.Roots.{searchOf};
+ghost use Rattle.float.specs.Magnitude.{MagnitudeWritten};
 ghost use Rattle.mulkefi.specs.Polynomials.{RootsWritten};
 
 // Accepted, it answers 0: the roots stand in order at the front of `found`, and `answer` holds how many they are and the budget that is
@@ -26,4 +28,19 @@ pub extern "C" fn mulkefi_roots(
     answer[0] = count as u64;
     answer[1] = left as u64;
     0
+}
+
+// How many finite numbers the list begins with. Where that is all of them, `largest` becomes their largest magnitude; where not, it is the
+// place of the first that is not finite, and `largest` is left.
+#[no_mangle]
+pub extern "C" fn mulkefi_largest_magnitude(c: &[f64], largest: &mut [f64; 1]) -> usize
+    ensures { λ r. ⌜ MagnitudeWritten (now (c .entry)) (now (largest .entry)) (now (largest .exit)) r ⌝ }
+{
+    match float::largest_magnitude(c) {
+        Magnitude::NotFinite(place) => place,
+        Magnitude::Largest(m) => {
+            largest[0] = m;
+            c.len()
+        }
+    }
 }

@@ -1,10 +1,12 @@
-// Polynomials in Bernstein form: value and roots.
+// Polynomials in Bernstein form: value, roots, and the largest magnitude of the coefficients or of any list.
 ghost use mathlib.Core.Path.{_≡_};
 ghost use lib.ListN.{length};
 ghost use Rattle.bernstein.specs.Evaluate.{evaluateOf};
 ghost use Rattle.bernstein.specs.Roots.{searchOf};
+ghost use Rattle.float.specs.Magnitude.{MagnitudeWritten};
 ghost use Rattle.probe.specs.Polynomials.{RootsAndBudgetWritten};
 use bernstein::Roots;
+use float::Magnitude;
 
 #[no_mangle]
 pub extern "C" fn mulkefi_evaluate(c: &[f64], t: f64) -> f64
@@ -36,4 +38,19 @@ pub extern "C" fn mulkefi_roots(
     answer[0] = count as u64;
     answer[1] = left as u64;
     0
+}
+
+// How many finite numbers the list begins with. Where that is all of them, `largest` becomes their largest magnitude; where not, it is the
+// place of the first that is not finite, and `largest` is left.
+#[no_mangle]
+pub extern "C" fn mulkefi_largest_magnitude(c: &[f64], largest: &mut [f64; 1]) -> usize
+    ensures { λ r. ⌜ MagnitudeWritten (now (c .entry)) (now (largest .entry)) (now (largest .exit)) r ⌝ }
+{
+    match float::largest_magnitude(c) {
+        Magnitude::NotFinite(place) => place,
+        Magnitude::Largest(m) => {
+            largest[0] = m;
+            c.len()
+        }
+    }
 }

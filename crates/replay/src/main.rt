@@ -2,6 +2,7 @@
 mod edits;
 mod entries;
 mod images;
+mod magnitudes;
 mod messages;
 mod patterns;
 mod report;
@@ -41,6 +42,7 @@ fn main() {
     replay_file(b"images", b"images.bin", Subject::Images);
     replay_file(b"messages", b"messages.bin", Subject::Messages);
     replay_file(b"square roots", b"square_roots.bin", Subject::SquareRoots);
+    replay_file(b"magnitudes", b"magnitudes.bin", Subject::Magnitudes);
     replay_file(b"roots", b"roots.bin", Subject::Roots);
     replay_file(b"edits", b"edits.bin", Subject::Edits);
     replay_file(b"runs", b"runs.bin", Subject::Runs);

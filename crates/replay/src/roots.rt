@@ -1,7 +1,7 @@
 // Roots of polynomials: the input is how many floats are lent and how many coefficients there are, in a byte each, the
 // budget and what is left of it, in eight bytes each, and the patterns of the coefficients and then of the roots.
 use crate::patterns::has_pattern;
-use crate::patterns::number;
+use crate::patterns::numbers;
 use bernstein::Roots;
 use big_endian::get1;
 use big_endian::get8;
@@ -25,19 +25,6 @@ fn untouched() -> [f64; MOST_LENT]
     ensures { λ r. ⌜ length r ≡ 40 ⌝ }
 {
     [UNTOUCHED; MOST_LENT]
-}
-
-fn coefficients(input: &[u8], n: usize) -> [f64; MOST_COEFFICIENTS]
-    requires { ⌜ n ≤ 20 ⌝ }
-    ensures { λ r. ⌜ length r ≡ 20 ⌝ }
-{
-    let mut c = [0.0; MOST_COEFFICIENTS];
-    let mut i: usize = 0;
-    while i < n {
-        c[i] = number(get8(input, HEAD + 8 * i));
-        i += 1;
-    }
-    c
 }
 
 // Whether the roots from a place on, so many of them, lie at the front of the lent floats, and the others are untouched.
@@ -77,7 +64,7 @@ pub(crate) fn alike(outcome: u8, input: &[u8]) -> bool {
     if MOST_COEFFICIENTS < n {
         return false;
     }
-    let c = coefficients(input, n);
+    let c = numbers(input, HEAD, n);
     let mut found = untouched();
     let budget = get8(input, 2) as usize;
     let left = get8(input, 10) as usize;

@@ -3,6 +3,7 @@ use crate::edits;
 use crate::entries::Entry;
 use crate::entries::entry_at;
 use crate::images;
+use crate::magnitudes;
 use crate::messages;
 use crate::roots;
 use crate::runs;
@@ -19,6 +20,7 @@ pub(crate) enum Subject {
     Images,
     Messages,
     SquareRoots,
+    Magnitudes,
     Roots,
     Edits,
     Runs,
@@ -29,6 +31,7 @@ fn alike(subject: Subject, outcome: u8, input: &[u8]) -> bool {
         Subject::Images => images::alike(outcome, input),
         Subject::Messages => messages::alike(outcome, input),
         Subject::SquareRoots => square_roots::alike(outcome, input),
+        Subject::Magnitudes => magnitudes::alike(outcome, input),
         Subject::Roots => roots::alike(outcome, input),
         Subject::Edits => edits::alike(outcome, input),
         Subject::Runs => runs::alike(outcome, input),

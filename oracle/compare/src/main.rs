@@ -1,8 +1,8 @@
 //! Feeds generated inputs to the engine's static library and to the oracle and compares every
 //! answer, every byte written and every byte left alone.
 //!
-//! `compare [images] [messages] [seed] [figures] [square roots] [polynomials] [relations] [edits] [runs]`:
-//! how many of each, and where the generator starts. So many edits are trims and splits, as many
+//! `compare [images] [messages] [seed] [figures] [square roots] [polynomials] [relations] [edits] [runs]
+//! [lists]`: how many of each, and where the generator starts. So many edits are trims and splits, as many
 //! again extends and as many sums of both.
 
 mod copies;
@@ -12,6 +12,7 @@ mod edit_rows;
 mod edits;
 mod hex;
 mod images;
+mod magnitudes;
 mod measures;
 mod messages;
 mod number;
@@ -38,6 +39,7 @@ const RELATIONS: u64 = 1_000_000;
 const POLYNOMIALS: u64 = 320_000;
 const EDITS: u64 = 300_000;
 const RUNS: u64 = 50_000;
+const LISTS: u64 = 400_000;
 
 fn versions() -> Result<(), String> {
     let (oracle, engine) =
@@ -64,6 +66,7 @@ fn compare_all() -> Result<(), String> {
     subject::run::<sketches::Sketches>(image_cases, seed)?;
     subject::run::<relations::Relations>(relation_cases, seed)?;
     subject::run::<messages::Messages>(message_cases, seed)?;
+    subject::run::<magnitudes::Magnitudes>(cases(10, LISTS), seed)?;
     if !upstream::PRESENT {
         println!("roots and edits: the upstream source is absent, skipped");
         return Ok(());

@@ -30,7 +30,7 @@ pub struct Answer {
 }
 
 /// Upstream's evaluation has room for so many coefficients.
-const MOST: usize = 15;
+pub const MOST: usize = 15;
 /// What the lent buffer holds before a call.
 const FILL: f64 = -7.25;
 
@@ -67,7 +67,8 @@ fn place(random: &mut Random) -> f64 {
     random.weighted(&[(8, within), (1, 0.0), (1, 1.0), (1, -0.0), (1, 2.5), (1, any)])
 }
 
-fn upstream_search(coefficients: &[f64], lent: &mut [f64], budget: usize) -> Search {
+/// Upstream's search as the engine answers it.
+pub fn upstream_search(coefficients: &[f64], lent: &mut [f64], budget: usize) -> Search {
     let search = roots(coefficients, budget, lent);
     let refusal = u32::from(number_of(&search.found));
     Search { refusal, count: search.found.unwrap_or(0), budget: search.budget }
@@ -124,25 +125,7 @@ impl Subject for Roots {
     }
 
     fn shrink(case: Case, differs: impl Fn(&Case) -> bool) -> Case {
-        let mut numbers = case.numbers();
-        let mut at = 0;
-        while at < numbers.len() {
-            let mut fewer = numbers.clone();
-            fewer.remove(at);
-            if differs(&case.with(fewer.clone())) {
-                numbers = fewer;
-            } else {
-                at += 1;
-            }
-        }
-        for at in 0..numbers.len() {
-            let others = numbers.clone();
-            [numbers[at]] = simpler::numbers([numbers[at]], |[number]| {
-                let mut changed = others.clone();
-                changed[at] = *number;
-                differs(&case.with(changed))
-            });
-        }
+        let numbers = simpler::list(case.numbers(), |list| differs(&case.with(list.to_vec())));
         case.with(numbers)
     }
 }

@@ -1,4 +1,4 @@
-//! Shrinking of numbers: towards 0 and 1, few digits and no sign.
+//! Shrinking of numbers: towards 0 and 1, few digits and no sign; of lists towards fewer of them.
 
 use oracle::generate::patterns::{BIAS, MANTISSA, MANTISSA_BITS};
 
@@ -22,6 +22,29 @@ pub fn numbers<const N: usize>(
             return numbers;
         }
     }
+}
+
+/// Leaves out each number that the difference does not need, and makes the others simpler.
+pub fn list(mut list: Vec<f64>, differs: impl Fn(&[f64]) -> bool) -> Vec<f64> {
+    let mut at = 0;
+    while at < list.len() {
+        let mut fewer = list.clone();
+        fewer.remove(at);
+        if differs(&fewer) {
+            list = fewer;
+        } else {
+            at += 1;
+        }
+    }
+    for at in 0..list.len() {
+        let others = list.clone();
+        [list[at]] = numbers([list[at]], |[number]| {
+            let mut changed = others.clone();
+            changed[at] = *number;
+            differs(&changed)
+        });
+    }
+    list
 }
 
 /// Numbers like this one but of less weight: of fewer digits, nearer to 1 in size, or positive.

@@ -1,4 +1,4 @@
-//! Polynomials in Bernstein form: value and roots.
+//! Polynomials in Bernstein form: value, roots, and the largest magnitude of any list.
 
 mod interface {
     extern "C" {
@@ -11,6 +11,11 @@ mod interface {
             budget: usize,
             answer: &mut [u64; 2],
         ) -> u32;
+        pub fn mulkefi_largest_magnitude(
+            numbers: *const f64,
+            len: usize,
+            largest: &mut [f64; 1],
+        ) -> usize;
     }
 }
 
@@ -45,4 +50,12 @@ pub fn roots(coefficients: &[f64], found: &mut [f64], budget: usize) -> Search {
     };
     let [count, left] = answer.map(|number| number as usize);
     Search { refusal, count, budget: left }
+}
+
+/// How many finite numbers a list begins with. Where all are, the largest magnitude goes to
+/// `largest`, which otherwise is left.
+#[inline]
+pub fn largest_magnitude(numbers: &[f64], largest: &mut [f64; 1]) -> usize {
+    // SAFETY: both are lent for the call, and the engine stays within their lengths.
+    unsafe { interface::mulkefi_largest_magnitude(numbers.as_ptr(), numbers.len(), largest) }
 }

@@ -1,4 +1,4 @@
-//! Seeded inputs: drawings, images good and damaged, messages, lists of edits, figures and patterns.
+//! Seeded inputs: drawings, images good and damaged, messages, lists of edits and of numbers, figures and patterns.
 
 pub mod arches;
 pub mod bridges;
@@ -13,6 +13,7 @@ pub mod extensions;
 pub mod fields;
 pub mod figures;
 pub mod frame;
+pub mod lists;
 pub mod messages;
 pub mod near_misses;
 pub mod near_relations;

@@ -7,6 +7,7 @@ mod edit_sorts;
 mod edits;
 mod faults;
 mod images;
+mod magnitudes;
 mod messages;
 mod roots;
 mod runs;
@@ -18,6 +19,7 @@ use std::collections::BTreeSet;
 
 pub use edits::{edit_coverage, edits};
 pub use images::images;
+pub use magnitudes::magnitudes;
 pub use messages::messages;
 pub use roots::root_searches;
 pub use runs::{run_coverage, runs, OLD};

@@ -19,6 +19,7 @@ pub type DeskEdit = unsafe extern "C" fn(
 pub type WallDeliver =
     unsafe extern "C" fn(*mut u8, usize, usize, u32, *const u8, usize, *mut u32) -> u32;
 pub type Roots = unsafe extern "C" fn(*const f64, usize, *mut f64, usize, usize, *mut u64) -> u32;
+pub type LargestMagnitude = unsafe extern "C" fn(*const f64, usize, *mut f64) -> usize;
 
 /// All but `mulkefi_versions`, which takes nothing.
 #[derive(Clone, Copy)]
@@ -27,6 +28,7 @@ pub struct Calls {
     pub desk_edit: DeskEdit,
     pub wall_deliver: WallDeliver,
     pub roots: Roots,
+    pub largest_magnitude: LargestMagnitude,
 }
 
 pub const ENGINE: Calls = Calls {
@@ -34,4 +36,5 @@ pub const ENGINE: Calls = Calls {
     desk_edit: raw::mulkefi_desk_edit,
     wall_deliver: raw::mulkefi_wall_deliver,
     roots: raw::mulkefi_roots,
+    largest_magnitude: raw::mulkefi_largest_magnitude,
 };

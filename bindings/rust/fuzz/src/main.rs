@@ -12,6 +12,7 @@ mod calls;
 mod desk;
 mod guard;
 mod inputs;
+mod magnitude;
 mod planted;
 mod roots;
 mod tally;
@@ -44,7 +45,7 @@ struct Options {
 fn main() -> ExitCode {
     let Some(options) = options() else {
         eprintln!("fuzz [SECONDS [SEED]] [--planted FAULT]");
-        planted::ALL.iter().for_each(|(name, what)| eprintln!("  {name:<18} {what}"));
+        planted::ALL.iter().for_each(|(name, what)| eprintln!("  {name:<20} {what}"));
         return ExitCode::from(2);
     };
     watchdog::begin(options.seed, options.time_limit);
@@ -95,6 +96,7 @@ fn run(options: &Options, tally: &mut Tally) -> Result<(), String> {
     let mut wall = wall::Subject::new();
     let mut test = test::Subject::new();
     let mut roots = roots::Subject::new();
+    let mut magnitude = magnitude::Subject::new();
     let calls = &options.calls;
     while Instant::now() < end {
         if mulkefi::versions() != mulkefi::VERSIONS {
@@ -102,11 +104,12 @@ fn run(options: &Options, tally: &mut Tally) -> Result<(), String> {
         }
         for _ in 0..64 {
             watchdog::next_case();
-            let (name, outcome) = match random.below(8) {
+            let (name, outcome) = match random.below(9) {
                 0..=2 => ("desk_edit", desk.try_one(calls, &mut random)),
                 3..=5 => ("wall_deliver", wall.try_one(calls, &mut random)),
                 6 => ("test", test.try_one(calls, &mut random)),
-                _ => ("roots", roots.try_one(calls, &mut random)),
+                7 => ("roots", roots.try_one(calls, &mut random)),
+                _ => ("largest_magnitude", magnitude.try_one(calls, &mut random)),
             };
             tally.add(name, outcome.map_err(|fault| format!("mulkefi_{name}: {fault}"))?);
         }

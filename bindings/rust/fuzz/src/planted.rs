@@ -4,7 +4,7 @@ use crate::calls::{Calls, ENGINE};
 use mulkefi::raw;
 
 /// Names, and what each does.
-pub const ALL: [(&str, &str); 10] = [
+pub const ALL: [(&str, &str); 12] = [
     ("writes-behind", "an accepted edit writes the byte behind its buffer"),
     ("writes-before", "an accepted edit writes the byte before its buffer"),
     ("writes-rest", "an accepted edit writes the byte behind the new image"),
@@ -13,6 +13,8 @@ pub const ALL: [(&str, &str); 10] = [
     ("reads-behind", "a delivery reads the byte behind the message"),
     ("writes-input", "the test writes to its image"),
     ("writes-roots", "a search writes one root more than it found"),
+    ("reads-number-behind", "a pass over a list reads the number behind it"),
+    ("writes-largest", "a pass that meets a NaN writes to the largest"),
     ("endless", "the test does not end for an empty slice"),
     ("deep", "the test needs more stack than the header says"),
 ];
@@ -27,6 +29,8 @@ pub fn by_name(name: &str) -> Option<Calls> {
         "reads-behind" => Calls { wall_deliver: reads_behind, ..ENGINE },
         "writes-input" => Calls { test: writes_input, ..ENGINE },
         "writes-roots" => Calls { roots: writes_roots, ..ENGINE },
+        "reads-number-behind" => Calls { largest_magnitude: reads_number_behind, ..ENGINE },
+        "writes-largest" => Calls { largest_magnitude: writes_largest, ..ENGINE },
         "endless" => Calls { test: endless, ..ENGINE },
         "deep" => Calls { test: deep, ..ENGINE },
         _ => return None,
@@ -128,6 +132,23 @@ unsafe extern "C" fn writes_roots(
         found.add(*answer as usize).write_volatile(0.5);
     }
     result
+}
+
+unsafe extern "C" fn reads_number_behind(
+    numbers: *const f64,
+    n: usize,
+    largest: *mut f64,
+) -> usize {
+    numbers.add(n).read_volatile();
+    raw::mulkefi_largest_magnitude(numbers, n, largest)
+}
+
+unsafe extern "C" fn writes_largest(numbers: *const f64, n: usize, largest: *mut f64) -> usize {
+    let place = raw::mulkefi_largest_magnitude(numbers, n, largest);
+    if place < n {
+        largest.write_volatile(0.0);
+    }
+    place
 }
 
 unsafe extern "C" fn endless(image: *const u8, len: usize) -> u32 {

@@ -5,6 +5,8 @@ use std::fmt;
 
 /// Stands for an old message among the outcomes' numbers.
 pub const OLD: u32 = u32::MAX;
+/// Stands for a list with a number that is not finite.
+pub const NOT_FINITE: u32 = u32::MAX - 1;
 
 #[derive(Default)]
 pub struct Tally(BTreeMap<&'static str, BTreeMap<u32, u64>>);
@@ -18,11 +20,12 @@ impl Tally {
 impl fmt::Display for Tally {
     fn fmt(&self, f: &mut fmt::Formatter<'_>) -> fmt::Result {
         for (call, outcomes) in &self.0 {
-            write!(f, "  {call:<14}{:>9}:", outcomes.values().sum::<u64>())?;
+            write!(f, "  {call:<18}{:>9}:", outcomes.values().sum::<u64>())?;
             for (number, count) in outcomes {
                 match *number {
                     0 => write!(f, " accepted:{count}")?,
                     OLD => write!(f, " old:{count}")?,
+                    NOT_FINITE => write!(f, " not finite:{count}")?,
                     number => write!(f, " {number}:{count}")?,
                 }
             }

@@ -22,6 +22,8 @@ fn planted_faults_are_seen() {
         ("reads-behind", ["memory that it was not lent"; 2]),
         ("writes-input", ["memory that it was not lent"; 2]),
         ("writes-roots", ["of the roots altered"; 2]),
+        ("reads-number-behind", ["memory that it was not lent"; 2]),
+        ("writes-largest", ["of the largest altered"; 2]),
         ("endless", ["did not end"; 2]),
         ("deep", ["memory that it was not lent"; 2]),
     ];

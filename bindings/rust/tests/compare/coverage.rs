@@ -5,6 +5,8 @@ use std::fmt;
 
 /// Stands for an old message among the outcomes' numbers.
 pub const OLD: u32 = u32::MAX;
+/// Stands for a list with a number that is not finite.
+pub const NOT_FINITE: u32 = u32::MAX - 1;
 
 #[derive(Default)]
 pub struct Coverage(BTreeMap<(&'static str, u32), usize>);
@@ -27,6 +29,7 @@ impl fmt::Display for Coverage {
             match *number {
                 0 => write!(f, " accepted:{count}")?,
                 OLD => write!(f, " old:{count}")?,
+                NOT_FINITE => write!(f, " not finite:{count}")?,
                 number => write!(f, " {number}:{count}")?,
             }
         }

@@ -1,13 +1,16 @@
-//! Desk, wall, the C interface and the search for roots against the oracle, on generated input.
+//! Desk, wall, the C interface, the search for roots and the largest magnitude against the oracle, on
+//! generated input.
 //!
 //! `cargo test --release --test compare -- CASES SEED`; the cases are also taken from MULKEFI_CASES.
 //! Of so many cases a quarter each are desk calls, deliveries, calls with rooms of every size and
-//! searches; a further one in forty is a whole run. What came up is printed by outcome.
+//! searches; as many again are lists of numbers, and a further one in forty is a whole run. What came
+//! up is printed by outcome.
 
 mod boundary;
 mod cases;
 mod coverage;
 mod implementations;
+mod magnitudes;
 mod runs;
 mod searches;
 
@@ -45,6 +48,7 @@ fn compare(cases: usize, seed: u64) -> Result<(), String> {
     report("deliveries", share, |seen| steps::<Engine>(random, share, cases::wall, seen))?;
     report("rooms", share, |seen| boundary::compare(random, share, seen))?;
     report("searches", share, |seen| searches::compare(random, share, seen))?;
+    report("magnitudes", share, |seen| magnitudes::compare(random, share, seen))?;
     report("runs", cases / 40, |seen| runs::compare(random, cases / 40, seen))
 }
 

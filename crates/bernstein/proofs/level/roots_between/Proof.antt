@@ -16,10 +16,10 @@ use Rattle.bernstein.proofs.level.roots_between.Tie as tie
 -- the knots are tidied
 module _ (c : tie.After-sort-dedup) where
   abbrev ts : List Float
-  ts = c .before .before .before .before .before .before .before .args .ts .now
+  ts = c .before .before .before .before .before .before .args .ts .now
 
   few : length ts ≤ 26
-  few = c .before .before .before .before .before .before .before .pre .0
+  few = c .before .before .before .before .before .before .pre .0
 
   abbrev knots : List Float
   knots = take (c .sort-dedup .result) (c .sort-dedup .last .0 ++ drop (length ts + 2) (c .before .before .join .result))
@@ -39,10 +39,10 @@ module _ (c : tie.After-sort-dedup) where
 -- the search between them is done
 module _ (c : tie.After-between) where
   abbrev cs : List Float
-  cs = c .before .before .before .before .before .before .before .before .before .before .before .before .before .before .before .args .c .now
+  cs = c .before .before .before .before .before .before .before .before .before .before .before .before .before .before .args .c .now
 
   abbrev budget : ℕ
-  budget = c .before .before .before .before .before .before .before .before .before .before .before .before .before .before .before .args .budget
+  budget = c .before .before .before .before .before .before .before .before .before .before .before .before .before .before .args .budget
 
   abbrev tidied : tie.After-sort-dedup
   tidied = c .before .before .before .before .before .before .before .before
@@ -51,13 +51,13 @@ module _ (c : tie.After-between) where
   zeros = take (c .before .before .before .before .zeros .result) (c .before .before .before .before .zeros .last .1 .1 .1 .0)
 
   abbrev largest : Float
-  largest = c .before .before .before .before .before .before .before .before .before .before .before .largest .result
+  largest = c .before .before .before .before .before .before .before .before .before .before .before .before .before .before .args .largest
 
   abbrev gathering : RootsResult
   gathering = gathered zeros (bisectBetween cs (largest ⊗ 2e-13) (knots tidied) budget)
 
   is-level : levelOf cs (ts tidied) budget ≡ sortedDedup gathering
-  is-level = level-is cs (ts tidied) (knots tidied) zeros budget largest (are tidied) (c .before .before .before .before .before .before .before .before .before .before .before .largest .ensures) (c .before .before .before .before .zeros .ensures .0)
+  is-level = level-is cs (ts tidied) (knots tidied) zeros budget largest (are tidied) (c .before .before .before .before .before .before .before .before .before .before .before .before .before .before .pre .2) (c .before .before .before .before .zeros .ensures .0)
 
   refusal : (w left : ℕ) → c .between .result ≡ Refused w left → levelOf cs (ts tidied) budget ≡ refused w left
   refusal w left e = level-refused cs (ts tidied) budget gathering is-level (c .between .last .1 .1 .1 .0) (c .between .result) (c .between .ensures) w left e
@@ -75,9 +75,6 @@ module _ (c : tie.After-between) where
     roots-found : levelOf cs (ts tidied) budget ≡ found (dedupOf 1e-10 (sortOnto [] (take q (c .between .last .1 .1 .1 .0)))) left
     roots-found = level-found cs (ts tidied) budget gathering is-level (c .between .last .1 .1 .1 .0) (c .between .result) (c .between .ensures) q left e
 
-largest-requires : tie.Need-largest-requires
-largest-requires c κs = search needs
-
 add-n : tie.Need-add-n
 add-n c = search needs
 
@@ -88,7 +85,7 @@ array-borrow-prefix-k : tie.Need-array-borrow-prefix-k
 array-borrow-prefix-k c = search needs
 
 slice-aggregate-sort-dedup : tie.Need-slice-aggregate-sort-dedup
-slice-aggregate-sort-dedup c = part-length (c .before .before .before .before .before .before .args .ts .now) (c .before .join .result) [] 0 (c .before .join .ensures .0)
+slice-aggregate-sort-dedup c = part-length (c .before .before .before .before .before .args .ts .now) (c .before .join .result) [] 0 (c .before .join .ensures .0)
 
 sort-dedup-requires : tie.Need-sort-dedup-requires
 sort-dedup-requires c κs = search needs
@@ -135,7 +132,7 @@ slice-aggregate-settle : tie.Need-slice-aggregate-settle
 slice-aggregate-settle c = gathered-count (c .before .before .before .before .before) _ _ (c .before .before .got .given .1)
 
 settle-requires : tie.Need-settle-requires
-settle-requires c κs = le-trans (few-found (c .before .before .before .before .before .before) _ _ (c .before .before .before .got .given .1)) (le-trans (omega (arith, few (c .before .before .before .before .before .before .before .before .before .before .before .before .before .before))) (c .before .before .before .before .before .before .before .before .before .before .before .before .before .before .before .before .before .before .before .before .before .pre .1))
+settle-requires c κs = le-trans (few-found (c .before .before .before .before .before .before) _ _ (c .before .before .before .got .given .1)) (le-trans (omega (arith, few (c .before .before .before .before .before .before .before .before .before .before .before .before .before .before))) (c .before .before .before .before .before .before .before .before .before .before .before .before .before .before .before .before .before .before .before .before .pre .1))
 
 same-length : tie.Need-same-length
 same-length c = search needs
@@ -147,7 +144,6 @@ pub roots-between-spec : {M : Type 1} → statement M
 roots-between-spec =
     tie.close
     (tie.spec
-    largest-requires
     add-n
     join-requires
     array-borrow-prefix-k

@@ -1,21 +1,19 @@
-use Prim.Native.Nat.{_-_}
+use Prim.Native.Nat.{ℕ, _-_, _<_}
 use mathlib.Core.Path.{_≡_, sym, ap, _∙_}
-use lib.ListN.{length, take}
-use borrow.Author.Tests.{not-true, not-false}
-use Rattle.bernstein.proofs.Counts.{derivative-length}
-use Rattle.bernstein.proofs.Levels.{refuses, finds-none, renamed, none-given, too-many, tiny-is, not-finite, all-tiny, constant, sub-length, sub-fits, sub-few, sub-level, sub-refused}
-use borrow.Author.Needs.{needs}
 use native.Mathlib.Omega.{arith}
-use Prim.Native.Nat.{ℕ, _<_}
+use lib.ListN.{length, take}
+use Rattle.float.proofs.LargestMagnitude.{magnitude-largest}
+use Rattle.bernstein.proofs.Counts.{derivative-length}
+use Rattle.bernstein.proofs.Levels.{refuses, finds-none, renamed, none-given, too-many, not-finite, all-tiny, constant, sub-length, sub-fits, sub-few, sub-level, sub-refused}
+use borrow.Author.Needs.{needs}
 use borrow.Fn.Kinds.{In}
 use borrow.Fn.PlainCycle.{Measures, is, falls, and}
 use Rattle.bernstein.proofs.search.roots_in.Reads as roots-in
 use Rattle.bernstein.proofs.search.roots_in.Kinds as roots-in-kinds
 use Rattle.bernstein.proofs.search.+roots_in.Lts-roots_in as roots-in-lts
-use Rattle.bernstein.proofs.coefficients.all_finite.Reads as all-finite-reads
 use Rattle.bernstein.proofs.coefficients.derivative.Reads as derivative-reads
-use Rattle.bernstein.proofs.coefficients.largest.Reads as largest-reads
 use Rattle.bernstein.proofs.level.roots_between.Reads as roots-between-reads
+use Rattle.float.proofs.largest_magnitude.Reads as largest-magnitude-reads
 use Rattle.bernstein.proofs.search.+roots_in.{statement}
 use Rattle.bernstein.proofs.search.+roots_in.Tie.{close}
 
@@ -30,10 +28,8 @@ roots-in-below t =
     and 2 roots-in-kinds.ps (falls 2 roots-in-kinds.ps _<_ μ-roots-in t) roots-in.Pre
 
 roots-in-returns : (t : ℕ) → roots-in-lts.Need-returns (
-  all-finite-reads.Asked,
-  all-finite-reads.Learnt,
-  largest-reads.Asked,
-  largest-reads.Learnt,
+  largest-magnitude-reads.Asked,
+  largest-magnitude-reads.Learnt,
   derivative-reads.Asked,
   derivative-reads.Learnt,
   roots-in-below t,
@@ -44,10 +40,8 @@ roots-in-returns : (t : ℕ) → roots-in-lts.Need-returns (
 roots-in-returns t c = refuses _ _ _ _ (none-given _ _ (c .if1 .taken))
 
 roots-in-returns-2 : (t : ℕ) → roots-in-lts.Need-returns-2 (
-  all-finite-reads.Asked,
-  all-finite-reads.Learnt,
-  largest-reads.Asked,
-  largest-reads.Learnt,
+  largest-magnitude-reads.Asked,
+  largest-magnitude-reads.Learnt,
   derivative-reads.Asked,
   derivative-reads.Learnt,
   roots-in-below t,
@@ -57,11 +51,9 @@ roots-in-returns-2 : (t : ℕ) → roots-in-lts.Need-returns-2 (
 ) (roots-in-at t) roots-in.Post
 roots-in-returns-2 t c = refuses _ _ _ _ (too-many _ _ (c .if2 .taken))
 
-roots-in-all-finite-requires : (t : ℕ) → roots-in-lts.Need-all-finite-requires (
-  all-finite-reads.Asked,
-  all-finite-reads.Learnt,
-  largest-reads.Asked,
-  largest-reads.Learnt,
+roots-in-largest-magnitude-requires : (t : ℕ) → roots-in-lts.Need-largest-magnitude-requires (
+  largest-magnitude-reads.Asked,
+  largest-magnitude-reads.Learnt,
   derivative-reads.Asked,
   derivative-reads.Learnt,
   roots-in-below t,
@@ -69,13 +61,35 @@ roots-in-all-finite-requires : (t : ℕ) → roots-in-lts.Need-all-finite-requir
   roots-between-reads.Asked,
   roots-between-reads.Learnt,
 ) (roots-in-at t) roots-in.Post
-roots-in-all-finite-requires t c κs = search needs
+roots-in-largest-magnitude-requires t c κs = search needs
+
+roots-in-enum-known-largest : (t : ℕ) → roots-in-lts.Need-enum-known-largest (
+  largest-magnitude-reads.Asked,
+  largest-magnitude-reads.Learnt,
+  derivative-reads.Asked,
+  derivative-reads.Learnt,
+  roots-in-below t,
+  roots-in.Post,
+  roots-between-reads.Asked,
+  roots-between-reads.Learnt,
+) (roots-in-at t) roots-in.Post
+roots-in-enum-known-largest t c = search needs
+
+roots-in-enum-told : (t : ℕ) → roots-in-lts.Need-enum-told (
+  largest-magnitude-reads.Asked,
+  largest-magnitude-reads.Learnt,
+  derivative-reads.Asked,
+  derivative-reads.Learnt,
+  roots-in-below t,
+  roots-in.Post,
+  roots-between-reads.Asked,
+  roots-between-reads.Learnt,
+) (roots-in-at t) roots-in.Post
+roots-in-enum-told t c = search needs
 
 roots-in-returns-3 : (t : ℕ) → roots-in-lts.Need-returns-3 (
-  all-finite-reads.Asked,
-  all-finite-reads.Learnt,
-  largest-reads.Asked,
-  largest-reads.Learnt,
+  largest-magnitude-reads.Asked,
+  largest-magnitude-reads.Learnt,
   derivative-reads.Asked,
   derivative-reads.Learnt,
   roots-in-below t,
@@ -83,27 +97,11 @@ roots-in-returns-3 : (t : ℕ) → roots-in-lts.Need-returns-3 (
   roots-between-reads.Asked,
   roots-between-reads.Learnt,
 ) (roots-in-at t) roots-in.Post
-roots-in-returns-3 t c = refuses _ _ _ _ (not-finite _ _ (c .before .before .if2 .left) (search needs) (sym (c .before .all-finite .ensures) ∙ not-true _ (c .if3 .taken)))
-
-roots-in-largest-requires : (t : ℕ) → roots-in-lts.Need-largest-requires (
-  all-finite-reads.Asked,
-  all-finite-reads.Learnt,
-  largest-reads.Asked,
-  largest-reads.Learnt,
-  derivative-reads.Asked,
-  derivative-reads.Learnt,
-  roots-in-below t,
-  roots-in.Post,
-  roots-between-reads.Asked,
-  roots-between-reads.Learnt,
-) (roots-in-at t) roots-in.Post
-roots-in-largest-requires t c κs = search needs
+roots-in-returns-3 t c = refuses _ _ _ _ (not-finite _ _ (c .before .before .before .if2 .left) (search needs) _ (sym (c .before .before .largest-magnitude .ensures) ∙ c .enum-told .given .1))
 
 roots-in-returns-4 : (t : ℕ) → roots-in-lts.Need-returns-4 (
-  all-finite-reads.Asked,
-  all-finite-reads.Learnt,
-  largest-reads.Asked,
-  largest-reads.Learnt,
+  largest-magnitude-reads.Asked,
+  largest-magnitude-reads.Learnt,
   derivative-reads.Asked,
   derivative-reads.Learnt,
   roots-in-below t,
@@ -111,13 +109,11 @@ roots-in-returns-4 : (t : ℕ) → roots-in-lts.Need-returns-4 (
   roots-between-reads.Asked,
   roots-between-reads.Learnt,
 ) (roots-in-at t) roots-in.Post
-roots-in-returns-4 t c = finds-none _ _ _ (all-tiny _ _ (c .before .before .before .before .if2 .left) (sym (c .before .before .before .all-finite .ensures) ∙ not-false _ (c .before .before .if3 .left)) (search needs) (tiny-is _ _ _ (c .before .largest .ensures) (c .if4 .taken)))
+roots-in-returns-4 t c = finds-none _ _ _ (all-tiny _ _ (c .before .before .before .before .before .if2 .left) _ (sym (c .before .before .before .before .largest-magnitude .ensures) ∙ c .before .before .largest .given .1) (search needs) (c .if3 .taken))
 
 roots-in-returns-5 : (t : ℕ) → roots-in-lts.Need-returns-5 (
-  all-finite-reads.Asked,
-  all-finite-reads.Learnt,
-  largest-reads.Asked,
-  largest-reads.Learnt,
+  largest-magnitude-reads.Asked,
+  largest-magnitude-reads.Learnt,
   derivative-reads.Asked,
   derivative-reads.Learnt,
   roots-in-below t,
@@ -125,13 +121,11 @@ roots-in-returns-5 : (t : ℕ) → roots-in-lts.Need-returns-5 (
   roots-between-reads.Asked,
   roots-between-reads.Learnt,
 ) (roots-in-at t) roots-in.Post
-roots-in-returns-5 t c = finds-none _ _ _ (constant _ _ (c .before .before .before .before .before .if2 .left) (sym (c .before .before .before .before .all-finite .ensures) ∙ not-false _ (c .before .before .before .if3 .left)) (tiny-is _ _ _ (c .before .before .largest .ensures) (c .before .if4 .left)) (c .if5 .taken))
+roots-in-returns-5 t c = finds-none _ _ _ (constant _ _ (c .before .before .before .before .before .before .if2 .left) _ (sym (c .before .before .before .before .before .largest-magnitude .ensures) ∙ c .before .before .before .largest .given .1) (c .before .if3 .left) (c .if4 .taken))
 
 roots-in-derivative-requires : (t : ℕ) → roots-in-lts.Need-derivative-requires (
-  all-finite-reads.Asked,
-  all-finite-reads.Learnt,
-  largest-reads.Asked,
-  largest-reads.Learnt,
+  largest-magnitude-reads.Asked,
+  largest-magnitude-reads.Learnt,
   derivative-reads.Asked,
   derivative-reads.Learnt,
   roots-in-below t,
@@ -142,10 +136,8 @@ roots-in-derivative-requires : (t : ℕ) → roots-in-lts.Need-derivative-requir
 roots-in-derivative-requires t c κs = search needs
 
 roots-in-sub-d : (t : ℕ) → roots-in-lts.Need-sub-d (
-  all-finite-reads.Asked,
-  all-finite-reads.Learnt,
-  largest-reads.Asked,
-  largest-reads.Learnt,
+  largest-magnitude-reads.Asked,
+  largest-magnitude-reads.Learnt,
   derivative-reads.Asked,
   derivative-reads.Learnt,
   roots-in-below t,
@@ -156,10 +148,8 @@ roots-in-sub-d : (t : ℕ) → roots-in-lts.Need-sub-d (
 roots-in-sub-d t c = search needs
 
 roots-in-array-share-prefix-d : (t : ℕ) → roots-in-lts.Need-array-share-prefix-d (
-  all-finite-reads.Asked,
-  all-finite-reads.Learnt,
-  largest-reads.Asked,
-  largest-reads.Learnt,
+  largest-magnitude-reads.Asked,
+  largest-magnitude-reads.Learnt,
   derivative-reads.Asked,
   derivative-reads.Learnt,
   roots-in-below t,
@@ -170,10 +160,8 @@ roots-in-array-share-prefix-d : (t : ℕ) → roots-in-lts.Need-array-share-pref
 roots-in-array-share-prefix-d t c = search needs
 
 roots-in-slice-aggregate-roots-in : (t : ℕ) → roots-in-lts.Need-slice-aggregate-roots-in (
-  all-finite-reads.Asked,
-  all-finite-reads.Learnt,
-  largest-reads.Asked,
-  largest-reads.Learnt,
+  largest-magnitude-reads.Asked,
+  largest-magnitude-reads.Learnt,
   derivative-reads.Asked,
   derivative-reads.Learnt,
   roots-in-below t,
@@ -184,10 +172,8 @@ roots-in-slice-aggregate-roots-in : (t : ℕ) → roots-in-lts.Need-slice-aggreg
 roots-in-slice-aggregate-roots-in t c = sym (ap length (c .before .derivative .ensures) ∙ derivative-length _)
 
 roots-in-slice-aggregate-roots-in-2 : (t : ℕ) → roots-in-lts.Need-slice-aggregate-roots-in-2 (
-  all-finite-reads.Asked,
-  all-finite-reads.Learnt,
-  largest-reads.Asked,
-  largest-reads.Learnt,
+  largest-magnitude-reads.Asked,
+  largest-magnitude-reads.Learnt,
   derivative-reads.Asked,
   derivative-reads.Learnt,
   roots-in-below t,
@@ -198,10 +184,8 @@ roots-in-slice-aggregate-roots-in-2 : (t : ℕ) → roots-in-lts.Need-slice-aggr
 roots-in-slice-aggregate-roots-in-2 t c = search needs
 
 roots-in-roots-in-requires : (t : ℕ) → roots-in-lts.Need-roots-in-requires (
-  all-finite-reads.Asked,
-  all-finite-reads.Learnt,
-  largest-reads.Asked,
-  largest-reads.Learnt,
+  largest-magnitude-reads.Asked,
+  largest-magnitude-reads.Learnt,
   derivative-reads.Asked,
   derivative-reads.Learnt,
   roots-in-below t,
@@ -210,15 +194,13 @@ roots-in-roots-in-requires : (t : ℕ) → roots-in-lts.Need-roots-in-requires (
   roots-between-reads.Learnt,
 ) (roots-in-at t) roots-in.Post
 roots-in-roots-in-requires t c κs =
-    let n = c .before .before .before .before .before .before .before .before .before .before .before .before .args .c .now in
+    let n = c .before .before .before .before .before .before .before .before .before .before .before .before .before .args .c .now in
     let l : length (take (length n - 1) (c .before .before .derivative .result)) ≡ length n - 1 = ap length (c .before .before .derivative .ensures) ∙ derivative-length _ in
-    (omega (arith, c .before .before .before .before .before .before .before .before .before .before .before .before .pre .0, l, c .before .before .before .before .before .before .before .before .before .if1 .left), search needs)
+    (omega (arith, c .before .before .before .before .before .before .before .before .before .before .before .before .before .pre .0, l, c .before .before .before .before .before .before .before .before .before .before .if1 .left), search needs)
 
 roots-in-enum-known-below : (t : ℕ) → roots-in-lts.Need-enum-known-below (
-  all-finite-reads.Asked,
-  all-finite-reads.Learnt,
-  largest-reads.Asked,
-  largest-reads.Learnt,
+  largest-magnitude-reads.Asked,
+  largest-magnitude-reads.Learnt,
   derivative-reads.Asked,
   derivative-reads.Learnt,
   roots-in-below t,
@@ -228,11 +210,9 @@ roots-in-enum-known-below : (t : ℕ) → roots-in-lts.Need-enum-known-below (
 ) (roots-in-at t) roots-in.Post
 roots-in-enum-known-below t c = search needs
 
-roots-in-enum-told : (t : ℕ) → roots-in-lts.Need-enum-told (
-  all-finite-reads.Asked,
-  all-finite-reads.Learnt,
-  largest-reads.Asked,
-  largest-reads.Learnt,
+roots-in-enum-told-2 : (t : ℕ) → roots-in-lts.Need-enum-told-2 (
+  largest-magnitude-reads.Asked,
+  largest-magnitude-reads.Learnt,
   derivative-reads.Asked,
   derivative-reads.Learnt,
   roots-in-below t,
@@ -240,13 +220,11 @@ roots-in-enum-told : (t : ℕ) → roots-in-lts.Need-enum-told (
   roots-between-reads.Asked,
   roots-between-reads.Learnt,
 ) (roots-in-at t) roots-in.Post
-roots-in-enum-told t c = search needs
+roots-in-enum-told-2 t c = search needs
 
 roots-in-returns-6 : (t : ℕ) → roots-in-lts.Need-returns-6 (
-  all-finite-reads.Asked,
-  all-finite-reads.Learnt,
-  largest-reads.Asked,
-  largest-reads.Learnt,
+  largest-magnitude-reads.Asked,
+  largest-magnitude-reads.Learnt,
   derivative-reads.Asked,
   derivative-reads.Learnt,
   roots-in-below t,
@@ -255,14 +233,12 @@ roots-in-returns-6 : (t : ℕ) → roots-in-lts.Need-returns-6 (
   roots-between-reads.Learnt,
 ) (roots-in-at t) roots-in.Post
 roots-in-returns-6 t c =
-    let g = c .enum-told .given in
-    rw (g .1) (refuses _ _ _ _ (sub-refused _ _ _ _ _ _ (omega (arith, c .before .before .before .before .before .before .before .before .before .before .before .before .before .if1 .left, c .before .before .before .before .before .before .before .if5 .left)) (c .before .before .before .before .before .before .before .before .before .before .before .before .if2 .left) (c .before .before .before .before .before .before .derivative .ensures) (c .before .before .before .roots-in .ensures) _ _ (g .1) (sym (c .before .before .before .before .before .before .before .before .before .before .before .all-finite .ensures) ∙ not-false _ (c .before .before .before .before .before .before .before .before .before .before .if3 .left)) (tiny-is _ _ _ (c .before .before .before .before .before .before .before .before .before .largest .ensures) (c .before .before .before .before .before .before .before .before .if4 .left))))
+    let g = c .enum-told2 .given in
+    rw (g .1) (refuses _ _ _ _ (sub-refused _ _ _ _ _ _ (omega (arith, c .before .before .before .before .before .before .before .before .before .before .before .before .before .before .if1 .left, c .before .before .before .before .before .before .before .if4 .left)) (c .before .before .before .before .before .before .before .before .before .before .before .before .before .if2 .left) (c .before .before .before .before .before .before .derivative .ensures) (c .before .before .before .roots-in .ensures) _ _ (g .1) _ (sym (c .before .before .before .before .before .before .before .before .before .before .before .before .largest-magnitude .ensures) ∙ c .before .before .before .before .before .before .before .before .before .before .largest .given .1) (c .before .before .before .before .before .before .before .before .if3 .left)))
 
 roots-in-array-share-prefix-ts : (t : ℕ) → roots-in-lts.Need-array-share-prefix-ts (
-  all-finite-reads.Asked,
-  all-finite-reads.Learnt,
-  largest-reads.Asked,
-  largest-reads.Learnt,
+  largest-magnitude-reads.Asked,
+  largest-magnitude-reads.Learnt,
   derivative-reads.Asked,
   derivative-reads.Learnt,
   roots-in-below t,
@@ -270,13 +246,11 @@ roots-in-array-share-prefix-ts : (t : ℕ) → roots-in-lts.Need-array-share-pre
   roots-between-reads.Asked,
   roots-between-reads.Learnt,
 ) (roots-in-at t) roots-in.Post
-roots-in-array-share-prefix-ts t c = sub-fits _ _ _ _ _ _ (omega (arith, c .before .before .before .before .before .before .before .before .before .before .before .before .before .before .if1 .left, c .before .before .before .before .before .before .before .before .if5 .left)) (c .before .before .before .before .before .before .before .before .before .before .before .before .before .if2 .left) (c .before .before .before .before .before .before .before .derivative .ensures) (c .before .before .before .before .roots-in .ensures) _ _ (c .before .below .given .1)
+roots-in-array-share-prefix-ts t c = sub-fits _ _ _ _ _ _ (omega (arith, c .before .before .before .before .before .before .before .before .before .before .before .before .before .before .before .if1 .left, c .before .before .before .before .before .before .before .before .if4 .left)) (c .before .before .before .before .before .before .before .before .before .before .before .before .before .before .if2 .left) (c .before .before .before .before .before .before .before .derivative .ensures) (c .before .before .before .before .roots-in .ensures) _ _ (c .before .below .given .1)
 
 roots-in-slice-aggregate-roots-between : (t : ℕ) → roots-in-lts.Need-slice-aggregate-roots-between (
-  all-finite-reads.Asked,
-  all-finite-reads.Learnt,
-  largest-reads.Asked,
-  largest-reads.Learnt,
+  largest-magnitude-reads.Asked,
+  largest-magnitude-reads.Learnt,
   derivative-reads.Asked,
   derivative-reads.Learnt,
   roots-in-below t,
@@ -284,13 +258,11 @@ roots-in-slice-aggregate-roots-between : (t : ℕ) → roots-in-lts.Need-slice-a
   roots-between-reads.Asked,
   roots-between-reads.Learnt,
 ) (roots-in-at t) roots-in.Post
-roots-in-slice-aggregate-roots-between t c = sub-length _ _ _ _ _ _ (omega (arith, c .before .before .before .before .before .before .before .before .before .before .before .before .before .before .before .if1 .left, c .before .before .before .before .before .before .before .before .before .if5 .left)) (c .before .before .before .before .before .before .before .before .before .before .before .before .before .before .if2 .left) (c .before .before .before .before .before .before .before .before .derivative .ensures) (c .before .before .before .before .before .roots-in .ensures) _ _ (c .before .before .below .given .1)
+roots-in-slice-aggregate-roots-between t c = sub-length _ _ _ _ _ _ (omega (arith, c .before .before .before .before .before .before .before .before .before .before .before .before .before .before .before .before .if1 .left, c .before .before .before .before .before .before .before .before .before .if4 .left)) (c .before .before .before .before .before .before .before .before .before .before .before .before .before .before .before .if2 .left) (c .before .before .before .before .before .before .before .before .derivative .ensures) (c .before .before .before .before .before .roots-in .ensures) _ _ (c .before .before .below .given .1)
 
 roots-in-roots-between-requires : (t : ℕ) → roots-in-lts.Need-roots-between-requires (
-  all-finite-reads.Asked,
-  all-finite-reads.Learnt,
-  largest-reads.Asked,
-  largest-reads.Learnt,
+  largest-magnitude-reads.Asked,
+  largest-magnitude-reads.Learnt,
   derivative-reads.Asked,
   derivative-reads.Learnt,
   roots-in-below t,
@@ -298,13 +270,11 @@ roots-in-roots-between-requires : (t : ℕ) → roots-in-lts.Need-roots-between-
   roots-between-reads.Asked,
   roots-between-reads.Learnt,
 ) (roots-in-at t) roots-in.Post
-roots-in-roots-between-requires t c κs = (sub-few _ _ _ _ _ _ (omega (arith, c .before .before .before .before .before .before .before .before .before .before .before .before .before .before .before .before .if1 .left, c .before .before .before .before .before .before .before .before .before .before .if5 .left)) (c .before .before .before .before .before .before .before .before .before .before .before .before .before .before .before .if2 .left) (c .before .before .before .before .before .before .before .before .before .derivative .ensures) (c .before .before .before .before .before .before .roots-in .ensures) _ _ (c .before .before .before .below .given .1), search needs)
+roots-in-roots-between-requires t c κs = (sub-few _ _ _ _ _ _ (omega (arith, c .before .before .before .before .before .before .before .before .before .before .before .before .before .before .before .before .before .if1 .left, c .before .before .before .before .before .before .before .before .before .before .if4 .left)) (c .before .before .before .before .before .before .before .before .before .before .before .before .before .before .before .before .if2 .left) (c .before .before .before .before .before .before .before .before .before .derivative .ensures) (c .before .before .before .before .before .before .roots-in .ensures) _ _ (c .before .before .before .below .given .1), search needs, magnitude-largest _ _ (sym (c .before .before .before .before .before .before .before .before .before .before .before .before .before .before .before .largest-magnitude .ensures) ∙ c .before .before .before .before .before .before .before .before .before .before .before .before .before .largest .given .1) .1)
 
 roots-in-same-length : (t : ℕ) → roots-in-lts.Need-same-length (
-  all-finite-reads.Asked,
-  all-finite-reads.Learnt,
-  largest-reads.Asked,
-  largest-reads.Learnt,
+  largest-magnitude-reads.Asked,
+  largest-magnitude-reads.Learnt,
   derivative-reads.Asked,
   derivative-reads.Learnt,
   roots-in-below t,
@@ -315,10 +285,8 @@ roots-in-same-length : (t : ℕ) → roots-in-lts.Need-same-length (
 roots-in-same-length t c = search needs
 
 roots-in-returns-7 : (t : ℕ) → roots-in-lts.Need-returns-7 (
-  all-finite-reads.Asked,
-  all-finite-reads.Learnt,
-  largest-reads.Asked,
-  largest-reads.Learnt,
+  largest-magnitude-reads.Asked,
+  largest-magnitude-reads.Learnt,
   derivative-reads.Asked,
   derivative-reads.Learnt,
   roots-in-below t,
@@ -326,14 +294,12 @@ roots-in-returns-7 : (t : ℕ) → roots-in-lts.Need-returns-7 (
   roots-between-reads.Asked,
   roots-between-reads.Learnt,
 ) (roots-in-at t) roots-in.Post
-roots-in-returns-7 t c = renamed _ _ _ _ _ (sub-level _ _ _ _ _ _ (omega (arith, c .before .before .before .before .before .before .before .before .before .before .before .before .before .before .before .before .before .before .before .if1 .left, c .before .before .before .before .before .before .before .before .before .before .before .before .before .if5 .left)) (c .before .before .before .before .before .before .before .before .before .before .before .before .before .before .before .before .before .before .if2 .left) (c .before .before .before .before .before .before .before .before .before .before .before .before .derivative .ensures) (c .before .before .before .before .before .before .before .before .before .roots-in .ensures) _ _ (c .before .before .before .before .before .before .below .given .1) (sym (c .before .before .before .before .before .before .before .before .before .before .before .before .before .before .before .before .before .all-finite .ensures) ∙ not-false _ (c .before .before .before .before .before .before .before .before .before .before .before .before .before .before .before .before .if3 .left)) (tiny-is _ _ _ (c .before .before .before .before .before .before .before .before .before .before .before .before .before .before .before .largest .ensures) (c .before .before .before .before .before .before .before .before .before .before .before .before .before .before .if4 .left))) (c .before .before .roots-between .ensures)
+roots-in-returns-7 t c = renamed _ _ _ _ _ (sub-level _ _ _ _ _ _ (omega (arith, c .before .before .before .before .before .before .before .before .before .before .before .before .before .before .before .before .before .before .before .before .if1 .left, c .before .before .before .before .before .before .before .before .before .before .before .before .before .if4 .left)) (c .before .before .before .before .before .before .before .before .before .before .before .before .before .before .before .before .before .before .before .if2 .left) (c .before .before .before .before .before .before .before .before .before .before .before .before .derivative .ensures) (c .before .before .before .before .before .before .before .before .before .roots-in .ensures) _ _ (c .before .before .before .before .before .before .below .given .1) _ (sym (c .before .before .before .before .before .before .before .before .before .before .before .before .before .before .before .before .before .before .largest-magnitude .ensures) ∙ c .before .before .before .before .before .before .before .before .before .before .before .before .before .before .before .before .largest .given .1) (c .before .before .before .before .before .before .before .before .before .before .before .before .before .before .if3 .left)) (c .before .before .roots-between .ensures)
 
 pub +roots-in-spec : {M : Type 1} → statement M
 +roots-in-spec = close μ-roots-in λ t. roots-in-lts.spec (
-  all-finite-reads.Asked,
-  all-finite-reads.Learnt,
-  largest-reads.Asked,
-  largest-reads.Learnt,
+  largest-magnitude-reads.Asked,
+  largest-magnitude-reads.Learnt,
   derivative-reads.Asked,
   derivative-reads.Learnt,
   roots-in-below t,
@@ -345,9 +311,10 @@ pub +roots-in-spec : {M : Type 1} → statement M
     roots-in.Post
     (roots-in-returns t)
     (roots-in-returns-2 t)
-    (roots-in-all-finite-requires t)
+    (roots-in-largest-magnitude-requires t)
+    (roots-in-enum-known-largest t)
+    (roots-in-enum-told t)
     (roots-in-returns-3 t)
-    (roots-in-largest-requires t)
     (roots-in-returns-4 t)
     (roots-in-returns-5 t)
     (roots-in-derivative-requires t)
@@ -357,7 +324,7 @@ pub +roots-in-spec : {M : Type 1} → statement M
     (roots-in-slice-aggregate-roots-in-2 t)
     (roots-in-roots-in-requires t)
     (roots-in-enum-known-below t)
-    (roots-in-enum-told t)
+    (roots-in-enum-told-2 t)
     (roots-in-returns-6 t)
     (roots-in-array-share-prefix-ts t)
     (roots-in-slice-aggregate-roots-between t)

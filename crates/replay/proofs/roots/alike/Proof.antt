@@ -32,8 +32,8 @@ returns c = search needs
 returns-2 : tie.Need-returns-2
 returns-2 c = search needs
 
-coefficients-requires : tie.Need-coefficients-requires
-coefficients-requires c κs = search needs
+numbers-requires : tie.Need-numbers-requires
+numbers-requires c κs = search needs
 
 untouched-requires : tie.Need-untouched-requires
 untouched-requires c κs = search needs
@@ -48,7 +48,7 @@ array-share-prefix-c : tie.Need-array-share-prefix-c
 array-share-prefix-c c = search needs
 
 slice-aggregate-roots : tie.Need-slice-aggregate-roots
-slice-aggregate-roots c = front-length (c .before .before .before .before .before .before .before .get12 .result) (c .before .before .before .before .coefficients .result) (omega (arith, c .before .before .before .before .coefficients .ensures, c .before .before .before .before .before .if2 .left))
+slice-aggregate-roots c = front-length (c .before .before .before .before .before .before .before .get12 .result) (c .before .before .before .before .numbers .result) (omega (arith, c .before .before .before .before .numbers .ensures, c .before .before .before .before .before .if2 .left))
 
 array-borrow-prefix-found : tie.Need-array-borrow-prefix-found
 array-borrow-prefix-found c = search needs
@@ -111,7 +111,7 @@ alike-spec =
     cast-n
     returns
     returns-2
-    coefficients-requires
+    numbers-requires
     untouched-requires
     get8-requires
     get8-requires-2

@@ -1,16 +1,16 @@
--- `roots::coefficients` is safe and ends: the measure is the number of coefficients that are left.
+-- `patterns::numbers` is safe and ends: the measure is how many numbers are left.
 use Prim.Native.Nat.{_-_, _≤_}
 use mathlib.Core.Path.{_≡_}
 use lib.ListN.{length}
 use borrow.Author.Needs.{needs}
-use Rattle.replay.proofs.roots.coefficients.Statement.{statement}
-use Rattle.replay.proofs.roots.coefficients.Tie as tie
+use Rattle.replay.proofs.patterns.numbers.Statement.{statement}
+use Rattle.replay.proofs.patterns.numbers.Tie as tie
 
 abbrev Inv-loop : tie.InvT-loop
-Inv-loop input n c₀ i₀ c i = (i ≤ n) × (n ≤ 20) × (length c ≡ 20)
+Inv-loop input start n c₀ i₀ c i = (i ≤ n) × (start ≤ 18) × (n ≤ 40) × (length c ≡ 40)
 
 abbrev μ-loop : tie.MeasureT-loop
-μ-loop input n c₀ i₀ c i = n - i
+μ-loop input start n c₀ i₀ c i = n - i
 
 loop-holds : tie.Need-loop-holds Inv-loop μ-loop
 loop-holds c = search needs
@@ -45,8 +45,8 @@ loop-again c = search needs
 returns : tie.Need-returns Inv-loop μ-loop
 returns c = search needs
 
-pub coefficients-spec : {M : Type 1} → statement M
-coefficients-spec =
+pub numbers-spec : {M : Type 1} → statement M
+numbers-spec =
     tie.close
     (tie.spec
     Inv-loop
