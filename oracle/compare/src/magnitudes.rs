@@ -14,8 +14,23 @@ use oracle::generate::random::Random;
 use oracle::magnitude::{largest_magnitude, Magnitude};
 use oracle::roots::BUFFER;
 use oracle::upstream;
+use std::marker::PhantomData;
 
-pub struct Magnitudes;
+/// Who tells the largest magnitude.
+pub trait Implementation {
+    /// How many finite numbers come first; where all are finite the largest magnitude is written.
+    fn largest_magnitude(numbers: &[f64], largest: &mut [f64; 1]) -> usize;
+}
+
+pub struct Engine;
+
+impl Implementation for Engine {
+    fn largest_magnitude(numbers: &[f64], largest: &mut [f64; 1]) -> usize {
+        polynomials::largest_magnitude(numbers, largest)
+    }
+}
+
+pub struct Magnitudes<I>(PhantomData<I>);
 
 #[derive(Debug)]
 pub struct Case {
@@ -105,7 +120,7 @@ fn count(numbers: &[f64], magnitude: Magnitude, answer: &Answer, counts: &mut Co
     }
 }
 
-impl Subject for Magnitudes {
+impl<I: Implementation> Subject for Magnitudes<I> {
     const NAME: &'static str = "magnitudes";
     type Case = Case;
     type Answer = Answer;
@@ -131,7 +146,7 @@ impl Subject for Magnitudes {
     fn engine(case: &Case) -> Answer {
         let numbers = case.numbers();
         let mut largest = [FILL];
-        let place = polynomials::largest_magnitude(&numbers, &mut largest);
+        let place = I::largest_magnitude(&numbers, &mut largest);
         let search = searched(&numbers, polynomials::roots);
         Answer { place, largest: Number(largest[0]), search }
     }
@@ -140,5 +155,47 @@ impl Subject for Magnitudes {
         let numbers =
             simpler::list(case.numbers(), |numbers| differs(&Case::new(numbers.to_vec())));
         Case::new(numbers)
+    }
+}
+
+#[cfg(test)]
+mod tests {
+    use super::*;
+    use crate::subject;
+
+    /// A fault: the last number that is not finite is told.
+    struct Last;
+
+    impl Implementation for Last {
+        fn largest_magnitude(numbers: &[f64], largest: &mut [f64; 1]) -> usize {
+            let place = Engine::largest_magnitude(numbers, largest);
+            numbers.iter().rposition(|number| !number.is_finite()).unwrap_or(place)
+        }
+    }
+
+    /// A fault: the largest is taken with its sign.
+    struct Signed;
+
+    impl Implementation for Signed {
+        fn largest_magnitude(numbers: &[f64], largest: &mut [f64; 1]) -> usize {
+            let place = Engine::largest_magnitude(numbers, largest);
+            if place == numbers.len() {
+                largest[0] = numbers.iter().fold(0.0, |most, number| number.max(most));
+            }
+            place
+        }
+    }
+
+    /// How many numbers the smallest case has.
+    fn smallest<I: Implementation>() -> usize {
+        let report = subject::run::<Magnitudes<I>>(5_000, 7).expect_err("a fault was planted");
+        let case = report.lines().nth(1).expect("the smallest case stands in the second line");
+        case.matches(" (").count()
+    }
+
+    #[test]
+    fn planted_faults_are_found_and_shrunk() {
+        assert_eq!(smallest::<Last>(), 2);
+        assert_eq!(smallest::<Signed>(), 1);
     }
 }

@@ -66,7 +66,7 @@ fn compare_all() -> Result<(), String> {
     subject::run::<sketches::Sketches>(image_cases, seed)?;
     subject::run::<relations::Relations>(relation_cases, seed)?;
     subject::run::<messages::Messages>(message_cases, seed)?;
-    subject::run::<magnitudes::Magnitudes>(cases(10, LISTS), seed)?;
+    subject::run::<magnitudes::Magnitudes<magnitudes::Engine>>(cases(10, LISTS), seed)?;
     if !upstream::PRESENT {
         println!("roots and edits: the upstream source is absent, skipped");
         return Ok(());
