@@ -8,9 +8,10 @@
  * may write overlaps nothing else that is lent to it. All other things about the arguments are tested: whatever the bytes, lengths,
  * counts, ids and numbers are, a call ends and answers as described here.
  *
- * Answers, but for mulkefi_versions and mulkefi_largest_magnitude. 0 is accepted. Otherwise the low 16 bits are a refusal's number (enum mulkefi_refusal); with MULKEFI_RELATIONS_UNMET and
- * MULKEFI_RELATIONS_BROKEN the bits above are the place, from 0, of a relation that is not met, and with every other number they are
- * 0. After a refusal not one byte of the caller's memory has changed. */
+ * Answers, but for mulkefi_versions and mulkefi_largest_magnitude, which refuse nothing. 0 is accepted. Otherwise the low 16 bits are a
+ * refusal's number (enum mulkefi_refusal); with MULKEFI_RELATIONS_UNMET and MULKEFI_RELATIONS_BROKEN the bits above are the place, from
+ * 0, of a relation that is not met, and with every other number they are 0. After a refusal not one byte of the caller's memory has
+ * changed. */
 #ifndef MULKEFI_H
 #define MULKEFI_H
 
@@ -78,7 +79,7 @@ enum mulkefi_refusal {
     MULKEFI_NOTHING_MET = 18,      /* the line, prolonged, meets nothing */
     MULKEFI_RELATIONS_BROKEN = 19, /* a relation would not be met afterwards; comes with its place */
     /* of numbers and memory */
-    MULKEFI_BAD_COEFFICIENTS = 20, /* none, more than 15, or one not finite (mulkefi_largest_magnitude says which), also in a derivative */
+    MULKEFI_BAD_COEFFICIENTS = 20, /* none, more than 15, or one not finite, also in a derivative */
     MULKEFI_WORK_LIMIT = 21,       /* the budget ran out */
     MULKEFI_TABLE_FULL = 22,       /* no room for another point, curve or relation */
     MULKEFI_NUMBERS_USED_UP = 23,  /* no id or edit number is left */
@@ -121,11 +122,11 @@ uint32_t mulkefi_wall_deliver(uint8_t *buffer, size_t room, size_t len, uint32_t
  * nothing of it, 21 all. */
 uint32_t mulkefi_roots(const double *coefficients, size_t n, double *found, size_t room, size_t budget, uint64_t answer[2]);
 
-/* Whether all of `n` numbers are finite, and the largest magnitude; for any `n`, of coefficients or anything else.
+/* Whether all of `n` numbers are finite, and the largest magnitude; for any `n`. It tells which coefficient mulkefi_roots refuses by 20.
  *
- * The answer is no refusal but a number of numbers: how many finite ones the list begins with. Where it is `n`, all are finite, and
- * `largest` holds the largest magnitude, +0 where `n` is 0. Where it is less, it is the place, from 0, of the first that is a NaN or an
- * infinity, and `largest` is left as it was. */
+ * The answer is how many finite numbers the list begins with. Where that is `n`, all are finite, and `largest` holds the largest
+ * magnitude, +0 where `n` is 0. Where it is less, it is the place, from 0, of the first number that is a NaN or an infinity, and
+ * `largest` is left as it was. */
 size_t mulkefi_largest_magnitude(const double *numbers, size_t n, double *largest);
 
 #ifdef __cplusplus

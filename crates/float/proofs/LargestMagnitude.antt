@@ -166,7 +166,7 @@ module _ (c : List Float) (m : Float) (h : magnitudeOf c ≡ Largest m) where
   pub magnitude-attained : (m ≡ 0f) ⊎ IsMagnitudeIn m c
   magnitude-attained = rw (magnitude-largest c m h .1) (largest-attained 0f c)
 
--- ---- as plain numbers: all at the front are finite, or the place is told
+-- ---- the same as plain numbers
 
 finite-front-all : (c : List Float) → allFinite c ≡ true → finiteFront c ≡ length c
 unfolding allFinite finiteFront

@@ -1,9 +1,9 @@
 -- A list's largest magnitude, or where a number is not finite. Definitions only.
 use Prim.Native.Nat.{ℕ, suc}
 use mathlib.Core.List.{List, [], _∷_}
+use mathlib.Core.Bool.{Bool, true, false, cond}
 use mathlib.Core.Path.{_≡_}
 use lib.ListN.{set}
-use mathlib.Core.Bool.{Bool, true, false, cond}
 use lib.Ieee.{Float}
 use Rattle.float.specs.Numbers.{0f}
 use Rattle.float.specs.Sign.{abs, isFinite}
@@ -29,9 +29,9 @@ finiteFront (x ∷ xs) = cond (isFinite x) (suc (finiteFront xs)) 0
 unfoldable pub magnitudeOf : List Float → Magnitude
 magnitudeOf c = cond (allFinite c) (Largest (largestOf 0f c)) (NotFinite (finiteFront c))
 
--- ---- the same as plain numbers, with the largest in a lent place
+-- ---- the same as plain numbers
 
--- how many finite numbers stand at the front; the largest magnitude where that is all, and else the place as it was
+-- how many finite numbers stand at the front; lent memory holds their largest magnitude where they are all, and else what it held
 pub record MagnitudeWritten (c lent later : List Float) (r : ℕ) : Type 0 where
   pub place : r ≡ finiteFront c
   pub largest : later ≡ cond (allFinite c) (set lent 0 (largestOf 0f c)) lent
