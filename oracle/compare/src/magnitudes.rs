@@ -47,8 +47,8 @@ impl Case {
     }
 }
 
-/// How many finite numbers stand at the front, what the lent place then holds, and, where upstream is
-/// there, the search with the lent buffer.
+/// How many finite numbers stand at the front, what the memory lent for the largest then holds, and,
+/// where upstream is there, the search with its lent buffer.
 #[derive(Debug, PartialEq)]
 pub struct Answer {
     place: usize,
