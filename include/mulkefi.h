@@ -38,7 +38,10 @@ extern "C" {
 #define MULKEFI_MOST_COEFFICIENTS 15
 #define MULKEFI_ROOTS_ROOM 28
 
-/* How many numbers an edit or a delivery answers, and what stands where. */
+/* How many numbers an edit or a delivery answers, and what stands where. A circle that was removed whole has no ends, and two zeros.
+ *
+ * Curves that stand and curves that were reported join by the ids of their ends: the pieces of a line or an arc with which the drawing
+ * started make one chain from its old start to its old end, those of a circle that was cut one ring. */
 #define MULKEFI_ANSWER_SIZE 5
 
 enum mulkefi_answer {

@@ -8,6 +8,8 @@ pub mod convert;
 pub mod drawing;
 pub mod edit;
 pub mod examples;
+pub mod families;
+pub mod family_counts;
 pub mod figure;
 pub mod generate;
 pub mod image;

@@ -32,6 +32,28 @@ pub struct Edit {
 }
 
 /// The curve that an edit removed and its two ends: all 0 where none went, the ends 0 for a circle.
+///
+/// Curves that stand and curves that were reported join by the ids of their ends: the pieces of a line
+/// or an arc with which the drawing started make one chain from its old start to its old end, those of
+/// a circle that was cut one ring.
+///
+/// ```
+/// use mulkefi::{read, Desk, Drawing, Edit, Kind, Operation};
+///
+/// let mut drawing = Drawing::new();
+/// let (a, b) = (drawing.add_point(-9.0, 0.0), drawing.add_point(9.0, 0.0));
+/// drawing.add_curve(Kind::Line { a, b });
+/// let c = drawing.add_point(0.0, 0.0);
+/// let wheel = drawing.add_curve(Kind::Circle { c, radius: 5.0 });
+/// let mut desk = Desk::start(&drawing.to_image())?;
+///
+/// let trim = Edit { operation: Operation::Trim, curve: wheel, x: 0.0, y: 5.0 };
+/// let gone = desk.edit(&trim)?.report;
+/// let after = read(desk.image()).expect("a desk holds a good image");
+/// let left = after.curve(wheel).expect("the arc that is left has the circle's id");
+/// assert!(matches!(left.kind, Kind::Arc { a, b, .. } if (a, b) == (gone.end, gone.start)));
+/// # Ok::<(), mulkefi::Refusal>(())
+/// ```
 #[derive(Clone, Copy, Debug, Default, PartialEq, Eq)]
 pub struct Report {
     pub removed: Id,

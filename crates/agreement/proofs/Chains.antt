@@ -2,6 +2,7 @@
 use mathlib.Core.Path.{_≡_, refl, sym, ap, _∙_, subst}
 use mathlib.Core.Bool.{Bool, true, false}
 use mathlib.Core.List.{List, [], _∷_, _++_, Memᴰ·append-left, Memᴰ·append-right}
+use mathlib.Core.Option.{Option}
 use Prim.Native.Nat.{ℕ, _+_, _≤_, _<_}
 use native.Mathlib.Omega.{arith}
 use native.Mathlib.Decide.{ℕ-discrete}
@@ -10,9 +11,9 @@ use Rattle.sketch.specs.Lookup.{among}
 use Rattle.edit_plan.specs.declared.Removed.{Removed}
 use Rattle.edit_plan.specs.Counts.{occurrences}
 use Rattle.edit_plan.proofs.Tables.{occ-append, occ-same, occ-other}
-use Rattle.agreement.specs.Families.{CurveView, added, Member, memberIds, Joined, ValidMemberAs, ValidMembers, Chain}
+use Rattle.agreement.specs.Families.{CurveView, added, Member, memberIds, Joined, ValidMemberAs, ValidMembers, Chain, centreAt}
 use Rattle.agreement.specs.EditEffect.{Pieces, EditEffect}
-use Rattle.agreement.proofs.Counts.{among-as, there-count, away-count}
+use Rattle.agreement.proofs.Counts.{among-as, there, there-count, away-count}
 
 -- ---- parts of a chain
 
@@ -71,25 +72,33 @@ module _ {D : Type 0} (v : CurveView D) where
     rights-keep d d′ rs r ms (λ i p. o i (omega arith)) (h .1),
   )
 
-  -- the new report comes last
-  right-late : (d : D) (rs : List Removed) (r : Removed) (i a b : ℕ) (u : Bool) → ValidMemberAs v d (r ∷ []) i a b u → ValidMemberAs v d (rs ++ (r ∷ [])) i a b u
-  right-late d rs r i a b true h = h
-  right-late d rs r i a b false h = (h .0, Memᴰ·append-right rs (h .1))
+  -- other reports may come before
+  right-late : (d : D) (rs qs : List Removed) (i a b : ℕ) (u : Bool) → ValidMemberAs v d qs i a b u → ValidMemberAs v d (rs ++ qs) i a b u
+  right-late d rs qs i a b true h = h
+  right-late d rs qs i a b false h = (h .0, Memᴰ·append-right rs (h .1))
 
-  rights-late : (d : D) (rs : List Removed) (r : Removed) (ms : List Member) → ValidMembers v d (r ∷ []) ms → ValidMembers v d (rs ++ (r ∷ [])) ms
-  rights-late d rs r [] h = tt
-  rights-late d rs r (m ∷ ms) h = (right-late d rs r (m .id) (m .from) (m .to) (m .stands) (h .0), rights-late d rs r ms (h .1))
+  pub rights-late : (d : D) (rs qs : List Removed) (ms : List Member) → ValidMembers v d qs ms → ValidMembers v d (rs ++ qs) ms
+  rights-late d rs qs [] h = tt
+  rights-late d rs qs (m ∷ ms) h = (right-late d rs qs (m .id) (m .from) (m .to) (m .stands) (h .0), rights-late d rs qs ms (h .1))
 
   -- ---- one edit
 
-  -- a chain, of curves with ids below the next
-  pub record Inv (fam : List ℕ) (d : D) (rs : List Removed) (a b : ℕ) : Type 0 where
+  -- a chain, of curves with ids below the next, those that stand about one centre or about none
+  pub record Inv (fam : List ℕ) (d : D) (rs : List Removed) (a b : ℕ) (o : Option ℕ) : Type 0 where
     pub chain : Chain v fam d rs a b
     pub below : (i : ℕ) → 0 < occurrences i fam → i < v .next d
+    pub centred : (i : ℕ) → 0 < occurrences i fam → among i (v .ids d) ≡ true → centreAt (v .curve d i) ≡ o
+
+  -- another curve than the target's keeps its centre
+  centred-beside :
+      (d d′ : D) (t : ℕ) (r : Removed) (o : Option ℕ) → EditEffect v d t d′ r → (i : ℕ) → i < v .next d → (i ≡ t → ⊥)
+      → (among i (v .ids d) ≡ true → centreAt (v .curve d i) ≡ o) → among i (v .ids d′) ≡ true → centreAt (v .curve d′ i) ≡ o
+  centred-beside d d′ t r o s i b ne h u =
+      ap centreAt (s .others-curve i b ne) ∙ h (among-as i (v .ids d) (v .ids d′) (sym (s .others i b ne .1)) ∙ u)
 
   -- of a curve outside the family
-  outside : (fam : List ℕ) (d d′ : D) (t : ℕ) (r : Removed) (rs : List Removed) (a b : ℕ) → Inv fam d rs a b → EditEffect v d t d′ r → occurrences t fam ≡ 0 → Inv fam d′ (rs ++ (r ∷ [])) a b
-  outside fam d d′ t r rs a b w s z =
+  outside : (fam : List ℕ) (d d′ : D) (t : ℕ) (r : Removed) (rs : List Removed) (a b : ℕ) (o : Option ℕ) → Inv fam d rs a b o → EditEffect v d t d′ r → occurrences t fam ≡ 0 → Inv fam d′ (rs ++ (r ∷ [])) a b o
+  outside fam d d′ t r rs a b o w s z =
       let c = w .chain in
       record {
         chain =
@@ -101,10 +110,11 @@ module _ {D : Type 0} (v : CurveView D) where
               once = c .once;
             };
         below = λ i p. omega (arith, w .below i p, s .grows);
+        centred = λ i p u. centred-beside d d′ t r o s i (w .below i p) (λ e. omega (arith, ap (λ (j : ℕ). occurrences j fam) e)) (w .centred i p) u;
       }
 
   -- of a member
-  module _ (fam : List ℕ) (d d′ : D) (t : ℕ) (r : Removed) (rs : List Removed) (a b : ℕ) (w : Inv fam d rs a b) (s : EditEffect v d t d′ r) where
+  module _ (fam : List ℕ) (d d′ : D) (t : ℕ) (r : Removed) (rs : List Removed) (a b : ℕ) (o : Option ℕ) (w : Inv fam d rs a b o) (s : EditEffect v d t d′ r) where
     module _ (front back : List Member) (m : Member) (at : w .chain .members ≡ front ++ (m ∷ back)) (named : m .id ≡ t) (q : Pieces v d t d′ r (m .from) (m .to)) where
       -- how often an id is in the family, by the three parts of its chain
       parts : (i : ℕ) → occurrences i fam ≡ occurrences i (memberIds front) + (occurrences i (t ∷ []) + occurrences i (memberIds back))
@@ -133,7 +143,7 @@ module _ {D : Type 0} (v : CurveView D) where
           go (yes e) = e
           go (no ne) = absurd (omega (arith, q .new i p .0, w .below i (omega arith)))
 
-      grown : Inv (fam ++ added v d d′ r) d′ (rs ++ (r ∷ [])) a b
+      grown : Inv (fam ++ added v d d′ r) d′ (rs ++ (r ∷ [])) a b o
       grown =
           record {
             chain =
@@ -147,7 +157,7 @@ module _ {D : Type 0} (v : CurveView D) where
                       rights-join d′ (rs ++ (r ∷ [])) front (q .list ++ back)
                       (beside front (omega (arith, parts t, here, w .chain .once t)) (λ i p. omega (arith, parts i)) (j .0))
                       (rights-join d′ (rs ++ (r ∷ [])) (q .list) back
-                      (rights-late d′ rs r (q .list) (q .right))
+                      (rights-late d′ rs (r ∷ []) (q .list) (q .right))
                       (beside back (omega (arith, parts t, here, w .chain .once t)) (λ i p. omega (arith, parts i)) (j .1 .1)));
                   each = λ i.
                       ap (occurrences i) (ids-append front (q .list ++ back) ∙ ap (λ (l : List ℕ). memberIds front ++ l) (ids-append (q .list) back))
@@ -155,6 +165,7 @@ module _ {D : Type 0} (v : CurveView D) where
                   once = λ i. once-at i (ℕ-discrete (occurrences i (added v d d′ r)) 0);
                 };
             below = λ i p. below-at i p (ℕ-discrete (occurrences i (added v d d′ r)) 0);
+            centred = λ i p u. centred-at i p u (ℕ-discrete i t) (ℕ-discrete (occurrences i (added v d d′ r)) 0);
           }
         where
           once-at : (i : ℕ) → Dec (occurrences i (added v d d′ r) ≡ 0) → occurrences i (fam ++ added v d d′ r) ≤ 1
@@ -165,21 +176,31 @@ module _ {D : Type 0} (v : CurveView D) where
           below-at i p (yes e) = omega (arith, w .below i (omega (arith, occ-append i fam (added v d d′ r))), s .grows)
           below-at i p (no ne) = q .new i (omega arith) .1
 
+          by-target : centreAt (v .curve d t) ≡ o
+          by-target = w .centred t (omega (arith, parts t, here)) (there t (v .ids d) (s .stood))
+
+          centred-at : (i : ℕ) → 0 < occurrences i (fam ++ added v d d′ r) → among i (v .ids d′) ≡ true → Dec (i ≡ t) → Dec (occurrences i (added v d d′ r) ≡ 0) → centreAt (v .curve d′ i) ≡ o
+          centred-at i p u (yes e) z = s .centred i (omega (arith, sum i, ap (λ (j : ℕ). occurrences j (t ∷ [])) e, here)) u ∙ by-target
+          centred-at i p u (no nt) (no ne) = s .centred i (omega (arith, sum i)) u ∙ by-target
+          centred-at i p u (no nt) (yes z) =
+              let in-fam : 0 < occurrences i fam = omega (arith, occ-append i fam (added v d d′ r)) in
+              centred-beside d d′ t r o s i (w .below i in-fam) nt (w .centred i in-fam) u
+
     -- the member stands, since the edit found it
     stands : (i f h : ℕ) (u : Bool) → i ≡ t → ValidMemberAs v d rs i f h u → Pieces v d t d′ r f h
     stands i f h true e k = s .pieces f h (ap (v .ends d) (sym e) ∙ k)
     stands i f h false e k = absurd (omega (arith, s .stood, away-count i (v .ids d) (k .0), ap (λ (j : ℕ). occurrences j (v .ids d)) e))
 
-    inside : 0 < occurrences t fam → Inv (fam ++ added v d d′ r) d′ (rs ++ (r ∷ [])) a b
+    inside : 0 < occurrences t fam → Inv (fam ++ added v d d′ r) d′ (rs ++ (r ∷ [])) a b o
     inside z =
         let p = place t (w .chain .members) (omega (arith, w .chain .each t)) in
         let m = p .at in
         let j = rights-split d rs (p .front) (m ∷ p .back) (subst (ValidMembers v d rs) (p .is) (w .chain .right)) in
         grown (p .front) (p .back) m (p .is) (p .named) (stands (m .id) (m .from) (m .to) (m .stands) (p .named) (j .1 .0))
 
-    pub step : Inv (ite (among t fam) (fam ++ added v d d′ r) fam) d′ (rs ++ (r ∷ [])) a b
+    pub step : Inv (ite (among t fam) (fam ++ added v d d′ r) fam) d′ (rs ++ (r ∷ [])) a b o
     step = go (among t fam) refl
       where
-        go : (u : Bool) → among t fam ≡ u → Inv (ite u (fam ++ added v d d′ r) fam) d′ (rs ++ (r ∷ [])) a b
+        go : (u : Bool) → among t fam ≡ u → Inv (ite u (fam ++ added v d d′ r) fam) d′ (rs ++ (r ∷ [])) a b o
         go true e = inside (there-count t fam e)
-        go false e = outside fam d d′ t r rs a b w s (away-count t fam e)
+        go false e = outside fam d d′ t r rs a b o w s (away-count t fam e)

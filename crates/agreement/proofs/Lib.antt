@@ -1,4 +1,5 @@
--- Desk and wall agree with the reference machine (`Agree`), chains outlive every edit (`Chains`), and so the whole claim holds (`Demand`).
+-- Desk and wall agree with the reference machine (`Agree`), chains and rings outlive every edit (`Chains`, `Rings`, `FamiliesJoined`), and so the whole claim
+-- holds (`Demand`).
 pub mod Orders
 pub mod Counts
 pub mod Families
@@ -7,4 +8,6 @@ pub mod Runs
 pub mod Wall
 pub mod Agree
 pub mod Chains
+pub mod Rings
+pub mod FamiliesJoined
 pub mod Demand

@@ -11,6 +11,20 @@ use Rattle.edit_plan.proofs.Tables.{Holds, holds-guard}
 use Rattle.agreement.specs.Machines.{State, Protocol, maxEditNumber, Call, withCount, stateAfter, Entry, callOutcome, referenceAfter, appendAccepted, acceptedLog}
 use Rattle.agreement.specs.Agreement.{stateAt}
 
+-- where some entries end
+abbrev pub last : {D E R : Type 0} → State D → List (Entry D E R) → State D
+last s [] = s
+last s (x ∷ xs) = last (x .after) xs
+
+pub last-take : {D E R : Type 0} (s : State D) (l : List (Entry D E R)) (n : ℕ) → last s (take n l) ≡ stateAt s l n
+last-take s l zero = refl
+last-take s [] (suc n) = refl
+last-take s (x ∷ xs) (suc n) = last-take (x .after) xs n
+
+pub last-all : {D E R : Type 0} (s : State D) (l : List (Entry D E R)) → last s l ≡ stateAt s l (length l)
+last-all s [] = refl
+last-all s (x ∷ xs) = last-all (x .after) xs
+
 module _ {D E R : Type 0} (p : Protocol D E R) where
   -- an entry leads from the state s to the state t
   pub record Step (s : State D) (e : E) (t : State D) (r : R) : Type 0 where

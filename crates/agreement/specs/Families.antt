@@ -1,20 +1,27 @@
--- Families of curves and their chains (both 01's terms), over any drawing whose curves have ids and, where they are lines or arcs, two ends. Definitions only.
+-- Families of curves, their chains (both 01's terms) and their rings (02's, CR 12), over any drawing whose curves have ids, two ends where they are lines
+-- or arcs, and records. Definitions only.
 use mathlib.Core.Path.{_≡_}
 use mathlib.Core.Bool.{Bool, true, false, not}
 use mathlib.Core.List.{List, [], _∷_, _++_, map, List·Memᴰ}
-use mathlib.Core.Option.{Option, some}
-use Prim.Native.Nat.{ℕ, _≤_}
+use mathlib.Core.Option.{Option, some, none}
+use Prim.Native.Nat.{ℕ, _≤_, _<_}
+use lib.ListN.{length}
 use lib.Dec.{eqb}
+use Rattle.sketch.specs.declared.Curve.{Curve}
+use Rattle.sketch.specs.declared.CurveKind.{CurveKind}
+use Rattle.sketch.specs.declared.CurveKind.the-variants.{Line, Arc, Circle, Bezier, Conic}
 use Rattle.sketch.specs.Lists.{ite, keep}
 use Rattle.sketch.specs.Lookup.{among}
 use Rattle.edit_plan.specs.declared.Removed.{Removed}
 use Rattle.edit_plan.specs.Counts.{occurrences}
+use Rattle.edit_plan.specs.Changes.{isCircle}
 use Rattle.agreement.specs.Machines.{Entry}
 
--- what a drawing's curves are seen by: their ids, the ends of a line or an arc, the next id
+-- what a drawing's curves are seen by: their ids, the ends of a line or an arc, a curve's record, the next id
 pub record CurveView (D : Type 0) : Type 0 where
   pub ids : D → List ℕ
   pub ends : D → ℕ → Option (ℕ × ℕ)
+  pub curve : D → ℕ → Option Curve
   pub next : D → ℕ
 
 -- ---- families
@@ -77,3 +84,57 @@ module _ {D : Type 0} (v : CurveView D) where
   -- the chain of the starting curve c, from a to b, after some accepted edits that lead from `start` to d
   abbrev pub ChainOf : {E : Type 0} → (E → ℕ) → D → List (Entry D E Removed) → D → ℕ → ℕ → ℕ → Type 0
   ChainOf target start l d c a b = Chain (family v target start (c ∷ []) l) d (reports l) a b
+
+-- ---- rings
+
+-- the report of a circle that is removed whole: its id and two zeros
+abbrev pub wholeCircle : ℕ → Removed
+wholeCircle c = record { curve = c; from = 0; to = 0 }
+
+-- the report of the first accepted edit of the curve c, if there is one
+abbrev pub firstReport : {D E : Type 0} → (E → ℕ) → ℕ → List (Entry D E Removed) → Option Removed
+firstReport target c [] = none
+firstReport target c (x ∷ xs) = ite (eqb (target (x .edit)) c) (some (x .report)) (firstReport target c xs)
+
+-- the centre of a round (01's term: an arc or a circle)
+unfoldable pub centreOf : CurveKind → Option ℕ
+centreOf (Line a b) = none
+centreOf (Arc c a b) = some c
+centreOf (Circle c r) = some c
+centreOf (Bezier n) = none
+centreOf (Conic a p b rho) = none
+
+abbrev pub centreAt : Option Curve → Option ℕ
+centreAt none = none
+centreAt (some c) = centreOf (c .kind)
+
+module _ {D : Type 0} (v : CurveView D) where
+  -- a family's ring about a centre: two members or more, each once, end to start, and the last leads to the first, whose start is a point's id;
+  -- those that stand, which have two ends, are arcs about the centre
+  pub record Ring (fam : List ℕ) (d : D) (rs : List Removed) (centre : Option ℕ) : Type 0 where
+    pub several : 1 < length fam
+    pub from : ℕ
+    pub above-zero : 0 < from
+    pub chain : Chain v fam d rs from from
+    pub centred : (i : ℕ) → 0 < occurrences i fam → among i (v .ids d) ≡ true → centreAt (v .curve d i) ≡ centre
+
+  -- the starting circle k, its id being c, after some accepted edits that lead from `start` to d: what its first edit reported decides
+  pub data CircleOf {E : Type 0} (target : E → ℕ) (start : D) (l : List (Entry D E Removed)) (d : D) (c : ℕ) (k : Curve) : Type 0 where
+    -- without one it stands as it was, and is its family alone
+    circleUncut : firstReport target c l ≡ none → family v target start (c ∷ []) l ≡ c ∷ [] → v .curve d c ≡ some k → CircleOf target start l d c k
+    -- removed whole it is its own family, and stands no more
+    circleRemoved :
+        firstReport target c l ≡ some (wholeCircle c) → family v target start (c ∷ []) l ≡ c ∷ [] → among c (v .ids d) ≡ false
+        → CircleOf target start l d c k
+    -- cut, its standing and removed arcs make one ring
+    circleCut :
+        (r : Removed) → firstReport target c l ≡ some r → (r ≡ wholeCircle c → ⊥) → Ring (family v target start (c ∷ []) l) d (reports l) (centreOf (k .kind))
+        → CircleOf target start l d c k
+
+-- ---- both
+
+module _ {D : Type 0} (v : CurveView D) where
+  -- after some accepted edits that lead from `start`, at whatever count that was, to d: each of its lines and arcs has its chain, and each circle became one of the three
+  pub record FamiliesJoined {E : Type 0} (target : E → ℕ) (start : D) (l : List (Entry D E Removed)) (d : D) : Type 0 where
+    pub chains : (c a b : ℕ) → v .ends start c ≡ some (a, b) → ChainOf v target start l d c a b
+    pub circles : (c : ℕ) (k : Curve) → v .curve start c ≡ some k → isCircle (k .kind) ≡ true → CircleOf v target start l d c k

@@ -15,6 +15,7 @@ use Rattle.edit_plan.specs.Counts.{occurrences}
 use Rattle.edit_plan.specs.Tables.{rekind, newCurve}
 use Rattle.edit_plan.specs.Steps.{endsOf, endsAt}
 use Rattle.edit_plan.proofs.Tables.{occ-same, occ-other, look-some, look-left, look-right, occ-ids, ids-set, rekind-same, look-set, look-set-other}
+use Rattle.agreement.specs.Families.{centreOf, centreAt}
 
 -- a piece is a curve's id with its two ends, as a report has them
 abbrev pub Piece : Type 0
@@ -26,12 +27,18 @@ names ps = map (λ p. p .curve) ps
 abbrev pub link : ℕ → ℕ → ℕ → Piece
 link i a b = record { curve = i; from = a; to = b }
 
+pub same-ends : (a b x y : ℕ) → _≡_ {A = Option (ℕ × ℕ)} (some (a, b)) (some (x, y)) → (a ≡ x) × (b ≡ y)
+same-ends a b x y e =
+    let v : _≡_ {A = ℕ × ℕ} (a, b) (x, y) = cc in
+    (ap (λ (z : ℕ × ℕ). z .0) v, ap (λ (z : ℕ × ℕ). z .1) v)
+
 -- each piece stands in the table
 abbrev pub Standing : List Curve → List Piece → Type 0
 Standing cs [] = Unit {0}
 Standing cs (p ∷ ps) = (endsAt (curveIn cs (p .curve)) ≡ some (p .from, p .to)) × Standing cs ps
 
--- from the table cs below n to cs′ below n′: t became the pieces ps, the other curves are as they were, what else is new is a piece
+-- from the table cs below n to cs′ below n′: t became the pieces ps, about its centre if it has one, the other curves are as they were, what else is new is
+-- a piece
 pub record PiecesAdded (n : ℕ) (cs : List Curve) (t : ℕ) (n′ : ℕ) (cs′ : List Curve) (ps : List Piece) : Type 0 where
   pub grows : n ≤ n′
   pub beside : (i : ℕ) → i < n → (i ≡ t → ⊥) → (curveIn cs′ i ≡ curveIn cs i) × (occurrences i (curveIds cs′) ≡ occurrences i (curveIds cs))
@@ -40,6 +47,7 @@ pub record PiecesAdded (n : ℕ) (cs : List Curve) (t : ℕ) (n′ : ℕ) (cs′
   pub high : (i : ℕ) → n ≤ i → occurrences i (names ps) ≡ occurrences i (curveIds cs′)
   pub once : (i : ℕ) → n ≤ i → occurrences i (curveIds cs′) ≤ 1
   pub below : (i : ℕ) → n′ ≤ i → occurrences i (curveIds cs′) ≡ 0
+  pub centred : (i : ℕ) → 0 < occurrences i (names ps) → centreAt (curveIn cs′ i) ≡ centreAt (curveIn cs t)
 
 -- ids lie from 1 to below n
 pub record Low (n : ℕ) (cs : List Curve) : Type 0 where
@@ -70,13 +78,14 @@ names-append i (p ∷ ps) qs = let h = names-append i ps qs in omega arith
 -- ids go on rising
 pub pieces-added-grow : {n : ℕ} {cs : List Curve} {t n′ : ℕ} {cs′ : List Curve} {ps : List Piece} (n″ : ℕ) → n′ ≤ n″ → PiecesAdded n cs t n′ cs′ ps → PiecesAdded n cs t n″ cs′ ps
 pieces-added-grow n″ g l =
-    record { grows = omega arith; beside = l .beside; stand = l .stand; low = l .low; high = l .high; once = l .once; below = λ i h. l .below i (omega arith) }
+    record { grows = omega arith; beside = l .beside; stand = l .stand; low = l .low; high = l .high; once = l .once; below = λ i h. l .below i (omega arith); centred = l .centred }
 
 -- the first piece: t itself, its kind changed or not
 pub pieces-added-one :
     (n : ℕ) (cs : List Curve) (t n′ : ℕ) (cs′ : List Curve) (a b : ℕ) → Low n cs → n ≤ n′ → curveIds cs′ ≡ curveIds cs
-    → ((i : ℕ) → (i ≡ t → ⊥) → curveIn cs′ i ≡ curveIn cs i) → endsAt (curveIn cs′ t) ≡ some (a, b) → PiecesAdded n cs t n′ cs′ (link t a b ∷ [])
-pieces-added-one n cs t n′ cs′ a b w g e o h =
+    → ((i : ℕ) → (i ≡ t → ⊥) → curveIn cs′ i ≡ curveIn cs i) → endsAt (curveIn cs′ t) ≡ some (a, b) → centreAt (curveIn cs′ t) ≡ centreAt (curveIn cs t)
+    → PiecesAdded n cs t n′ cs′ (link t a b ∷ [])
+pieces-added-one n cs t n′ cs′ a b w g e o h q =
     record {
       grows = g;
       beside = λ i q ne. (o i ne, ap (occurrences i) e);
@@ -85,8 +94,13 @@ pieces-added-one n cs t n′ cs′ a b w g e o h =
       high = λ i q. occ-other i t [] (λ z. omega (arith, there i q z)) ∙ sym (zero-at i q);
       once = λ i q. omega (arith, zero-at i q);
       below = λ i q. zero-at i (omega arith);
+      centred = λ i p. centred-at i p (ℕ-discrete i t);
     }
   where
+    centred-at : (i : ℕ) → 0 < occurrences i (t ∷ []) → Dec (i ≡ t) → centreAt (curveIn cs′ i) ≡ centreAt (curveIn cs t)
+    centred-at i p (yes z) = ap (λ (j : ℕ). centreAt (curveIn cs′ j)) z ∙ q
+    centred-at i p (no ne) = absurd (omega (arith, occ-other i t [] ne))
+
     zero-at : (i : ℕ) → n ≤ i → occurrences i (curveIds cs′) ≡ 0
     zero-at i q = ap (occurrences i) e ∙ w .below i q
 
@@ -94,16 +108,23 @@ pieces-added-one n cs t n′ cs′ a b w g e o h =
     there i q z = omega (arith, zero-at i q, subst (λ (j : ℕ). 0 < occurrences j (curveIds cs′)) (sym z) (stand-in cs′ t (a, b) h))
 
 -- one more piece, last
-module _ {n : ℕ} {cs : List Curve} {t n′ : ℕ} {cs′ : List Curve} {ps : List Piece} (l : PiecesAdded n cs t n′ cs′ ps) (k : CurveKind) (u : Bool) (a b : ℕ) (e : endsOf k ≡ some (a, b)) where
+module _ {n : ℕ} {cs : List Curve} {t n′ : ℕ} {cs′ : List Curve} {ps : List Piece} (l : PiecesAdded n cs t n′ cs′ ps) (k : CurveKind) (u : Bool) (a b : ℕ) (e : endsOf k ≡ some (a, b)) (o : centreOf k ≡ centreAt (curveIn cs t)) where
   count : (i : ℕ) → occurrences i (curveIds (cs′ ++ (newCurve n′ k u ∷ []))) ≡ occurrences i (curveIds cs′) + occurrences i (n′ ∷ [])
   count i = occ-ids i cs′ (newCurve n′ k u ∷ [])
 
   old-look : (i : ℕ) → (i ≡ n′ → ⊥) → curveIn (cs′ ++ (newCurve n′ k u ∷ [])) i ≡ curveIn cs′ i
   old-look i ne = look-left cs′ (newCurve n′ k u ∷ []) i (occ-other i n′ [] ne)
 
-  new-look : endsAt (curveIn (cs′ ++ (newCurve n′ k u ∷ [])) n′) ≡ some (a, b)
-  unfolding curveIn endsAt
-  new-look = rw (look-right cs′ (newCurve n′ k u ∷ []) n′ (l .below n′ (omega arith)), eq-eqb n′ n′ refl) e
+  new-look : curveIn (cs′ ++ (newCurve n′ k u ∷ [])) n′ ≡ some (newCurve n′ k u)
+  unfolding curveIn
+  new-look = rw (look-right cs′ (newCurve n′ k u ∷ []) n′ (l .below n′ (omega arith)), eq-eqb n′ n′ refl) refl
+
+  new-ends : endsAt (curveIn (cs′ ++ (newCurve n′ k u ∷ [])) n′) ≡ some (a, b)
+  unfolding endsAt
+  new-ends = ap endsAt new-look ∙ e
+
+  not-piece : (i : ℕ) → 0 < occurrences i (names ps) → i ≡ n′ → ⊥
+  not-piece i p z = omega (arith, ap (λ (j : ℕ). occurrences j (names ps)) z, l .high n′ (l .grows), l .below n′ (omega arith))
 
   pub pieces-added-more : PiecesAdded n cs t (suc n′) (cs′ ++ (newCurve n′ k u ∷ [])) (ps ++ (link n′ a b ∷ []))
   pieces-added-more =
@@ -112,17 +133,30 @@ module _ {n : ℕ} {cs : List Curve} {t n′ : ℕ} {cs′ : List Curve} {ps : L
         beside = λ i q ne. (old-look i (λ z. omega (arith, l .grows)) ∙ l .beside i q ne .0, omega (arith, count i, l .beside i q ne .1, occ-other i n′ [] (λ z. omega (arith, l .grows))));
         stand =
             standing-append (cs′ ++ (newCurve n′ k u ∷ [])) ps (link n′ a b ∷ [])
-            (standing-as cs′ (cs′ ++ (newCurve n′ k u ∷ [])) ps (λ i q. old-look i (λ z. omega (arith, ap (λ (j : ℕ). occurrences j (names ps)) z, l .high n′ (l .grows), l .below n′ (omega arith)))) (l .stand))
-            (new-look, tt);
+            (standing-as cs′ (cs′ ++ (newCurve n′ k u ∷ [])) ps (λ i q. old-look i (not-piece i q)) (l .stand))
+            (new-ends, tt);
         low = λ i q. omega (arith, names-append i ps (link n′ a b ∷ []), l .low i q, occ-other i n′ [] (λ z. omega (arith, l .grows)));
         high = λ i q. omega (arith, names-append i ps (link n′ a b ∷ []), l .high i q, count i);
         once = λ i q. once-at i q (ℕ-discrete i n′);
         below = λ i q. omega (arith, count i, l .below i (omega arith), occ-other i n′ [] (λ z. omega arith));
+        centred = λ i q. centred-at i q (ℕ-discrete i n′);
       }
     where
+      centred-at : (i : ℕ) → 0 < occurrences i (names (ps ++ (link n′ a b ∷ []))) → Dec (i ≡ n′) → centreAt (curveIn (cs′ ++ (newCurve n′ k u ∷ [])) i) ≡ centreAt (curveIn cs t)
+      centred-at i q (yes z) = ap (λ (j : ℕ). centreAt (curveIn (cs′ ++ (newCurve n′ k u ∷ [])) j)) z ∙ ap centreAt new-look ∙ o
+      centred-at i q (no ne) = ap centreAt (old-look i ne) ∙ l .centred i (omega (arith, names-append i ps (link n′ a b ∷ []), occ-other i n′ [] ne))
+
       once-at : (i : ℕ) → n ≤ i → Dec (i ≡ n′) → occurrences i (curveIds (cs′ ++ (newCurve n′ k u ∷ []))) ≤ 1
       once-at i q (yes z) = omega (arith, count i, ap (λ (j : ℕ). occurrences j (n′ ∷ [])) z, occ-same n′ [], l .below i (omega arith))
       once-at i q (no ne) = omega (arith, count i, l .once i q, occ-other i n′ [] ne)
+
+-- the second piece is new
+pub second-new : {n : ℕ} {cs : List Curve} {t n′ : ℕ} {cs′ : List Curve} {ps : List Piece} (p q : Piece) → PiecesAdded n cs t n′ cs′ (p ∷ q ∷ ps) → p .curve ≡ t → n ≤ q .curve
+second-new {n} {cs} {t} {n′} {cs′} {ps} p q l e = go (decLt (q .curve) n)
+  where
+    go : Dec (q .curve < n) → n ≤ q .curve
+    go (yes h) = absurd (omega (arith, l .low (q .curve) h, ap (λ (i : ℕ). occurrences (q .curve) (i ∷ q .curve ∷ names ps)) e, occ-same (q .curve) []))
+    go (no ne) = omega arith
 
 -- the swap: the first two pieces exchange their ids
 module _ {n : ℕ} {cs : List Curve} {t n′ : ℕ} {cs′ : List Curve} {ps : List Piece} (g a b c e : ℕ) (l : PiecesAdded n cs t n′ cs′ (link t a b ∷ link g c e ∷ ps)) (h : t < n) (x y : Curve) (ex : curveIn cs′ t ≡ some x) (ey : curveIn cs′ g ≡ some y) where
@@ -133,11 +167,7 @@ module _ {n : ℕ} {cs : List Curve} {t n′ : ℕ} {cs′ : List Curve} {ps : L
   split-occ i = omega arith
 
   g-high : n ≤ g
-  g-high = go (decLt g n)
-    where
-      go : Dec (g < n) → n ≤ g
-      go (yes q) = absurd (omega (arith, l .low g q, split-occ g, occ-same g []))
-      go (no ne) = omega arith
+  g-high = second-new (link t a b) (link g c e) l refl
 
   rest-t : occurrences t (names ps) ≡ 0
   rest-t = omega (arith, l .low t h, split-occ t)
@@ -153,18 +183,28 @@ module _ {n : ℕ} {cs : List Curve} {t n′ : ℕ} {cs′ : List Curve} {ps : L
   unfolding swapped
   look-swapped i nt ng = look-set-other g (x .kind) (map (rekind t (y .kind)) cs′) i ng ∙ look-set-other t (y .kind) cs′ i nt
 
+  -- each has the other's kind
+  look-g : curveIn swapped g ≡ some (rekind g (x .kind) y)
+  unfolding swapped
+  look-g = look-set g (x .kind) (map (rekind t (y .kind)) cs′) g y (look-set-other t (y .kind) cs′ g (λ z. omega (arith, g-high)) ∙ ey)
+
+  look-t : curveIn swapped t ≡ some (rekind t (y .kind) x)
+  unfolding swapped
+  look-t = look-set-other g (x .kind) (map (rekind t (y .kind)) cs′) t (λ z. omega (arith, g-high)) ∙ look-set t (y .kind) cs′ t x ex
+
+  kind-g : rekind g (x .kind) y .kind ≡ x .kind
+  kind-g = rekind-same g (x .kind) y (look-some cs′ g y ey .1)
+
+  kind-t : rekind t (y .kind) x .kind ≡ y .kind
+  kind-t = rekind-same t (y .kind) x (look-some cs′ t x ex .1)
+
   ends-g : endsAt (curveIn swapped g) ≡ some (a, b)
-  unfolding swapped endsAt
-  ends-g =
-      let u = look-set-other t (y .kind) cs′ g (λ z. omega (arith, g-high)) ∙ ey in
-      ap endsAt (look-set g (x .kind) (map (rekind t (y .kind)) cs′) g y u) ∙ ap endsOf (rekind-same g (x .kind) y (look-some cs′ g y ey .1))
-      ∙ sym (ap endsAt ex) ∙ l .stand .0
+  unfolding endsAt
+  ends-g = ap endsAt look-g ∙ ap endsOf kind-g ∙ sym (ap endsAt ex) ∙ l .stand .0
 
   ends-t : endsAt (curveIn swapped t) ≡ some (c, e)
-  unfolding swapped endsAt
-  ends-t =
-      ap endsAt (look-set-other g (x .kind) (map (rekind t (y .kind)) cs′) t (λ z. omega (arith, g-high)) ∙ look-set t (y .kind) cs′ t x ex)
-      ∙ ap endsOf (rekind-same t (y .kind) x (look-some cs′ t x ex .1)) ∙ sym (ap endsAt ey) ∙ l .stand .1 .0
+  unfolding endsAt
+  ends-t = ap endsAt look-t ∙ ap endsOf kind-t ∙ sym (ap endsAt ey) ∙ l .stand .1 .0
 
   pub pieces-added-swap : PiecesAdded n cs t n′ (map (rekind g (x .kind)) (map (rekind t (y .kind)) cs′)) (link g a b ∷ link t c e ∷ ps)
   unfolding swapped
@@ -185,4 +225,10 @@ module _ {n : ℕ} {cs : List Curve} {t n′ : ℕ} {cs′ : List Curve} {ps : L
         high = λ i q. omega (arith, l .high i q, ap (occurrences i) ids-swapped);
         once = λ i q. omega (arith, l .once i q, ap (occurrences i) ids-swapped);
         below = λ i q. ap (occurrences i) ids-swapped ∙ l .below i q;
+        centred = λ i q. centred-at i q (ℕ-discrete i t) (ℕ-discrete i g);
       }
+    where
+      centred-at : (i : ℕ) → 0 < occurrences i (g ∷ t ∷ names ps) → Dec (i ≡ t) → Dec (i ≡ g) → centreAt (curveIn swapped i) ≡ centreAt (curveIn cs t)
+      centred-at i q (yes z) w = ap (λ (j : ℕ). centreAt (curveIn swapped j)) z ∙ ap centreAt look-t ∙ ap centreOf kind-t ∙ sym (ap centreAt ey) ∙ l .centred g (omega (arith, split-occ g, occ-same g []))
+      centred-at i q (no nt) (yes z) = ap (λ (j : ℕ). centreAt (curveIn swapped j)) z ∙ ap centreAt look-g ∙ ap centreOf kind-g ∙ sym (ap centreAt ex) ∙ l .centred t (omega (arith, split-occ t, occ-same t []))
+      centred-at i q (no nt) (no ng) = ap centreAt (look-swapped i nt ng) ∙ l .centred i (omega arith)

@@ -1,11 +1,12 @@
--- From pieces that are laid out, one of them removed or none, to the shape that chains need. Assumes nothing.
+-- From pieces that are laid out, one of them removed or none, to the effect that chains and rings need. Assumes nothing.
 use mathlib.Core.Path.{_≡_, refl, sym, ap, _∙_}
-use mathlib.Core.Bool.{false, not}
+use mathlib.Core.Bool.{true, not}
 use mathlib.Core.List.{List, [], _∷_, map, List·Memᴰ·head}
-use mathlib.Core.Option.{Option, some}
+use mathlib.Core.Option.{some}
 use Prim.Native.Nat.{ℕ, _+_, _≤_, _<_}
 use native.Mathlib.Omega.{arith}
 use native.Mathlib.Decide.{ℕ-discrete, decLt}
+use lib.ListN.{length}
 use lib.Dec.{eqb}
 use borrow.Author.Tests.{eq-eqb, ne-eqb}
 use Rattle.sketch.specs.declared.Curve.{Curve}
@@ -13,13 +14,14 @@ use Rattle.sketch.specs.Drawing.{Drawing, curveIds, curveIn}
 use Rattle.edit_plan.specs.declared.Removed.{Removed}
 use Rattle.edit_plan.specs.Counts.{occurrences}
 use Rattle.edit_plan.specs.Steps.{endsAt}
+use Rattle.edit_plan.specs.Changes.{isCircle}
 use Rattle.edit_plan.proofs.Tables.{occ-append, occ-same, occ-other, look-none}
-use Rattle.agreement.specs.Families.{removedIds, added, Member, memberIds, Joined, ValidMemberAs, ValidMembers}
-use Rattle.agreement.specs.EditEffect.{Pieces, EditEffect}
-use Rattle.agreement.proofs.Counts.{away, at-most}
+use Rattle.agreement.specs.Families.{removedIds, added, Member, memberIds, Joined, ValidMemberAs, ValidMembers, centreAt}
+use Rattle.agreement.specs.EditEffect.{Pieces, CircleEffect, removedWhole, cutToArcs, EditEffect}
+use Rattle.agreement.proofs.Counts.{away, there-count, at-most}
 use Rattle.agreement.proofs.Families.{added-old, added-new}
 use Rattle.chains.specs.CurveView.{ids, ends, curveView}
-use Rattle.chains.proofs.AddedPieces.{Piece, names, link, Standing, PiecesAdded, Low, stand-in}
+use Rattle.chains.proofs.AddedPieces.{Piece, names, link, Standing, PiecesAdded, Low, stand-in, same-ends}
 
 gone-zero : (r : Removed) → occurrences 0 (removedIds r) ≡ 0
 gone-zero r = go (ℕ-discrete (r .curve) 0)
@@ -39,6 +41,23 @@ gone-above i r h = go (ℕ-discrete (r .curve) 0)
 abbrev pub Linked : ℕ → List Piece → ℕ → Type 0
 Linked a [] b = a ≡ b
 Linked a (p ∷ ps) b = (p .from ≡ a) × Linked (p .to) ps b
+
+-- a circle's pieces join from a point's id back to it, and one of them is new
+pub record Loop (n : ℕ) (ps : List Piece) : Type 0 where
+  pub from : ℕ
+  pub above-zero : 0 < from
+  pub linked : Linked from ps from
+  pub piece : ℕ
+  pub new : n ≤ piece
+  pub present : 0 < occurrences piece (names ps)
+
+none-there : (l : List ℕ) → ((i : ℕ) → occurrences i l ≡ 0) → l ≡ []
+none-there [] h = refl
+none-there (x ∷ l) h = absurd (omega (arith, h x, occ-same x l))
+
+one-there : (i : ℕ) (l : List ℕ) → 0 < occurrences i l → 0 < length l
+one-there i [] h = absurd (omega arith)
+one-there i (x ∷ l) h = omega arith
 
 -- all stand but g
 abbrev marked : ℕ → List Piece → List Member
@@ -163,10 +182,7 @@ module _ (d : Drawing) (w : Low (d .next) (d .curves)) (t : ℕ) (here : 0 < occ
 
           is : r .curve ≡ q .curve → q ≡ r
           is e =
-              let u : _≡_ {A = Option (ℕ × ℕ)} (some (q .from, q .to)) (some (r .from, r .to)) = sym (h .0) ∙ ap (λ (j : ℕ). endsAt (curveIn cs′ j)) (sym e) ∙ was (standing e) in
-              let v : _≡_ {A = ℕ × ℕ} (q .from, q .to) (r .from, r .to) = cc in
-              let f : q .from ≡ r .from = ap (λ (z : ℕ × ℕ). z .0) v in
-              let o : q .to ≡ r .to = ap (λ (z : ℕ × ℕ). z .1) v in
+              let (f, o) = same-ends (q .from) (q .to) (r .from) (r .to) (sym (h .0) ∙ ap (λ (j : ℕ). endsAt (curveIn cs′ j)) (sym e) ∙ was (standing e)) in
               let n : q .curve ≡ r .curve = sym e in
               λ j. record { curve = n j; from = f j; to = o j }
 
@@ -185,29 +201,44 @@ module _ (d : Drawing) (w : Low (d .next) (d .curves)) (t : ℕ) (here : 0 < occ
             new = fresh;
           }
 
-      pub pieces-added-effect : ((a b : ℕ) → ends d t ≡ some (a, b) → Linked a ps b) → EditEffect curveView d t d″ r
-      pieces-added-effect j =
+      -- a circle that is cut keeps its id
+      pieces-added-circle : (r .curve ≡ t → ⊥) × Loop (d .next) ps → CircleEffect curveView d t d″ r
+      pieces-added-circle (ne, o) =
+          cutToArcs (λ e. ne (ap (λ (x : Removed). x .curve) e)) (one-there (o .piece) (added curveView d d″ r) (omega (arith, new-count (o .piece) (o .new), o .present)))
+          (o .from) (o .above-zero) (pieces-added-chain (o .from) (o .from) (o .linked))
+
+      pub pieces-added-effect :
+          ((a b : ℕ) → ends d t ≡ some (a, b) → Linked a ps b) → ((k : Curve) → curveIn (d .curves) t ≡ some k → isCircle (k .kind) ≡ true → (r .curve ≡ t → ⊥) × Loop (d .next) ps)
+          → EditEffect curveView d t d″ r
+      pieces-added-effect j o =
           record {
             grows = l .grows;
             stood = here;
             others = λ i q ne. beside-at i q ne (ℕ-discrete i 0);
+            others-curve = λ i q ne. look-beside i q ne (ℕ-discrete i 0) (ℕ-discrete i (r .curve));
             pieces = λ a b e. pieces-added-chain a b (j a b e);
+            circle = λ k e u. pieces-added-circle (o k e u);
+            centred = λ i p u. ap centreAt (look i (λ e. omega (arith, there-count i (ids d″) u, ap (λ (j : ℕ). occurrences j (ids d″)) e, went))) ∙ l .centred i (omega (arith, count i));
           }
         where
-          beside-at : (i : ℕ) → i < d .next → (i ≡ t → ⊥) → Dec (i ≡ 0) → (ends d″ i ≡ ends d i) × (occurrences i (ids d″) ≡ occurrences i (ids d))
-          beside-at i q ne u = go u (ℕ-discrete i (r .curve))
-            where
-              go : Dec (i ≡ 0) → Dec (i ≡ r .curve) → (ends d″ i ≡ ends d i) × (occurrences i (ids d″) ≡ occurrences i (ids d))
-              go u (no ng) = (ap endsAt (look i ng ∙ l .beside i q ne .0), same i ng ∙ l .beside i q ne .1)
-              go (no p) (yes e) = absurd (not-gone i (omega arith) q ne e)
-              go (yes z) (yes e) =
-                  let u : occurrences i (ids d″) ≡ 0 = ap (λ (j : ℕ). occurrences j (ids d″)) z ∙ zero-stays in
-                  let v : occurrences i (ids d) ≡ 0 = ap (λ (j : ℕ). occurrences j (ids d)) z ∙ w .above in
-                  (ap endsAt (look-none (d″ .curves) i u ∙ sym (look-none (d .curves) i v)), u ∙ sym v)
+          -- any other curve is as it was
+          look-beside : (i : ℕ) → i < d .next → (i ≡ t → ⊥) → Dec (i ≡ 0) → Dec (i ≡ r .curve) → curveIn (d″ .curves) i ≡ curveIn (d .curves) i
+          look-beside i q ne u (no ng) = look i ng ∙ l .beside i q ne .0
+          look-beside i q ne (no p) (yes e) = absurd (not-gone i (omega arith) q ne e)
+          look-beside i q ne (yes z) (yes e) =
+              look-none (d″ .curves) i (ap (λ (j : ℕ). occurrences j (ids d″)) z ∙ zero-stays) ∙ sym (look-none (d .curves) i (ap (λ (j : ℕ). occurrences j (ids d)) z ∙ w .above))
 
-  -- t is removed, and its report has no ends: it is its own chain, a ring of one
+          beside-at : (i : ℕ) → i < d .next → (i ≡ t → ⊥) → Dec (i ≡ 0) → (ends d″ i ≡ ends d i) × (occurrences i (ids d″) ≡ occurrences i (ids d))
+          beside-at i q ne u = (ap endsAt (look-beside i q ne u (ℕ-discrete i (r .curve))), go u (ℕ-discrete i (r .curve)))
+            where
+              go : Dec (i ≡ 0) → Dec (i ≡ r .curve) → occurrences i (ids d″) ≡ occurrences i (ids d)
+              go u (no ng) = same i ng ∙ l .beside i q ne .1
+              go (no p) (yes e) = absurd (not-gone i (omega arith) q ne e)
+              go (yes z) (yes e) = ap (λ (j : ℕ). occurrences j (ids d″)) z ∙ zero-stays ∙ sym (ap (λ (j : ℕ). occurrences j (ids d)) z ∙ w .above)
+
+  -- t is removed, and its report has no ends: a circle that is removed whole
   module _ (d″ : Drawing) (same : (i : ℕ) → (i ≡ t → ⊥) → occurrences i (ids d″) ≡ occurrences i (ids d)) (went : occurrences t (ids d″) ≡ 0) where
-    none-added : (i : ℕ) → occurrences i (added curveView d d″ (link t 0 0)) ≡ 0
+    pub none-added : (i : ℕ) → occurrences i (added curveView d d″ (link t 0 0)) ≡ 0
     none-added i = go (ℕ-discrete (occurrences i (ids d)) 0)
       where
         go : Dec (occurrences i (ids d) ≡ 0) → occurrences i (added curveView d d″ (link t 0 0)) ≡ 0
@@ -220,13 +251,5 @@ module _ (d : Drawing) (w : Low (d .next) (d .curves)) (t : ℕ) (here : 0 < occ
             gone-at i nt (yes e) = ap (λ (j : ℕ). occurrences j (removedIds (link t 0 0))) e ∙ gone-zero (link t 0 0)
             gone-at i nt (no p) = gone-above i (link t 0 0) (omega arith) ∙ occ-other i t [] nt
 
-    pub lone-ring : Pieces curveView d t d″ (link t 0 0) 0 0
-    lone-ring =
-        record {
-          list = record { id = t; from = 0; to = 0; stands = false } ∷ [];
-          joined = (refl, refl);
-          right = ((away t (ids d″) went, List·Memᴰ·head refl), tt);
-          are = λ i. sym (occ-append i (t ∷ []) (added curveView d d″ (link t 0 0)) ∙ omega (arith, none-added i));
-          once = λ i. omega (arith, occ-append i (t ∷ []) (added curveView d d″ (link t 0 0)), none-added i, at-most i t);
-          new = λ i p. absurd (omega (arith, none-added i));
-        }
+    pub removed-circle : CircleEffect curveView d t d″ (link t 0 0)
+    removed-circle = removedWhole refl (none-there (added curveView d d″ (link t 0 0)) none-added) (away t (ids d″) went)

@@ -1,9 +1,9 @@
--- What a plan does, once it is applied: a valid drawing stays valid, and its chains whole. So the claim over desk and wall holds of any edit that applies
+-- What a plan does, once it is applied: a valid drawing stays valid, and its chains and rings whole. So the claim over desk and wall holds of any edit that applies
 -- out a plan with its pins held (`planned-demand-3`). Assumes of the edit `Planned`, and of its messages `Read`.
 use mathlib.Core.Path.{_≡_, _∙_}
 use mathlib.Core.Bool.{Bool, true}
 use mathlib.Core.List.{List}
-use mathlib.Core.Option.{some, none}
+use mathlib.Core.Option.{some}
 use Prim.Native.Nat.{ℕ, _≤_, _<_}
 use Rattle.geom.specs.declared.Vec2.{Vec2}
 use Rattle.sketch.specs.declared.Curve.{Curve}
@@ -20,36 +20,30 @@ use Rattle.edit_plan.specs.Suited.{PinHolds, Pinned, Suited}
 use Rattle.edit_plan.proofs.Tables.{holds-at, look-some}
 use Rattle.edit_plan.proofs.Every.{rising-among}
 use Rattle.agreement.specs.Machines.{Protocol, initial, DeskStep, messages, DeskRun, WallStep, Delivered, WallRun}
-use Rattle.agreement.specs.EditEffect.{Pieces, EditEffect}
+use Rattle.agreement.specs.EditEffect.{EditEffect}
 use Rattle.agreement.specs.Demand.{Demand3}
 use Rattle.agreement.proofs.Counts.{there, among-as}
 use Rattle.agreement.proofs.Wall.{Read}
-use Rattle.agreement.proofs.Demand.{Keeps, demand-3}
+use Rattle.agreement.proofs.FamiliesJoined.{Keeps}
+use Rattle.agreement.proofs.Demand.{demand-3}
 use Rattle.chains.specs.CurveView.{ids, ends, curveView}
 use Rattle.chains.proofs.AddedPieces.{stand-in}
 use Rattle.chains.proofs.Steps.{low-of}
-use Rattle.chains.proofs.Shapes.{ShapeAt, apply-plan-effect}
+use Rattle.chains.proofs.Shapes.{apply-plan-effect}
 use Rattle.chains.proofs.Keeps.{apply-plan-valid}
 
 module _ (met : Drawing → Bool) (m : Limits) (d : Drawing) (v : Valid m d) (t : ℕ) where
   -- ---- any plan
 
   module _ (plan : Plan) (d′ : Drawing) (r : Removed) (q : applyPlan met m d t plan ≡ accepted d′ r) where
-    plan-shape-at : ShapeAt met m d (low-of m d v) t d′ r
-    plan-shape-at = holds-at (ShapeAt met m d (low-of m d v) t) (applyPlan met m d t plan) d′ r (apply-plan-effect met m d (low-of m d v) t plan) q
-
     pub plan-shape : EditEffect curveView d t d′ r
-    plan-shape = plan-shape-at .shape
+    plan-shape = holds-at (EditEffect curveView d t) (applyPlan met m d t plan) d′ r (apply-plan-effect met m d (low-of m d v) t plan) q
 
     -- its curve stood in the drawing
     pub plan-target : (among t (ids d) ≡ true) × (t < d .next)
     plan-target =
         let h = there t (ids d) (plan-shape .stood) in
         (h, rising-among (d .next) 0 t (ids d) (v .curves-rise) h .1)
-
-    -- a curve without ends becomes a ring: pieces that lead from a point back to it
-    pub plan-ring : ends d t ≡ none → (i : ℕ) × Pieces curveView d t d′ r i i
-    plan-ring = plan-shape-at .ring
 
     -- the next id never falls
     pub plan-grows : d .next ≤ d′ .next
@@ -89,6 +83,7 @@ module _ {E : Type 0} (target : E → ℕ) (met : Drawing → Bool) (m : Limits)
           valid = λ d e d′ r v q. let (plan, h, o) = f d e d′ r v q in plan-valid met m d v (target e) plan d′ r o h;
           shape = λ d e d′ r v q. let (plan, h, o) = f d e d′ r v q in plan-shape met m d v (target e) plan d′ r o;
           bounded = λ d c a b v e. rising-among (d .next) 0 c (ids d) (v .curves-rise) (there c (ids d) (stand-in (d .curves) c (a, b) e)) .1;
+          curve-bounded = λ d c o v e. rising-among (d .next) 0 c (ids d) (v .curves-rise) (there c (ids d) (look-some (d .curves) c o e .0)) .1;
         }
 
     pub planned-demand-3 :

@@ -1,4 +1,5 @@
--- A plan applied has the shape that chains need (`Shapes`) and leaves a valid drawing (`Keeps`); so the whole claim holds of edits that do so (`Edits`).
+-- A plan applied has the effect that chains and rings need (`Shapes`) and leaves a valid drawing (`Keeps`); so the whole claim holds of edits that do so
+-- (`Edits`). Two worked examples (`Model`, `CutCircle`), and faults of the second (`NoRing`).
 pub mod AddedPieces
 pub mod Close
 pub mod Same
@@ -17,3 +18,5 @@ pub mod Keeps
 pub mod Refusals
 pub mod Edits
 pub mod Model
+pub mod CutCircle
+pub mod NoRing

@@ -1,4 +1,4 @@
--- The steps that leave the table of curves alone: points, relations, pins, ties. Assumes nothing.
+-- The steps that leave the table of curves alone: points, the first of which takes the next id, relations, pins, ties. Assumes nothing.
 use mathlib.Core.Path.{_≡_, refl, _∙_}
 use mathlib.Core.Bool.{Bool, true, false}
 use mathlib.Core.List.{List, [], _∷_}
@@ -28,16 +28,21 @@ same-refl d = record { curves = refl; grows = omega arith }
 pub same-trans : {d e f : Drawing} → Same d e → Same e f → Same d f
 same-trans p q = record { curves = q .curves ∙ p .curves; grows = omega arith }
 
-same-point : (m : Limits) (d : Drawing) (s : Vec2) → Holds (λ d′ p. Same d d′) (addPoint m d s)
-same-point m d s =
-    holds-guard (λ d′ p. Same d d′) _ 23 _ λ a. holds-guard (λ d′ p. Same d d′) _ 22 _ λ b. holds-guard (λ d′ p. Same d d′) _ 24 _ λ c.
-    record { curves = refl; grows = omega arith }
+-- the first of some ids, if there is one, is n
+abbrev pub FirstIs : ℕ → List ℕ → Type 0
+FirstIs n [] = Unit {0}
+FirstIs n (p ∷ ps) = p ≡ n
 
-pub same-points : (m : Limits) (d : Drawing) (ss : List Vec2) → Holds (λ d′ ps. Same d d′) (addPoints m d ss)
-same-points m d [] = same-refl d
+same-point : (m : Limits) (d : Drawing) (s : Vec2) → Holds (λ d′ p. Same d d′ × (p ≡ d .next)) (addPoint m d s)
+same-point m d s =
+    holds-guard (λ d′ p. Same d d′ × (p ≡ d .next)) _ 23 _ λ a. holds-guard (λ d′ p. Same d d′ × (p ≡ d .next)) _ 22 _ λ b. holds-guard (λ d′ p. Same d d′ × (p ≡ d .next)) _ 24 _ λ c.
+    (record { curves = refl; grows = omega arith }, refl)
+
+pub same-points : (m : Limits) (d : Drawing) (ss : List Vec2) → Holds (λ d′ ps. Same d d′ × FirstIs (d .next) ps) (addPoints m d ss)
+same-points m d [] = (same-refl d, tt)
 same-points m d (s ∷ ss) =
-    holds-then (λ d′ p. Same d d′) (λ d′ ps. Same d d′) (addPoint m d s) _ (same-point m d s) λ d′ p h.
-    holds-then (λ d″ ps. Same d′ d″) (λ d″ ps. Same d d″) (addPoints m d′ ss) _ (same-points m d′ ss) λ d″ ps k. same-trans h k
+    holds-then (λ d′ p. Same d d′ × (p ≡ d .next)) (λ d′ ps. Same d d′ × FirstIs (d .next) ps) (addPoint m d s) _ (same-point m d s) λ d′ p h.
+    holds-then (λ d″ ps. Same d′ d″ × FirstIs (d′ .next) ps) (λ d″ ps. Same d d″ × FirstIs (d .next) ps) (addPoints m d′ ss) _ (same-points m d′ ss) λ d″ ps k. (same-trans (h .0) (k .0), h .1)
 
 same-relation : (m : Limits) (d : Drawing) (r : Relation) → Holds (λ d′ u. Same d d′) (addRelation m d r)
 same-relation m d r = holds-guard (λ d′ u. Same d d′) _ 22 _ λ a. record { curves = refl; grows = omega arith }

@@ -1,4 +1,4 @@
--- A drawing's curves, as chains see them. Definitions only.
+-- A drawing's curves, as chains and rings see them. Definitions only.
 use mathlib.Core.Option.{Option}
 use mathlib.Core.List.{List}
 use Prim.Native.Nat.{ℕ}
@@ -14,4 +14,4 @@ abbrev pub ends : Drawing → ℕ → Option (ℕ × ℕ)
 ends d i = endsAt (curveIn (d .curves) i)
 
 abbrev pub curveView : CurveView Drawing
-curveView = record { ids = ids; ends = ends; next = λ d. d .next }
+curveView = record { ids = ids; ends = ends; curve = λ d i. curveIn (d .curves) i; next = λ d. d .next }

@@ -1,2 +1,3 @@
--- What the theorems on applying cite.
+-- What the theorems on applying cite, and the worked example of rings.
 pub mod CurveView
+pub mod CutCircle

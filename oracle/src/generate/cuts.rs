@@ -20,17 +20,24 @@ pub fn cut(random: &mut Random) -> (Drawing, Edit) {
         _ => {}
     }
     let target = Target::any(&mut scene, &frame);
-    let cuts = cut_parameters(scene.random, &target);
+    let (place, cuts) = add_crossed(&mut scene, &target);
+    let (x, y) = pick(scene.random, &target, &cuts);
+    edit_of(scene, place, x, y, 7)
+}
+
+/// Adds a target with curves that cut it, neighbours and relations. Answers its place in the table
+/// and the parameters at which it is cut.
+pub fn add_crossed(scene: &mut Scene, target: &Target) -> (usize, Vec<f64>) {
+    let cuts = cut_parameters(scene.random, target);
     let (first, rest) = cuts.split_at(scene.random.below(cuts.len() + 1));
-    first.iter().for_each(|t| add_cutter(&mut scene, &target.frame(*t)));
+    first.iter().for_each(|t| add_cutter(scene, &target.frame(*t)));
     let curve = scene.curve(target.kind);
     let place = scene.drawing.curves.len() - 1;
     scene.drawing.curves[place].infinite &= scene.random.one_in(4);
-    rest.iter().for_each(|t| add_cutter(&mut scene, &target.frame(*t)));
-    add_neighbours(&mut scene, &target);
-    add_relations(&mut scene, curve);
-    let (x, y) = pick(scene.random, &target, &cuts);
-    edit_of(scene, place, x, y, 7)
+    rest.iter().for_each(|t| add_cutter(scene, &target.frame(*t)));
+    add_neighbours(scene, target);
+    add_relations(scene, curve);
+    (place, cuts)
 }
 
 /// The finished drawing, crowded once in so many times, with an edit of the curve at a place.
@@ -120,7 +127,7 @@ fn add_neighbours(scene: &mut Scene, target: &Target) {
 }
 
 /// On a cut, a rounding off it, between two, before the first, behind the last, at an end.
-fn pick(random: &mut Random, target: &Target, cuts: &[f64]) -> (f64, f64) {
+pub fn pick(random: &mut Random, target: &Target, cuts: &[f64]) -> (f64, f64) {
     let span = target.span();
     let cut = |random: &mut Random| if cuts.is_empty() { 0.5 } else { random.pick(cuts) };
     let end = random.pick(&[0.0, span]);

@@ -23,6 +23,7 @@ pub mod patterns;
 pub mod polynomials;
 pub mod random;
 pub mod relations;
+pub mod rings;
 pub mod runs;
 pub mod scene;
 pub mod targets;

@@ -101,7 +101,7 @@ fn arc(scene: &mut Scene, frame: &Frame) -> Target {
     Target { kind: CurveKind::Arc { c, a, b }, shape }
 }
 
-fn circle(scene: &mut Scene, frame: &Frame) -> Target {
+pub fn circle(scene: &mut Scene, frame: &Frame) -> Target {
     let radius = size(scene.random).clamp(*RADIUS.start(), *RADIUS.end());
     let (x, y) = centre(scene.random, frame, radius);
     let c = scene.point(x, y);

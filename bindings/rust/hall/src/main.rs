@@ -11,6 +11,7 @@ mod edits;
 mod picture;
 mod radio;
 mod random;
+mod rings;
 mod simulation;
 
 use simulation::{Simulation, Tally};
@@ -37,7 +38,7 @@ fn main() -> ExitCode {
     }
 }
 
-/// Answers whether every wall ended with its desk's image.
+/// Answers whether every wall ended with its desk's image, and every circle that was cut as a ring.
 fn run(seed: u64, file: &str) -> Result<bool, Box<dyn std::error::Error>> {
     let mut simulations = Vec::new();
     for (place, bridge) in bridges::all().into_iter().enumerate() {
@@ -48,7 +49,7 @@ fn run(seed: u64, file: &str) -> Result<bool, Box<dyn std::error::Error>> {
     print_table(&simulations);
     std::fs::write(file, picture::of(&simulations)).map_err(|error| format!("{file}: {error}"))?;
     println!("picture: {file}");
-    Ok(simulations.iter().all(Simulation::agrees))
+    Ok(simulations.iter().all(Simulation::passes))
 }
 
 fn print_table(simulations: &[Simulation]) {
@@ -72,6 +73,11 @@ fn print_table(simulations: &[Simulation]) {
     row("wall's count caught up", &|simulation| simulation.wall_count().to_string());
     row("desk's count", &|simulation| simulation.desk_count().to_string());
     row("same image", &|simulation| if simulation.agrees() { "yes".into() } else { "no".into() });
+    row("circles not cut", &|simulation| simulation.desk_rings().uncut.to_string());
+    row("circles removed whole", &|simulation| simulation.desk_rings().removed_whole.to_string());
+    row("circles cut", &|simulation| simulation.desk_rings().cut.to_string());
+    row("rings closed at the desk", &|simulation| simulation.desk_rings().closed.to_string());
+    row("rings closed at the wall", &|simulation| simulation.wall_rings().closed.to_string());
     for simulation in simulations {
         println!("{} refused by number: {}", simulation.name(), simulation.tally.refusals());
     }

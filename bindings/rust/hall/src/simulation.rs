@@ -5,6 +5,7 @@ use crate::cut_away::cut_away;
 use crate::edits;
 use crate::radio::{Message, Radio};
 use crate::random::Random;
+use crate::rings::{RingCounts, Rings};
 use mulkefi::{read, Delivery, Desk, Drawing, Edit, Refusal, Report, Stroke, Wall};
 use std::collections::BTreeMap;
 
@@ -53,6 +54,8 @@ pub struct Simulation {
     messages: Vec<Message>,
     desk_cut_away: Vec<Stroke>,
     wall_cut_away: Vec<Stroke>,
+    desk_rings: Rings,
+    wall_rings: Rings,
     pub tally: Tally,
 }
 
@@ -64,6 +67,8 @@ impl Simulation {
             wall: Wall::start(&image)?,
             radio: Radio::new(seed ^ 0x5eed),
             random: Random::new(seed),
+            desk_rings: Rings::new(&bridge.drawing),
+            wall_rings: Rings::new(&bridge.drawing),
             bridge,
             messages: Vec::new(),
             desk_cut_away: Vec::new(),
@@ -97,6 +102,7 @@ impl Simulation {
                 let piece = cut_away(&before, &after, edit.curve, &accepted.report);
                 self.tally.cut_away += usize::from(piece.is_some());
                 self.desk_cut_away.extend(piece);
+                self.desk_rings.follow(&before, &after, edit.curve, &accepted.report);
                 self.messages.push(accepted.message);
                 self.send(accepted.message)?;
             }
@@ -117,17 +123,18 @@ impl Simulation {
         let before = drawing_of(self.wall.image());
         match self.wall.deliver(message) {
             Ok(Delivery::Old) => self.tally.old += 1,
-            Ok(Delivery::Applied(report)) => self.keep_cut_away_at_wall(&before, message, &report),
+            Ok(Delivery::Applied(report)) => self.follow_at_wall(&before, message, &report),
             Err(Refusal::Ahead) => self.tally.ahead += 1,
             Err(refusal) => return Err(refusal),
         }
         Ok(())
     }
 
-    fn keep_cut_away_at_wall(&mut self, before: &Drawing, message: &Message, report: &Report) {
+    fn follow_at_wall(&mut self, before: &Drawing, message: &Message, report: &Report) {
         let curve = u32::from_be_bytes([message[10], message[11], message[12], message[13]]);
         let after = drawing_of(self.wall.image());
         self.wall_cut_away.extend(cut_away(before, &after, curve, report));
+        self.wall_rings.follow(before, &after, curve, report);
     }
 
     /// Sends again from the wall's count on, a few at a time and by the same radio, until nothing is
@@ -148,6 +155,20 @@ impl Simulation {
 
     pub fn agrees(&self) -> bool {
         self.desk.image() == self.wall.image() && self.desk.count() == self.wall.count()
+    }
+
+    /// Whether the wall agrees with the desk, and every starting circle that was cut is a ring at both.
+    pub fn passes(&self) -> bool {
+        let all_closed = |counts: RingCounts| counts.closed == counts.cut;
+        self.agrees() && all_closed(self.desk_rings()) && all_closed(self.wall_rings())
+    }
+
+    pub fn desk_rings(&self) -> RingCounts {
+        self.desk_rings.counts(&drawing_of(self.desk.image()))
+    }
+
+    pub fn wall_rings(&self) -> RingCounts {
+        self.wall_rings.counts(&drawing_of(self.wall.image()))
     }
 
     pub fn desk_count(&self) -> u32 {
@@ -175,18 +196,56 @@ fn drawing_of(image: &[u8]) -> Drawing {
 mod tests {
     use super::*;
     use crate::bridges;
+    use mulkefi::Kind;
+
+    fn run(bridge: Bridge, seed: u64) -> Simulation {
+        let mut simulation = Simulation::new(bridge, seed).expect("a bridge is a good image");
+        simulation.run().expect("the wall is refused nothing but what is ahead");
+        simulation
+    }
 
     #[test]
     fn walls_catch_up_whatever_the_radio_does() {
         for seed in 0..100 {
             for bridge in bridges::all() {
-                let mut simulation =
-                    Simulation::new(bridge, seed).expect("a bridge is a good image");
-                simulation.run().expect("the wall is refused nothing but what is ahead");
+                let simulation = run(bridge, seed);
                 assert!(simulation.agrees(), "seed {seed}");
                 assert_eq!(simulation.desk_cut_away, simulation.wall_cut_away, "seed {seed}");
                 assert!(simulation.tally.lost > 0 && simulation.tally.repeated > 0, "seed {seed}");
             }
         }
+    }
+
+    /// The script cuts four bank arches and two wheels of the round arch; a random edit may cut or
+    /// remove a lamp. No circle is cut while a freeform curve is in the drawing.
+    #[test]
+    fn circles_that_are_cut_are_rings_at_desk_and_wall() {
+        for seed in 0..100 {
+            let [round, free] = bridges::all().map(|bridge| run(bridge, seed));
+            for simulation in [&round, &free] {
+                let at_desk = simulation.desk_rings();
+                assert_eq!(at_desk.closed, at_desk.cut, "seed {seed}");
+                assert_eq!(simulation.wall_rings(), at_desk, "seed {seed}");
+                assert!(simulation.passes(), "seed {seed}");
+            }
+            assert!((6..=8).contains(&round.desk_rings().cut), "seed {seed}");
+            assert_eq!((free.desk_rings().cut, free.desk_rings().uncut), (0, 4), "seed {seed}");
+        }
+    }
+
+    #[test]
+    fn a_ring_that_is_open_at_the_wall_alone_is_noticed() {
+        let [bridge, _] = bridges::all();
+        let mut simulation = run(bridge, 1);
+        assert!(simulation.passes());
+        let drawing = drawing_of(simulation.wall.image());
+        let mut curves = drawing.curves.iter();
+        let lamp = curves.find(|curve| matches!(curve.kind, Kind::Circle { .. }));
+        let lamp = lamp.expect("a lamp stands").id;
+        // An accepted edit of the lamp that adds no arc and reports nothing.
+        simulation.wall_rings.follow(&drawing, &drawing, lamp, &Report::default());
+        assert!(!simulation.passes());
+        assert!(simulation.agrees());
+        assert_eq!(simulation.desk_rings().closed, simulation.desk_rings().cut);
     }
 }

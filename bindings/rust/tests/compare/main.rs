@@ -1,14 +1,16 @@
 //! Desk, wall, the C interface, the search for roots and the largest magnitude against the oracle, on
-//! generated input.
+//! generated input; and the families of curves at desk and wall.
 //!
 //! `cargo test --release --test compare -- CASES SEED`; the cases are also taken from MULKEFI_CASES.
 //! Of so many cases a quarter each are desk calls, deliveries, calls with rooms of every size and
-//! searches; as many again are lists of numbers, and a further one in forty is a whole run. What came
-//! up is printed by outcome.
+//! searches; as many again are lists of numbers, and a further one in forty is a whole run. For each
+//! case five lists of edits are followed, whose families need no upstream source. What came up is
+//! printed by outcome.
 
 mod boundary;
 mod cases;
 mod coverage;
+mod families;
 mod implementations;
 mod magnitudes;
 mod runs;
@@ -21,24 +23,41 @@ use oracle::upstream;
 use std::process::ExitCode;
 
 const CASES: usize = 20_000;
+/// Lists of edits whose families are followed, for so many cases.
+const LISTS: usize = 100_000;
 
 fn main() -> ExitCode {
-    if !upstream::PRESENT {
-        println!("no upstream source: the comparison of desk and wall is skipped");
-        return ExitCode::SUCCESS;
-    }
     // Other arguments are the test harness's.
     let mut numbers = std::env::args().skip(1).filter_map(|text| text.parse::<usize>().ok());
     let asked = std::env::var("MULKEFI_CASES").ok().and_then(|text| text.parse().ok());
     let cases = numbers.next().or(asked).unwrap_or(CASES);
     let seed = numbers.next().unwrap_or(1) as u64;
-    match compare(cases, seed).and_then(|()| planted_fault_is_seen()) {
+    match run(cases, seed) {
         Ok(()) => ExitCode::SUCCESS,
         Err(difference) => {
             println!("{difference}");
             ExitCode::FAILURE
         }
     }
+}
+
+fn run(cases: usize, seed: u64) -> Result<(), String> {
+    if upstream::PRESENT {
+        compare(cases, seed)?;
+        planted_fault_is_seen()?;
+    } else {
+        println!("no upstream source: the comparison of desk and wall is skipped");
+    }
+    check_families(cases * LISTS / CASES, seed)?;
+    families::planted_faults_are_seen()
+}
+
+fn check_families(lists: usize, seed: u64) -> Result<(), String> {
+    let mut seen = families::FamilyCoverage::default();
+    families::check(&mut Random::new(seed), lists, &mut seen)
+        .map_err(|fault| format!("families: {fault}"))?;
+    print!("families: {lists} lists followed, every chain and ring joined\n{seen}");
+    Ok(())
 }
 
 fn compare(cases: usize, seed: u64) -> Result<(), String> {
