@@ -45,7 +45,7 @@ ends-arcs x y i a b = go (eqb i 2) (eqb i 5)
     go false true h = inr h
     go false false h = let z : _≡_ {A = ℕ} 0 1 = cc in absurd (omega arith)
 
--- where a split reports nothing, only a ring can save it
+-- a split that reports nothing leaves the third case alone, a ring
 by-ring : (x y : CurveKind) → (Ring curveView (2 ∷ 5 ∷ []) (arcs x y) (splitReport ∷ []) (centreOf (wheel .kind)) → ⊥) → CircleOf curveView editedCurve uncut (entry (arcs x y) splitReport ∷ []) (arcs x y) 2 wheel → ⊥
 by-ring x y k (circleUncut f g h) = let z : _≡_ {A = ℕ} 0 1 = cc in omega arith
 by-ring x y k (circleRemoved f g h) =

@@ -40,6 +40,15 @@ pub swap-is : (t g : ℕ) (d : Drawing) (x y : Curve) → curveIn (d .curves) t 
 unfolding swapKinds
 swap-is t g d x y ex ey = rw (ex, ey)
 
+-- a curve with ends is no circle
+circle-ends : (k : CurveKind) (a b : ℕ) → endsOf k ≡ some (a, b) → isCircle k ≡ false
+unfolding endsOf isCircle
+circle-ends (Line x y) a b e = refl
+circle-ends (Arc o x y) a b e = refl
+circle-ends (Circle o r) a b e = let z : _≡_ {A = ℕ} 0 1 = cc in absurd (omega arith)
+circle-ends (Bezier n) a b e = refl
+circle-ends (Conic x p y rho) a b e = refl
+
 module _ (met : Drawing → Bool) (m : Limits) (d : Drawing) (w : Low (d .next) (d .curves)) where
   abbrev Effect : ℕ → Drawing → Removed → Type 0
   Effect t d′ r = EditEffect curveView d t d′ r
@@ -57,19 +66,30 @@ module _ (met : Drawing → Bool) (m : Limits) (d : Drawing) (w : Low (d .next) 
     here : 0 < occurrences t (ids d)
     here = look-some (d .curves) t c at .0
 
-    below-next : 0 < d .next
-    below-next = omega (arith, t-below d w t here)
+    next-above-zero : 0 < d .next
+    next-above-zero = omega (arith, t-below d w t here)
+
+    -- a curve with ends, its pieces being made by f
+    add-pieces-between :
+        (k : CurveKind) (f : ℕ → ℕ → CurveKind) (a b : ℕ) → endsOf k ≡ some (a, b) → ((x y : ℕ) → endsOf (f x y) ≡ some (x, y)) → ((x y : ℕ) → centreOf (f x y) ≡ centreAt (curveIn (d .curves) t))
+        → (d′ : Drawing) → Same d d′ → (u : Bool) (ps : List ℕ) → Holds (λ d″ q. PartedOf k t d″ (q .pieces)) (addPieces m d′ t u ps (links f a ps b))
+    add-pieces-between k f a b e fe fo d′ s u ps =
+        holds-map (λ d″ q. Parted d t d″ (q .pieces) a b × (0 < length ps → 0 < length (q .pieces))) (λ d″ q. PartedOf k t d″ (q .pieces)) (addPieces m d′ t u ps (links f a ps b))
+        (λ d″ q h.
+        record {
+          a = a;
+          b = b;
+          cut-is = h .0;
+          whose = λ x y g. same-ends a b x y (sym e ∙ g);
+          round = λ g. never (sym (circle-ends k a b e) ∙ g);
+          several = λ g. never (sym (circle-ends k a b e) ∙ g);
+        })
+        (add-pieces-linked d t f fe fo u m w c at d′ s ps a ps b)
 
     add-pieces-cut : (k : CurveKind) → centreOf k ≡ centreAt (curveIn (d .curves) t) → (d′ : Drawing) → Same d d′ → (u : Bool) (ps : List ℕ) → FirstIs (d .next) ps → Holds (λ d″ q. PartedOf k t d″ (q .pieces)) (addPieces m d′ t u ps (piecesOf k ps))
     unfolding piecesOf addPieces endsOf isCircle centreOf
-    add-pieces-cut (Line a b) cs d′ s u ps first =
-        holds-map (λ d″ q. Parted d t d″ (q .pieces) a b × (0 < length ps → 0 < length (q .pieces))) (λ d″ q. PartedOf (Line a b) t d″ (q .pieces)) (addPieces m d′ t u ps (links Line a ps b))
-        (λ d″ q h. record { a = a; b = b; cut-is = h .0; whose = same-ends a b; round = λ e. never e; several = λ e. never e })
-        (add-pieces-linked d t Line (λ x y. refl) (λ x y. cs) u m w c at d′ s ps a ps b)
-    add-pieces-cut (Arc o a b) cs d′ s u ps first =
-        holds-map (λ d″ q. Parted d t d″ (q .pieces) a b × (0 < length ps → 0 < length (q .pieces))) (λ d″ q. PartedOf (Arc o a b) t d″ (q .pieces)) (addPieces m d′ t u ps (links (Arc o) a ps b))
-        (λ d″ q h. record { a = a; b = b; cut-is = h .0; whose = same-ends a b; round = λ e. never e; several = λ e. never e })
-        (add-pieces-linked d t (Arc o) (λ x y. refl) (λ x y. cs) u m w c at d′ s ps a ps b)
+    add-pieces-cut (Line a b) cs d′ s u ps first = add-pieces-between (Line a b) Line a b refl (λ x y. refl) (λ x y. cs) d′ s u ps
+    add-pieces-cut (Arc o a b) cs d′ s u ps first = add-pieces-between (Arc o a b) (Arc o) a b refl (λ x y. refl) (λ x y. cs) d′ s u ps
     add-pieces-cut (Circle o r) cs d′ s u [] first = tt
     add-pieces-cut (Circle o r) cs d′ s u (p ∷ []) first = tt
     add-pieces-cut (Circle o r) cs d′ s u (p ∷ q ∷ ps) first =
@@ -80,7 +100,7 @@ module _ (met : Drawing → Bool) (m : Limits) (d : Drawing) (w : Low (d .next) 
           b = p;
           cut-is = h .0;
           whose = λ x y e. let z : _≡_ {A = ℕ} 0 1 = cc in absurd (omega arith);
-          round = λ e. (refl, omega (arith, first, below-next));
+          round = λ e. (refl, omega (arith, first, next-above-zero));
           several = λ e. h .1 (omega arith);
         })
         (add-pieces-linked d t (Arc o) (λ x y. refl) (λ x y. cs) u m w c at d′ s (p ∷ q ∷ ps) p (q ∷ ps) p)
@@ -97,15 +117,6 @@ module _ (met : Drawing → Bool) (m : Limits) (d : Drawing) (w : Low (d .next) 
 
     kind-here : (k : Curve) → curveIn (d .curves) t ≡ some k → isCircle (k .kind) ≡ true → isCircle (c .kind) ≡ true
     kind-here k e h = let q : k ≡ c = cc in ap (λ (x : Curve). isCircle (x .kind)) (sym q) ∙ h
-
-    -- a curve with ends is no circle
-    circle-ends : (k : CurveKind) (a b : ℕ) → endsOf k ≡ some (a, b) → isCircle k ≡ false
-    unfolding endsOf isCircle
-    circle-ends (Line x y) a b e = refl
-    circle-ends (Arc o x y) a b e = refl
-    circle-ends (Circle o r) a b e = let z : _≡_ {A = ℕ} 0 1 = cc in absurd (omega arith)
-    circle-ends (Bezier n) a b e = refl
-    circle-ends (Conic x p y rho) a b e = refl
 
     -- the pieces join the curve's ends, or make a circle's loop
     record Way (ps : List Piece) : Type 0 where
