@@ -36,6 +36,13 @@ there-count i l h = ltb-true 0 (occurrences i l) (sym (among-count i l) ∙ h)
 pub away-count : (i : ℕ) (l : List ℕ) → among i l ≡ false → occurrences i l ≡ 0
 away-count i l h = let q = ltb-false 0 (occurrences i l) (sym (among-count i l) ∙ h) in omega arith
 
+pub one-is : (i x : ℕ) → 0 < occurrences i (x ∷ []) → i ≡ x
+one-is i x h = go (ℕ-discrete i x)
+  where
+    go : Dec (i ≡ x) → i ≡ x
+    go (yes e) = e
+    go (no ne) = absurd (omega (arith, occ-other i x [] ne))
+
 pub at-most : (i x : ℕ) → occurrences i (x ∷ []) ≤ 1
 at-most i x = go (ℕ-discrete i x)
   where

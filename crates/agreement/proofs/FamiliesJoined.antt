@@ -14,11 +14,10 @@ use Rattle.edit_plan.specs.declared.Removed.{Removed}
 use Rattle.edit_plan.specs.Outcome.{accepted}
 use Rattle.edit_plan.specs.Counts.{occurrences}
 use Rattle.edit_plan.specs.Changes.{isCircle}
-use Rattle.edit_plan.proofs.Tables.{occ-other}
 use Rattle.agreement.specs.Machines.{State, Protocol, Entry}
 use Rattle.agreement.specs.Families.{CurveView, reports, added, family, Chain, centreAt, CircleOf, circleUncut, circleRemoved, circleCut, FamiliesJoined}
 use Rattle.agreement.specs.EditEffect.{EditEffect, CircleEffect, removedWhole, cutToArcs}
-use Rattle.agreement.proofs.Counts.{at-most, among-as, away-count}
+use Rattle.agreement.proofs.Counts.{one-is, at-most, among-as, away-count}
 use Rattle.agreement.proofs.Families.{family-own, family-other, family-length}
 use Rattle.agreement.proofs.Reference.{last, Linked}
 use Rattle.agreement.proofs.Wall.{Keeping}
@@ -73,16 +72,9 @@ module _ {D E : Type 0} (p : Protocol D E Removed) (v : CurveView D) (target : E
               each = λ i. refl;
               once = λ i. at-most i c;
             };
-        below = λ i q. subst (λ (j : ℕ). j < v .next d) (sym (is-c i q)) (k .bounded d c a b y e);
-        centred = λ i q u. ap (λ (j : ℕ). centreAt (v .curve d j)) (is-c i q);
+        below = λ i q. subst (λ (j : ℕ). j < v .next d) (sym (one-is i c q)) (k .bounded d c a b y e);
+        centred = λ i q u. ap (λ (j : ℕ). centreAt (v .curve d j)) (one-is i c q);
       }
-    where
-      is-c : (i : ℕ) → 0 < occurrences i (c ∷ []) → i ≡ c
-      is-c i q = go (ℕ-discrete i c)
-        where
-          go : Dec (i ≡ c) → i ≡ c
-          go (yes z) = z
-          go (no ne) = absurd (omega (arith, occ-other i c [] ne))
 
   -- ---- circles
 

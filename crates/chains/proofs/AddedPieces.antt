@@ -16,6 +16,7 @@ use Rattle.edit_plan.specs.Tables.{rekind, newCurve}
 use Rattle.edit_plan.specs.Steps.{endsOf, endsAt}
 use Rattle.edit_plan.proofs.Tables.{occ-same, occ-other, look-some, look-left, look-right, occ-ids, ids-set, rekind-same, look-set, look-set-other}
 use Rattle.agreement.specs.Families.{centreOf, centreAt}
+use Rattle.agreement.proofs.Counts.{one-is}
 
 -- a piece is a curve's id with its two ends, as a report has them
 abbrev pub Piece : Type 0
@@ -94,13 +95,9 @@ pieces-added-one n cs t n′ cs′ a b w g e o h q =
       high = λ i q. occ-other i t [] (λ z. omega (arith, there i q z)) ∙ sym (zero-at i q);
       once = λ i q. omega (arith, zero-at i q);
       below = λ i q. zero-at i (omega arith);
-      centred = λ i p. centred-at i p (ℕ-discrete i t);
+      centred = λ i p. ap (λ (j : ℕ). centreAt (curveIn cs′ j)) (one-is i t p) ∙ q;
     }
   where
-    centred-at : (i : ℕ) → 0 < occurrences i (t ∷ []) → Dec (i ≡ t) → centreAt (curveIn cs′ i) ≡ centreAt (curveIn cs t)
-    centred-at i p (yes z) = ap (λ (j : ℕ). centreAt (curveIn cs′ j)) z ∙ q
-    centred-at i p (no ne) = absurd (omega (arith, occ-other i t [] ne))
-
     zero-at : (i : ℕ) → n ≤ i → occurrences i (curveIds cs′) ≡ 0
     zero-at i q = ap (occurrences i) e ∙ w .below i q
 

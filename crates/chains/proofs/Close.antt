@@ -43,7 +43,7 @@ Linked a [] b = a ≡ b
 Linked a (p ∷ ps) b = (p .from ≡ a) × Linked (p .to) ps b
 
 -- a circle's pieces join from a point's id back to it, and one of them is new
-pub record Loop (n : ℕ) (ps : List Piece) : Type 0 where
+pub record ClosedPieces (n : ℕ) (ps : List Piece) : Type 0 where
   pub from : ℕ
   pub above-zero : 0 < from
   pub linked : Linked from ps from
@@ -202,13 +202,13 @@ module _ (d : Drawing) (w : Low (d .next) (d .curves)) (t : ℕ) (here : 0 < occ
           }
 
       -- a circle that is cut keeps its id
-      pieces-added-circle : (r .curve ≡ t → ⊥) × Loop (d .next) ps → CircleEffect curveView d t d″ r
+      pieces-added-circle : (r .curve ≡ t → ⊥) × ClosedPieces (d .next) ps → CircleEffect curveView d t d″ r
       pieces-added-circle (ne, o) =
           cutToArcs (λ e. ne (ap (λ (x : Removed). x .curve) e)) (one-there (o .piece) (added curveView d d″ r) (omega (arith, new-count (o .piece) (o .new), o .present)))
           (o .from) (o .above-zero) (pieces-added-chain (o .from) (o .from) (o .linked))
 
       pub pieces-added-effect :
-          ((a b : ℕ) → ends d t ≡ some (a, b) → Linked a ps b) → ((k : Curve) → curveIn (d .curves) t ≡ some k → isCircle (k .kind) ≡ true → (r .curve ≡ t → ⊥) × Loop (d .next) ps)
+          ((a b : ℕ) → ends d t ≡ some (a, b) → Linked a ps b) → ((k : Curve) → curveIn (d .curves) t ≡ some k → isCircle (k .kind) ≡ true → (r .curve ≡ t → ⊥) × ClosedPieces (d .next) ps)
           → EditEffect curveView d t d″ r
       pieces-added-effect j o =
           record {

@@ -7,7 +7,6 @@ use Prim.Native.Nat.{ℕ, _≤_}
 use native.Mathlib.Omega.{arith}
 use native.Mathlib.Decide.{ℕ-discrete}
 use lib.Ieee.{le, neg, ofBits}
-use Rattle.sketch.specs.Lookup.{among}
 use Rattle.sketch.specs.Drawing.{Drawing, limits, curveIn, usesOf, pointsOf}
 use Rattle.sketch.specs.Valid.{okCoordinate}
 use Rattle.edit_plan.specs.declared.Plan.the-variants.{Whole, DivideTwo}
@@ -18,9 +17,9 @@ use Rattle.edit_plan.specs.Steps.{endsOf, endsAt, releaseRelation, piecesOf, ad
 use Rattle.edit_plan.specs.ApplyPlan.{applyPlanTo, applyPlanAt, applyPlan}
 use Rattle.edit_plan.proofs.Tables.{occ-same, occ-other}
 use Rattle.agreement.specs.Families.{reports, centreOf, centreAt, CircleOf, circleRemoved, circleCut}
-use Rattle.agreement.proofs.Counts.{at-most, there-count}
+use Rattle.agreement.proofs.Counts.{one-is, at-most, there-count}
 use Rattle.chains.specs.CurveView.{curveView}
-use Rattle.chains.specs.CutCircle.{east, west, wheel, uncut, halves, half, empty, splitReport, arcReport, circleReport, editedCurve, cutLog, removalLog, ring}
+use Rattle.chains.specs.CutCircle.{east, west, wheel, uncut, twoArcs, oneArc, noCurves, splitReport, arcReport, circleReport, editedCurve, cutLog, removalLog, ring}
 
 abbrev met : Drawing → Bool
 met d = true
@@ -30,15 +29,15 @@ unfoldable opened : Unit {0}
 unfolding guard applyPlanAt curveIn applyPlanTo okCoordinate le neg ofBits addPieces piecesOf usesOf curvesOf pointsOf releaseRelation reported endsAt endsOf centreOf
 opened = tt
 
-pub circle-split : applyPlan met limits uncut 2 (DivideTwo east west) ≡ accepted halves splitReport
+pub circle-split : applyPlan met limits uncut 2 (DivideTwo east west) ≡ accepted twoArcs splitReport
 unfolding opened
 circle-split = refl
 
-pub arc-removed : applyPlan met limits halves 5 Whole ≡ accepted half arcReport
+pub arc-removed : applyPlan met limits twoArcs 5 Whole ≡ accepted oneArc arcReport
 unfolding opened
 arc-removed = refl
 
-pub circle-removed : applyPlan met limits uncut 2 Whole ≡ accepted empty circleReport
+pub circle-removed : applyPlan met limits uncut 2 Whole ≡ accepted noCurves circleReport
 unfolding opened
 circle-removed = refl
 
@@ -52,15 +51,7 @@ once i = go (ℕ-discrete i 2)
     go (no ne) = omega (arith, occ-other i 2 (5 ∷ []) ne, at-most i 5)
     go (yes e) = rw e (omega (arith, occ-same 2 (5 ∷ []), occ-other 2 5 [] (λ f. omega arith)))
 
--- of the two the arc 2 stands
-stands : (i : ℕ) → among i (2 ∷ []) ≡ true → i ≡ 2
-stands i u = go (ℕ-discrete i 2)
-  where
-    go : Dec (i ≡ 2) → i ≡ 2
-    go (yes e) = e
-    go (no ne) = absurd (omega (arith, there-count i (2 ∷ []) u, occ-other i 2 [] ne))
-
-pub cut-circle : CircleOf curveView editedCurve uncut cutLog half 2 wheel
+pub cut-circle : CircleOf curveView editedCurve uncut cutLog oneArc 2 wheel
 unfolding opened
 cut-circle =
     circleCut splitReport refl
@@ -77,8 +68,8 @@ cut-circle =
             each = λ i. refl;
             once = once;
           };
-      centred = λ i n u. ap (λ (j : ℕ). centreAt (curveIn (half .curves) j)) (stands i u);
+      centred = λ i n u. ap (λ (j : ℕ). centreAt (curveIn (oneArc .curves) j)) (one-is i 2 (there-count i (2 ∷ []) u));
     })
 
-pub whole-circle : CircleOf curveView editedCurve uncut removalLog empty 2 wheel
+pub whole-circle : CircleOf curveView editedCurve uncut removalLog noCurves 2 wheel
 whole-circle = circleRemoved refl refl refl

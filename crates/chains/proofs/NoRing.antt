@@ -19,14 +19,14 @@ use Rattle.agreement.specs.Machines.{Entry}
 use Rattle.agreement.specs.Families.{ValidMemberAs, centreOf, Ring, CircleOf, circleUncut, circleRemoved, circleCut, wholeCircle}
 use Rattle.agreement.proofs.Rings.{end-without-start, start-without-end, member-lost}
 use Rattle.chains.specs.CurveView.{ends, curveView}
-use Rattle.chains.specs.CutCircle.{wheel, uncut, halves, half, empty, splitReport, editedCurve}
+use Rattle.chains.specs.CutCircle.{wheel, uncut, twoArcs, oneArc, noCurves, splitReport, editedCurve}
 use Rattle.chains.proofs.AddedPieces.{same-ends}
 
 -- ---- a split that leaves other arcs
 
 abbrev arcs : CurveKind → CurveKind → Drawing
 arcs x y =
-    record { next = 6; points = halves .points; curves = newCurve 2 x false ∷ newCurve 5 y false ∷ []; relations = halves .relations }
+    record { next = 6; points = twoArcs .points; curves = newCurve 2 x false ∷ newCurve 5 y false ∷ []; relations = twoArcs .relations }
 
 -- one entry, of the circle
 abbrev entry : Drawing → Removed → Entry Drawing ℕ Removed
@@ -74,9 +74,9 @@ first-turned =
     to-at i a b false r e = absurd (omega (arith, nothing-removed i a b (r .1) .0))
 
 -- the second arc leads from 4 to 4: the first starts at 3, and none ends there
-pub second-looped : CircleOf curveView editedCurve uncut (entry (arcs (Arc 1 3 4) (Arc 1 4 4)) splitReport ∷ []) (arcs (Arc 1 3 4) (Arc 1 4 4)) 2 wheel → ⊥
+pub second-ends-at-start : CircleOf curveView editedCurve uncut (entry (arcs (Arc 1 3 4) (Arc 1 4 4)) splitReport ∷ []) (arcs (Arc 1 3 4) (Arc 1 4 4)) 2 wheel → ⊥
 unfolding curveIn endsOf endsAt
-second-looped =
+second-ends-at-start =
     by-ring (Arc 1 3 4) (Arc 1 4 4) λ h.
     start-without-end curveView (arcs (Arc 1 3 4) (Arc 1 4 4)) (splitReport ∷ []) 3 2 (omega arith) h
     (λ m r e. to-at (m .id) (m .from) (m .to) (m .stands) r e) (λ m r e. from-at (m .id) (m .from) (m .to) (m .stands) r e)
@@ -101,7 +101,7 @@ arcs-straightened =
 -- ---- reports
 
 -- the centre stands where a zero should
-pub reported-with-centre : CircleOf curveView editedCurve uncut (entry empty (record { curve = 2; from = 1; to = 0 }) ∷ []) empty 2 wheel → ⊥
+pub reported-with-centre : CircleOf curveView editedCurve uncut (entry noCurves (record { curve = 2; from = 1; to = 0 }) ∷ []) noCurves 2 wheel → ⊥
 reported-with-centre (circleUncut f g h) = let z : _≡_ {A = ℕ} 0 1 = cc in omega arith
 reported-with-centre (circleRemoved f g h) =
     let e : record { curve = 2; from = 1; to = 0 } ≡ wholeCircle 2 = cc in
@@ -111,8 +111,8 @@ reported-with-centre (circleCut r f n h) = omega (arith, h .several)
 
 -- the arc 5 is gone after a second edit, which reports nothing
 pub arc-lost :
-    let l : List (Entry Drawing ℕ Removed) = entry halves splitReport ∷ record { after = record { drawing = half; count = 2 }; edit = 5; report = splitReport } ∷ [] in
-    CircleOf curveView editedCurve uncut l half 2 wheel → ⊥
+    let l : List (Entry Drawing ℕ Removed) = entry twoArcs splitReport ∷ record { after = record { drawing = oneArc; count = 2 }; edit = 5; report = splitReport } ∷ [] in
+    CircleOf curveView editedCurve uncut l oneArc 2 wheel → ⊥
 unfolding curveIn endsOf endsAt
 arc-lost (circleUncut f g h) = let z : _≡_ {A = ℕ} 0 1 = cc in omega arith
 arc-lost (circleRemoved f g h) =
@@ -120,16 +120,16 @@ arc-lost (circleRemoved f g h) =
     let z : _≡_ {A = ℕ} 0 2 = ap (λ (r : Removed). r .curve) e in
     omega arith
 arc-lost (circleCut r f n h) =
-    member-lost curveView half (splitReport ∷ splitReport ∷ []) 5 (omega arith) (λ m r e. gone (m .id) (m .from) (m .to) (m .stands) r e) h
+    member-lost curveView oneArc (splitReport ∷ splitReport ∷ []) 5 (omega arith) (λ m r e. gone (m .id) (m .from) (m .to) (m .stands) r e) h
   where
-    gone : (i a b : ℕ) (u : Bool) → ValidMemberAs curveView half (splitReport ∷ splitReport ∷ []) i a b u → i ≡ 5 → ⊥
-    gone i a b true r e = let h = ap (ends half) (sym e) ∙ r in let z : _≡_ {A = ℕ} 0 1 = cc in omega arith
+    gone : (i a b : ℕ) (u : Bool) → ValidMemberAs curveView oneArc (splitReport ∷ splitReport ∷ []) i a b u → i ≡ 5 → ⊥
+    gone i a b true r e = let h = ap (ends oneArc) (sym e) ∙ r in let z : _≡_ {A = ℕ} 0 1 = cc in omega arith
     gone i a b false r e = ⊎-elim (λ q. omega (arith, ap (λ (x : Removed). x .curve) q)) (λ q. omega (arith, nothing-removed i a b q .0)) (List·Memᴰ·cases-cons (r .1))
 
 -- the circle is gone after the edit of another curve
 pub circle-lost :
-    let l : List (Entry Drawing ℕ Removed) = record { after = record { drawing = empty; count = 1 }; edit = 9; report = splitReport } ∷ [] in
-    CircleOf curveView editedCurve uncut l empty 2 wheel → ⊥
+    let l : List (Entry Drawing ℕ Removed) = record { after = record { drawing = noCurves; count = 1 }; edit = 9; report = splitReport } ∷ [] in
+    CircleOf curveView editedCurve uncut l noCurves 2 wheel → ⊥
 unfolding curveIn
 circle-lost (circleUncut f g h) = let z : _≡_ {A = ℕ} 0 1 = cc in omega arith
 circle-lost (circleRemoved f g h) = let z : _≡_ {A = ℕ} 0 1 = cc in omega arith

@@ -32,7 +32,7 @@ use Rattle.agreement.specs.EditEffect.{EditEffect}
 use Rattle.agreement.proofs.Counts.{there-count}
 use Rattle.chains.specs.CurveView.{ids, ends, curveView}
 use Rattle.chains.proofs.AddedPieces.{Piece, names, link, PiecesAdded, Low, pieces-added-one, second-new, pieces-added-swap, same-ends}
-use Rattle.chains.proofs.Close.{Linked, Loop, pieces-added-effect, none-added, removed-circle, pieces-added-zero, t-below, t-above}
+use Rattle.chains.proofs.Close.{Linked, ClosedPieces, pieces-added-effect, none-added, removed-circle, pieces-added-zero, t-below, t-above}
 use Rattle.chains.proofs.Same.{Same, FirstIs, same-trans, same-points, same-pin, same-pins, same-tie}
 use Rattle.chains.proofs.Rows.{Parted, pieces-added-same, add-pieces-linked}
 
@@ -118,16 +118,16 @@ module _ (met : Drawing → Bool) (m : Limits) (d : Drawing) (w : Low (d .next) 
     kind-here : (k : Curve) → curveIn (d .curves) t ≡ some k → isCircle (k .kind) ≡ true → isCircle (c .kind) ≡ true
     kind-here k e h = let q : k ≡ c = cc in ap (λ (x : Curve). isCircle (x .kind)) (sym q) ∙ h
 
-    -- the pieces join the curve's ends, or make a circle's loop
+    -- the pieces join the curve's ends, or, a circle's, lead from a point back to it
     record Way (ps : List Piece) : Type 0 where
       line : (x y : ℕ) → endsOf (c .kind) ≡ some (x, y) → Linked x ps y
-      loop : isCircle (c .kind) ≡ true → Loop (d .next) ps
+      closed : isCircle (c .kind) ≡ true → ClosedPieces (d .next) ps
 
     way : (a b : ℕ) (ps : List Piece) → ((x y : ℕ) → endsOf (c .kind) ≡ some (x, y) → (a ≡ x) × (b ≡ y)) → (isCircle (c .kind) ≡ true → (a ≡ b) × (0 < a)) → Linked a ps b → (g : ℕ) → (isCircle (c .kind) ≡ true → (d .next ≤ g) × (0 < occurrences g (names ps))) → Way ps
     way a b ps h o j g n =
         record {
           line = λ x y e. linked-as (c .kind) a b x y ps h j e;
-          loop = λ e.
+          closed = λ e.
               record { from = a; above-zero = o e .1; linked = subst (λ (z : ℕ). Linked a ps z) (sym (o e .0)) j; piece = g; new = n e .0; present = n e .1 };
         }
 
@@ -136,7 +136,7 @@ module _ (met : Drawing → Bool) (m : Limits) (d : Drawing) (w : Low (d .next) 
     close d′ ps l j =
         let z = pieces-added-zero d w t here (d′ .next) (d′ .curves) ps l in
         pieces-added-effect d w t here d′ (d′ .curves) ps l nothing (λ i ne. refl) (λ i ne. refl) z (λ p. absurd (omega arith)) (λ p. absurd (omega arith))
-        (λ x y e. j .line x y (sym ends-here ∙ e)) (λ k e u. (λ q. omega (arith, t-above d w t here), j .loop (kind-here k e u)))
+        (λ x y e. j .line x y (sym ends-here ∙ e)) (λ k e u. (λ q. omega (arith, t-above d w t here), j .closed (kind-here k e u)))
 
     -- the piece g removed
     close-without : (g : ℕ) (d′ : Drawing) (ps : List Piece) → PiecesAdded (d .next) (d .curves) t (d′ .next) (d′ .curves) ps → (f h : ℕ) → endsAt (curveIn (d′ .curves) g) ≡ some (f, h) → 0 < occurrences g (names ps) → (isCircle (c .kind) ≡ true → d .next ≤ g) → Way ps → Effect t (remove g d′) (reported g (endsAt (curveIn (d′ .curves) g)))
@@ -146,7 +146,7 @@ module _ (met : Drawing → Bool) (m : Limits) (d : Drawing) (w : Low (d .next) 
         let same : (i : ℕ) → (i ≡ g → ⊥) → occurrences i (curveIds (others g (d′ .curves))) ≡ occurrences i (curveIds (d′ .curves)) = λ i ne. occ-stays g i (d′ .curves) ne in
         rw e
         (pieces-added-effect d w t here (remove g d′) (d′ .curves) ps l (link g f h) look same (occ-gone g (d′ .curves)) (λ p. e) (λ p. o)
-        (λ x y e. j .line x y (sym ends-here ∙ e)) (λ k e u. (λ q. omega (arith, n (kind-here k e u), t-below d w t here), j .loop (kind-here k e u))))
+        (λ x y e. j .line x y (sym ends-here ∙ e)) (λ k e u. (λ q. omega (arith, n (kind-here k e u), t-below d w t here), j .closed (kind-here k e u))))
 
     some-of : (o : Option Curve) (e : ℕ × ℕ) → endsAt o ≡ some e → (x : Curve) × (o ≡ some x)
     unfolding endsAt

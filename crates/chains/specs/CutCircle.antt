@@ -33,8 +33,8 @@ abbrev pub uncut : Drawing
 uncut = record { next = 3; points = newPoint 1 (record { x = 0f; y = 0f }) ∷ []; curves = wheel ∷ []; relations = [] }
 
 -- split in the points 3 and 4: the arc 2 from 3 to 4, the arc 5 back
-abbrev pub halves : Drawing
-halves =
+abbrev pub twoArcs : Drawing
+twoArcs =
     record {
       next = 6;
       points = newPoint 1 (record { x = 0f; y = 0f }) ∷ newPoint 3 east ∷ newPoint 4 west ∷ [];
@@ -43,8 +43,8 @@ halves =
     }
 
 -- without the arc 5
-abbrev pub half : Drawing
-half =
+abbrev pub oneArc : Drawing
+oneArc =
     record {
       next = 6;
       points = newPoint 1 (record { x = 0f; y = 0f }) ∷ newPoint 3 east ∷ newPoint 4 west ∷ [];
@@ -53,8 +53,8 @@ half =
     }
 
 -- without the circle, and so without its centre
-abbrev pub empty : Drawing
-empty = record { next = 3; points = []; curves = []; relations = [] }
+abbrev pub noCurves : Drawing
+noCurves = record { next = 3; points = []; curves = []; relations = [] }
 
 abbrev pub splitReport : Removed
 splitReport = record { curve = 0; from = 0; to = 0 }
@@ -71,12 +71,12 @@ editedCurve i = i
 
 abbrev pub cutLog : List (Entry Drawing ℕ Removed)
 cutLog =
-    record { after = record { drawing = halves; count = 1 }; edit = 2; report = splitReport }
-    ∷ record { after = record { drawing = half; count = 2 }; edit = 5; report = arcReport }
+    record { after = record { drawing = twoArcs; count = 1 }; edit = 2; report = splitReport }
+    ∷ record { after = record { drawing = oneArc; count = 2 }; edit = 5; report = arcReport }
     ∷ []
 
 abbrev pub removalLog : List (Entry Drawing ℕ Removed)
-removalLog = record { after = record { drawing = empty; count = 1 }; edit = 2; report = circleReport } ∷ []
+removalLog = record { after = record { drawing = noCurves; count = 1 }; edit = 2; report = circleReport } ∷ []
 
 -- the ring, read from the point 3
 abbrev pub ring : List Member
