@@ -1,10 +1,10 @@
 // The cuts that other curves make, kept in four columns: parameter, place and cutter.
 ghost use mathlib.Core.Path.{_≡_};
-ghost use Prim.Native.Nat.{ℕ, _+_, _≤_, _<_};
+ghost use Prim.Native.Nat.{_+_, _≤_, _<_};
 ghost use mathlib.Core.List.{_++_};
 ghost use lib.ListN.{length, take, getD};
 ghost use Rattle.geom.specs.Plane.{origin};
-ghost use Rattle.shape.specs.Intersections.{points};
+ghost use Rattle.shape.specs.Intersections.{points, directionOf};
 ghost use Rattle.cuts.specs.Bounded as B;
 ghost use Rattle.cuts.specs.Cuts as C;
 ghost use Rattle.cuts.specs.Cuts.{cutStep, cutsBy, cutPoints};
@@ -13,6 +13,7 @@ use crate::Cutter;
 use crate::bounded::lies_on;
 use crate::bounded::on_bounded;
 use crate::bounded::slack;
+use geom::Direction;
 use geom::Vec2;
 use shape::Crossings;
 use shape::Shape;
@@ -128,6 +129,7 @@ fn candidate_at(c: Crossings, d: Crossings, k: usize) -> Vec2
 // one call, which is then compiled in place: passing shapes on to calls costs more than the tests do.
 fn cuts_by<'a>(
     sh: Shape,
+    d: Direction,
     slack: f64,
     o: Cutter,
     n: usize,
@@ -136,14 +138,14 @@ fn cuts_by<'a>(
     py: &'a mut [f64],
     who: &'a mut [Id],
 ) -> usize
-    requires { ⌜ slack ≡ B.slack sh ⌝ }
+    requires { ⌜ (slack ≡ B.slack sh) × (d ≡ directionOf sh) ⌝ }
     requires { ⌜ Room (n + 4) (now ts) (now px) (now py) (now who) ⌝ }
     ensures { λ r. ⌜ cutsIn r (now (ts .exit)) (now (px .exit)) (now (py .exit)) (now (who .exit))
         ≡ cutsBy sh o (cutsIn n (now (ts .entry)) (now (px .entry)) (now (py .entry)) (now (who .entry))) ⌝ }
     ensures { λ r. ⌜ r ≤ n + 4 ⌝ }
 {
     let shape = o.shape;
-    let crossings = shape::intersections(sh, shape);
+    let crossings = shape::intersections_by(sh, d, shape);
     let ends = end_points(shape);
     let all = count(crossings) + count(ends);
     let mut m = n;
@@ -180,6 +182,7 @@ pub(crate) fn cut_points<'a>(
     ensures { λ r. ⌜ r ≤ 512 ⌝ }
 {
     let slack = slack(sh);
+    let d = shape::direction_of(sh);
     let mut found: usize = 0;
     let mut i: usize = 0;
     while i < 128 {
@@ -187,7 +190,7 @@ pub(crate) fn cut_points<'a>(
             return found;
         }
         let o = others[i];
-        found = cuts_by(sh, slack, o, found, ts, px, py, who);
+        found = cuts_by(sh, d, slack, o, found, ts, px, py, who);
         i += 1;
     }
     found

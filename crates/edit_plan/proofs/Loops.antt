@@ -21,7 +21,7 @@ use Rattle.sketch.specs.Blanks.{noCurve, noSlot}
 use Rattle.sketch.specs.Facts.{Rising}
 use Rattle.edit_plan.specs.Tables.{rekind}
 use Rattle.edit_plan.specs.Changes.{recut}
-use Rattle.edit_plan.specs.Contracts.{relationsIn, slot}
+use Rattle.edit_plan.specs.Contracts.{slotRelations, slot}
 
 -- the length of a field that is an array of structs: `search (needs, length-mapped)`
 pub length-mapped : (X Y : Type 0) (f : X → Y) (l : List X) (n : ℕ) → length (map f l) ≡ n → length l ≡ n
@@ -100,26 +100,26 @@ module _ {A : Type 0} (f : A → Bool) (z : A) (m n : ℕ) (l₀ l : List A) (i 
 abbrev pub slotted : List Relation → List RelationSlot
 slotted rs = map slot rs
 
-inside-slotted : (l : List Relation) → relationsIn (slotted l) ≡ l
+inside-slotted : (l : List Relation) → slotRelations (slotted l) ≡ l
 inside-slotted [] = refl
 inside-slotted (r ∷ l) = ap (λ t. r ∷ t) (inside-slotted l)
 
 abbrev pub bySlot : (Relation → List Relation) → RelationSlot → List RelationSlot
 bySlot f q = slotted (f (q .relation))
 
-pub inside-concat-map : (f : Relation → List Relation) (l : List RelationSlot) → relationsIn (concatMap (bySlot f) l) ≡ concatMap f (relationsIn l)
+pub inside-concat-map : (f : Relation → List Relation) (l : List RelationSlot) → slotRelations (concatMap (bySlot f) l) ≡ concatMap f (slotRelations l)
 inside-concat-map f [] = refl
 inside-concat-map f (q ∷ l) =
     map-append (λ (q : RelationSlot). q .relation) (bySlot f q) (concatMap (bySlot f) l)
-    ∙ ap (λ t. t ++ relationsIn (concatMap (bySlot f) l)) (inside-slotted (f (q .relation)))
+    ∙ ap (λ t. t ++ slotRelations (concatMap (bySlot f) l)) (inside-slotted (f (q .relation)))
     ∙ ap (λ t. f (q .relation) ++ t) (inside-concat-map f l)
 
 -- how many a walk will leave
 module _ (f : Relation → List Relation) (l : List RelationSlot) (n i : ℕ) where
   abbrev pub toCome : ℕ
-  toCome = length (concatMap f (relationsIn (drop i (take n l))))
+  toCome = length (concatMap f (slotRelations (drop i (take n l))))
 
-  pub count-next : i < n → n ≤ length l → toCome ≡ length (f (getD l i noSlot .relation)) + length (concatMap f (relationsIn (drop (i + 1) (take n l))))
+  pub count-next : i < n → n ≤ length l → toCome ≡ length (f (getD l i noSlot .relation)) + length (concatMap f (slotRelations (drop (i + 1) (take n l))))
   count-next h k = rw (add-one, slice-cons i n l noSlot h k, length-append)
 
   pub count-end : n ≤ i → toCome ≡ 0

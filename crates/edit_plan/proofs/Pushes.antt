@@ -18,7 +18,7 @@ use Rattle.edit_plan.specs.declared.Plan.{Plan}
 use Rattle.edit_plan.specs.declared.Plan.the-variants.{Whole, Cut, CutTwo, Divide, DivideTwo, Move}
 use Rattle.edit_plan.specs.declared.Change.{Change}
 use Rattle.edit_plan.specs.Changes.{isCircle, recut, pinRelation, halvesOf, halfCircles, noHalves, cutOnce, divideOnce, cutMiddle, changeFor, pointsNew, curvesNew, relationsNew}
-use Rattle.edit_plan.specs.Contracts.{relationsIn, slot}
+use Rattle.edit_plan.specs.Contracts.{slotRelations, slot}
 use Rattle.edit_plan.proofs.Leaves.{add-none}
 use Rattle.edit_plan.proofs.Loops.{map-append}
 
@@ -42,7 +42,7 @@ push-three {A} l n a b c h =
     let r : n + 2 < length l2 = rw (length-set, length-set) h in
     push l2 (n + 2) c r ∙ ap (λ z. take z l2 ++ (c ∷ [])) e ∙ ap (λ z. z ++ (c ∷ [])) (push-two l n a b k) ∙ append-assoc (take n l) (a ∷ b ∷ []) (c ∷ [])
 
-inside-append : (xs ys : List RelationSlot) → relationsIn (xs ++ ys) ≡ relationsIn xs ++ relationsIn ys
+inside-append : (xs ys : List RelationSlot) → slotRelations (xs ++ ys) ≡ slotRelations xs ++ slotRelations ys
 inside-append xs ys = map-append (λ (r : RelationSlot). r .relation) xs ys
 
 -- ---- what a change stores, at place k of n curves for the curve c
@@ -53,7 +53,7 @@ pub record Pushes (c : Curve) (k n : ℕ) (h : Change) : Type 0 where
   pub curves : (l : List Curve) → n + h .curves ≤ length l → take (n + h .curves) (set (set l k (h .kept)) (h .place) (h .added)) ≡ take n (set l k (h .kept)) ++ curvesNew h
   pub relations :
       (l : List RelationSlot) (j : ℕ) → j + h .third < length l
-      → relationsIn (take (j + h .third + 1) (set (set (set l j (slot (h .r))) (j + h .second) (slot (h .s))) (j + h .third) (slot (h .t)))) ≡ relationsIn (take j l) ++ relationsNew h
+      → slotRelations (take (j + h .third + 1) (set (set (set l j (slot (h .r))) (j + h .second) (slot (h .s))) (j + h .third) (slot (h .t)))) ≡ slotRelations (take j l) ++ relationsNew h
 
 one-point : (l : List Point) (j : ℕ) (p : Point) → j + 0 < length l → take (j + 0 + 1) (set (set l j p) (j + 0) p) ≡ take j l ++ (p ∷ [])
 one-point l j p h =
@@ -68,17 +68,17 @@ one-curve l k n c a h =
     let r : n < length (set l k c) = rw length-set (omega arith) in
     push (set l k c) n a r
 
-one-relation : (l : List RelationSlot) (j : ℕ) (r : Relation) → j + 0 < length l → relationsIn (take (j + 0 + 1) (set (set (set l j (slot r)) (j + 0) (slot r)) (j + 0) (slot r))) ≡ relationsIn (take j l) ++ (r ∷ [])
+one-relation : (l : List RelationSlot) (j : ℕ) (r : Relation) → j + 0 < length l → slotRelations (take (j + 0 + 1) (set (set (set l j (slot r)) (j + 0) (slot r)) (j + 0) (slot r))) ≡ slotRelations (take j l) ++ (r ∷ [])
 one-relation l j r h =
     let k : j < length l = omega arith in
-    rw (add-none j, set-set l j (slot r) (slot r), set-set l j (slot r) (slot r)) (ap relationsIn (push l j (slot r) k) ∙ inside-append (take j l) (slot r ∷ []))
+    rw (add-none j, set-set l j (slot r) (slot r), set-set l j (slot r) (slot r)) (ap slotRelations (push l j (slot r) k) ∙ inside-append (take j l) (slot r ∷ []))
 
-two-relations : (l : List RelationSlot) (j : ℕ) (r s : Relation) → j + 1 < length l → relationsIn (take (j + 1 + 1) (set (set (set l j (slot r)) (j + 1) (slot s)) (j + 1) (slot s))) ≡ relationsIn (take j l) ++ (r ∷ s ∷ [])
+two-relations : (l : List RelationSlot) (j : ℕ) (r s : Relation) → j + 1 < length l → slotRelations (take (j + 1 + 1) (set (set (set l j (slot r)) (j + 1) (slot s)) (j + 1) (slot s))) ≡ slotRelations (take j l) ++ (r ∷ s ∷ [])
 two-relations l j r s h =
-    rw (set-set (set l j (slot r)) (j + 1) (slot s) (slot s)) (ap relationsIn (push-two l j (slot r) (slot s) h) ∙ inside-append (take j l) (slot r ∷ slot s ∷ []))
+    rw (set-set (set l j (slot r)) (j + 1) (slot s) (slot s)) (ap slotRelations (push-two l j (slot r) (slot s) h) ∙ inside-append (take j l) (slot r ∷ slot s ∷ []))
 
-three-relations : (l : List RelationSlot) (j : ℕ) (r s t : Relation) → j + 2 < length l → relationsIn (take (j + 2 + 1) (set (set (set l j (slot r)) (j + 1) (slot s)) (j + 2) (slot t))) ≡ relationsIn (take j l) ++ (r ∷ s ∷ t ∷ [])
-three-relations l j r s t h = ap relationsIn (push-three l j (slot r) (slot s) (slot t) h) ∙ inside-append (take j l) (slot r ∷ slot s ∷ slot t ∷ [])
+three-relations : (l : List RelationSlot) (j : ℕ) (r s t : Relation) → j + 2 < length l → slotRelations (take (j + 2 + 1) (set (set (set l j (slot r)) (j + 1) (slot s)) (j + 2) (slot t))) ≡ slotRelations (take j l) ++ (r ∷ s ∷ t ∷ [])
+three-relations l j r s t h = ap slotRelations (push-three l j (slot r) (slot s) (slot t) h) ∙ inside-append (take j l) (slot r ∷ slot s ∷ slot t ∷ [])
 
 module _ (c : Curve) (k n : ℕ) where
   cut-pushes : (v : Vec2) (i : ℕ) (b : Bool) (r : Relation) → Pushes c k n (cutOnce c k (halvesOf (c .kind) v i) b r r)

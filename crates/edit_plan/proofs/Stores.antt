@@ -3,7 +3,7 @@ use mathlib.Core.Path.{_≡_, refl, ap, sym, _∙_}
 use mathlib.Core.Bool.{Bool, true, false, not, _&&_, _||_}
 use mathlib.Core.List.{List, [], _∷_}
 use mathlib.Core.Option.{Option, some, none}
-use Prim.Native.Nat.{ℕ, _+_, _≤_, _<_}
+use Prim.Native.Nat.{ℕ, _+_, _-_, _≤_, _<_}
 use native.Mathlib.Omega.{arith}
 use lib.Dec.{eqb, leb, ltb}
 use lib.ListN.{length, take, set, length-map, length-take, length-append}
@@ -30,7 +30,7 @@ use Rattle.edit_plan.specs.Tables.{curvesOf, others}
 use Rattle.edit_plan.specs.Steps.{isSome, dropIf, measured, releaseRelation}
 use Rattle.edit_plan.specs.Changes.{isCircle, chord, orphanList, staying, leftBy, leftOf}
 use Rattle.edit_plan.specs.Room.{mkAdditions, additionsFor, leftOver}
-use Rattle.edit_plan.specs.Contracts.{Fitting, Rewritten, Cleared, Without, relationsIn, slot, remainingRelations}
+use Rattle.edit_plan.specs.Contracts.{Fitting, Rewritten, Cleared, Without, slotRelations, slot, remainingRelations}
 use Rattle.edit_plan.proofs.Every.{length-concat-map, length-keep}
 use Rattle.edit_plan.proofs.Loops.{Walk, walk-end, bySlot, inside-concat-map}
 
@@ -76,6 +76,12 @@ module _ (s : Sketch) (e : Extent) (more : ℕ) where
     where
       go : (a : ℕ) → leb 256 a ≡ not (ltb a 256)
       go a = at-most-or-above 256 a (λ h. rw (le-leb 256 a h, le-ltb a 256 h)) (λ h. rw (lt-leb 256 a h, lt-ltb a 256 h))
+
+-- the relations don't fit beside those that are left
+pub full-is : (left more : ℕ) → more ≤ 2 → leb (256 - more) left ≡ not (ltb (left + more) 256)
+full-is left more h =
+    at-most-or-above (256 - more) left (λ k. rw (le-leb (256 - more) left k, le-ltb (left + more) 256 (omega arith)))
+    (λ k. rw (lt-leb (256 - more) left k, lt-ltb (left + more) 256 (omega arith)))
 
 -- ---- demands are small
 
@@ -131,12 +137,12 @@ module _ (s t : Sketch) (k : ℕ) (e : Extent) (os : Orphans) (h : Change) (i j 
   rule = bySlot (leftOf e (orphanList os))
 
   module _ (w : Walk rule noSlot 256 (s .nrelations) (s .relations) (t .relations) i j) (o : s .nrelations ≤ i) where
-    pub walked : relationsIn (take j (t .relations)) ≡ remainingRelations e os s
-    walked = ap relationsIn (walk-end rule noSlot 256 (s .nrelations) (s .relations) (t .relations) i j w o .0) ∙ inside-concat-map (leftOf e (orphanList os)) (take (s .nrelations) (s .relations))
+    pub walked : slotRelations (take j (t .relations)) ≡ remainingRelations e os s
+    walked = ap slotRelations (walk-end rule noSlot 256 (s .nrelations) (s .relations) (t .relations) i j w o .0) ∙ inside-concat-map (leftOf e (orphanList os)) (take (s .nrelations) (s .relations))
 
     left-below : e .whole ≡ false → j ≤ leftOver e (view s .relations)
     left-below q =
-        let a : length (relationsIn (take j (t .relations))) ≡ j = simp (length-map, length-take) (omega (arith, w .long, w .low, w .high, w .fits)) in
+        let a : length (slotRelations (take j (t .relations))) ≡ j = simp (length-map, length-take) (omega (arith, w .long, w .low, w .high, w .fits)) in
         let b : length (remainingRelations e os s) ≤ length (concatMap (leftBy e) (view s .relations)) = keep-fewer (λ r. every (staying (orphanList os)) (pointsOf r)) (leftBy e) (view s .relations) in
         let d : concatMap (leftBy e) (view s .relations) ≡ concatMap (releaseRelation (e .id) (chord e)) (view s .relations) = ap (λ x. concatMap (λ v. ite x (dropIf (among (e .id) (curvesOf v)) v) (releaseRelation (e .id) (chord e) v)) (view s .relations)) q in
         omega (arith, a, ap length walked, b, ap length d)

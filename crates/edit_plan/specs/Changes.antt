@@ -224,6 +224,10 @@ relationsNew h = ite (eqb (h .third) 0) (h .r ∷ []) (ite (eqb (h .third) 1) (h
 abbrev pub extentOf : CurveKind → ℕ → Plan → Extent
 extentOf k i plan = record { id = i; line = isLine k; whole = isWhole plan; from = startOf k; to = endOf k }
 
+-- the report of a curve that is removed whole: its ends are zeros where it has none
+abbrev pub wholeGone : Extent → Removed
+wholeGone e = record { curve = e .id; from = e .from; to = e .to }
+
 abbrev pub chord : Extent → Option (ℕ × ℕ)
 chord e = ite (e .line) (some (e .from, e .to)) none
 

@@ -36,8 +36,8 @@ pub record Fitting (s : Sketch) (k : ℕ) (e : Extent) (h : Change) : Type 0 whe
   pub below : k < s .ncurves
   pub roomy : e .whole ≡ false → HasRoom s e h
 
-abbrev pub relationsIn : List RelationSlot → List Relation
-relationsIn l = map (λ r. r .relation) l
+abbrev pub slotRelations : List RelationSlot → List Relation
+slotRelations l = map (λ r. r .relation) l
 
 abbrev pub slot : Relation → RelationSlot
 slot r = record { relation = r }
@@ -62,7 +62,7 @@ pub record ChangeStored (s : Sketch) (k : ℕ) (e : Extent) (os : Orphans) (h : 
   pub count : ℕ
   pub long : length slots ≡ 256
   pub few : count + h .third < 256
-  pub left : relationsIn (take count slots) ≡ remainingRelations e os s
+  pub left : slotRelations (take count slots) ≡ remainingRelations e os s
   pub next : r .next ≡ h .next
   pub npoints : r .npoints ≡ s .npoints + h .points + 1
   pub points : r .points ≡ set (set (s .points) (s .npoints) (h .p)) (s .npoints + h .points) (h .q)
@@ -104,7 +104,3 @@ refusedAs s n = record { sketch = s; refusal = n; place = 0; removed = nothing }
 -- applied, with the report of what is removed
 abbrev pub editedAs : Sketch → Removed → Edited
 editedAs s gone = record { sketch = s; refusal = 0; place = 0; removed = gone }
-
--- a curve that is removed whole
-abbrev pub wholeGone : Extent → Removed
-wholeGone e = record { curve = e .id; from = e .from; to = e .to }

@@ -17,7 +17,7 @@ use Rattle.edit_plan.specs.declared.Additions.{Additions}
 use Rattle.edit_plan.specs.declared.Extent.{Extent}
 use Rattle.edit_plan.specs.Tables.{okPosition}
 use Rattle.edit_plan.specs.Steps.{releaseRelation}
-use Rattle.edit_plan.specs.Changes.{isCircle, chord}
+use Rattle.edit_plan.specs.Changes.{isCircle, isWhole, chord}
 
 abbrev pub mkAdditions : Vec2 → Vec2 → ℕ → ℕ → ℕ → Additions
 mkAdditions v u points curves relations =
@@ -50,9 +50,16 @@ roomWith m i np nc full d =
 abbrev pub leftOver : Extent → List Relation → ℕ
 leftOver e rs = length (concatMap (releaseRelation (e .id) (chord e)) rs)
 
+-- by numbers alone, so many relations being left
+abbrev pub roomWithLeft : ℕ → ℕ → ℕ → ℕ → Additions → ℕ
+roomWithLeft i np nc left d = roomWith limits i np nc (not (ltb (left + d .relations) (limits .relations))) d
+
+-- a curve that is removed whole needs no room
+abbrev pub roomFor : CurveKind → Plan → ℕ → ℕ → ℕ → ℕ → ℕ
+roomFor k plan i np nc left = ite (isWhole plan) 0 (roomWithLeft i np nc left (additionsFor k plan))
+
 abbrev pub roomOf : Sketch → Extent → Additions → ℕ
-roomOf s e d =
-    roomWith limits (s .next) (s .npoints) (s .ncurves) (not (ltb (leftOver e (view s .relations) + d .relations) (limits .relations))) d
+roomOf s e d = roomWithLeft (s .next) (s .npoints) (s .ncurves) (leftOver e (view s .relations)) d
 
 unfoldable pub refusalFor : Sketch → CurveKind → Extent → Plan → ℕ
 refusalFor s k e Whole = 0

@@ -20,9 +20,9 @@ use sketch::Sketch;
 ghost use mathlib.Core.Path.{_≡_};
 ghost use Prim.Native.Nat.{_≤_};
 ghost use Rattle.edit_plan.specs.Steps.{isLine};
-ghost use Rattle.edit_plan.specs.Changes.{isWhole, extentOf};
+ghost use Rattle.edit_plan.specs.Changes.{isWhole, extentOf, wholeGone};
 ghost use Rattle.edit_plan.specs.Suited.{AppliesPlan};
-ghost use Rattle.edit_plan.specs.Contracts.{Cleared, Without, refusedAs, editedAs, wholeGone};
+ghost use Rattle.edit_plan.specs.Contracts.{Cleared, Without, refusedAs, editedAs};
 
 fn is_line(kind: CurveKind) -> bool
     ensures { λ x. ⌜ x ≡ isLine kind ⌝ }
@@ -33,7 +33,7 @@ fn is_line(kind: CurveKind) -> bool
     }
 }
 
-fn is_whole(plan: Plan) -> bool
+pub(crate) fn is_whole(plan: Plan) -> bool
     ensures { λ x. ⌜ x ≡ isWhole plan ⌝ }
 {
     match plan {
@@ -42,7 +42,7 @@ fn is_whole(plan: Plan) -> bool
     }
 }
 
-fn extent_of(kind: CurveKind, id: Id, plan: Plan) -> Extent
+pub fn extent_of(kind: CurveKind, id: Id, plan: Plan) -> Extent
     ensures { λ x. ⌜ x ≡ extentOf kind id plan ⌝ }
 {
     Extent {

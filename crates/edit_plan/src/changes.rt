@@ -19,11 +19,14 @@ use geom::Vec2;
 use sketch::Curve;
 use sketch::CurveKind;
 use sketch::Id;
+use sketch::MAX_NEXT_ID;
 use sketch::Relation;
 ghost use mathlib.Core.Path.{_≡_};
 ghost use Prim.Native.Nat.{suc, _+_, _≤_};
+ghost use lib.Dec.{leb};
 ghost use Rattle.edit_plan.specs.Changes.{pinRelation, halvesOf, halfCircles, noHalves, cutOnce, divideOnce, cutMiddle, changeFor};
 ghost use Rattle.edit_plan.specs.Room.{takes};
+ghost use Rattle.sketch.specs.Lists.{ite};
 ghost use Rattle.sketch.specs.Drawing.{limits};
 
 // A line or an arc in two, at v.
@@ -210,4 +213,30 @@ pub(crate) fn change_for(c: Curve, k: usize, n: usize, plan: Plan, next: Id) -> 
         Plan::DivideTwo(v, u) => divide_once(c, n, half_circles(v, u, next)),
         _ => divide_once(c, n, no_halves(next)),
     }
+}
+
+// How many ids the plan takes.
+fn ids_taken(kind: CurveKind, plan: Plan) -> Id
+    ensures { λ x. ⌜ (x ≡ takes kind plan) × (x ≤ 4) ⌝ }
+{
+    match plan {
+        Plan::Whole => 0,
+        Plan::Cut(_, _) => 2,
+        Plan::CutTwo(_, _, _) => if is_circle(kind) { 3 } else { 4 },
+        Plan::Divide(_) => 2,
+        Plan::DivideTwo(_, _) => 3,
+        Plan::Move(_, _, _) => 0,
+    }
+}
+
+// What the plan writes for the curve c, which stands at place k of n, whatever the next id is: where too few ids are left after it,
+// those from 0 on are taken.
+pub fn plan_change(c: Curve, k: usize, n: usize, plan: Plan, next: Id) -> Change
+    ensures { λ x. ⌜ x ≡ changeFor c k n plan (ite (leb (next + takes (c .kind) plan) (limits .ids)) next 0) ⌝ }
+{
+    let kind = c.kind;
+    if MAX_NEXT_ID - ids_taken(kind, plan) < next {
+        return change_for(c, k, n, plan, 0);
+    }
+    change_for(c, k, n, plan, next)
 }

@@ -7,14 +7,22 @@ mod room;
 mod unused_points;
 
 pub use apply::apply_plan;
+pub use apply::extent_of;
+pub use changes::plan_change;
 use geom::Vec2;
 pub use pieces::pin_relation;
+pub use removal::is_orphan;
+pub use removal::left_of;
+pub use removal::release_relation;
+pub use room::room_for;
 use sketch::Curve;
 use sketch::Id;
 use sketch::Point;
 use sketch::Relation;
 use sketch::Sketch;
+pub use unused_points::candidates_of;
 pub use unused_points::curve_uses;
+pub use unused_points::unless_used;
 
 // The constraint on a new end: on the curve that cut there, or at an end of it, which is a point.
 pub enum Pin {
@@ -58,22 +66,22 @@ pub struct Edited {
 }
 
 // The curve that is cut, or removed whole (`whole`), with the ends of a line (`line`) or an arc; zeros where there are none.
-struct Extent {
-    id: Id,
-    line: bool,
-    whole: bool,
-    from: Id,
-    to: Id,
+pub struct Extent {
+    pub id: Id,
+    pub line: bool,
+    pub whole: bool,
+    pub from: Id,
+    pub to: Id,
 }
 
 // Up to three points, each with whether it is removed.
-struct Orphans {
-    p: Id,
-    q: Id,
-    r: Id,
-    pgoes: bool,
-    qgoes: bool,
-    rgoes: bool,
+pub struct Orphans {
+    pub p: Id,
+    pub q: Id,
+    pub r: Id,
+    pub pgoes: bool,
+    pub qgoes: bool,
+    pub rgoes: bool,
 }
 
 // Points that are left, and how many.
@@ -89,7 +97,7 @@ struct CurveTable {
 }
 
 // What is left of a relation.
-enum Kept {
+pub enum Kept {
     Keep(Relation),
     Dropped,
 }
@@ -118,19 +126,19 @@ struct Halves {
 
 // What a cut or a division writes. A second point comes `points` places after the first: where there is none, that is
 // the same again at the same place; and so for a new piece, which stands at `place`, and for the relations.
-struct Change {
-    next: Id,
-    p: Point,
-    q: Point,
-    points: usize,
-    kept: Curve,
-    added: Curve,
-    place: usize,
-    curves: usize,
-    r: Relation,
-    s: Relation,
-    t: Relation,
-    second: usize,
-    third: usize,
-    removed: Removed,
+pub struct Change {
+    pub next: Id,
+    pub p: Point,
+    pub q: Point,
+    pub points: usize,
+    pub kept: Curve,
+    pub added: Curve,
+    pub place: usize,
+    pub curves: usize,
+    pub r: Relation,
+    pub s: Relation,
+    pub t: Relation,
+    pub second: usize,
+    pub third: usize,
+    pub removed: Removed,
 }

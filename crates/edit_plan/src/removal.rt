@@ -25,7 +25,7 @@ fn drop_if(drop: bool, v: Relation) -> Kept
 }
 
 // What is left of a relation where a curve is cut.
-pub(crate) fn release_relation(v: Relation, e: Extent) -> Kept
+pub fn release_relation(v: Relation, e: Extent) -> Kept
     ensures { λ x. ⌜ keptOf x ≡ releaseRelation (e .id) (chord e) v ⌝ }
 {
     match v {
@@ -62,7 +62,7 @@ fn names(v: Relation, g: Id) -> bool
     }
 }
 
-pub(crate) fn is_orphan(os: Orphans, p: Id) -> bool
+pub fn is_orphan(os: Orphans, p: Id) -> bool
     ensures { λ x. ⌜ x ≡ among p (orphanList os) ⌝ }
 {
     (os.pgoes & (p == os.p)) | (os.qgoes & (p == os.q)) | (os.rgoes & (p == os.r))
@@ -92,7 +92,7 @@ fn left_by(v: Relation, e: Extent) -> Kept
 }
 
 // What is left of a relation where a curve is cut or removed and points are removed with it.
-pub(crate) fn left_of(v: Relation, e: Extent, os: Orphans) -> Kept
+pub fn left_of(v: Relation, e: Extent, os: Orphans) -> Kept
     ensures { λ x. ⌜ keptOf x ≡ leftOf e (orphanList os) v ⌝ }
 {
     let Kept::Keep(w) = left_by(v, e) else {

@@ -3,6 +3,7 @@ use crate::Additions;
 use crate::Extent;
 use crate::Kept;
 use crate::Plan;
+use crate::apply::is_whole;
 use crate::pieces::is_circle;
 use crate::removal::release_relation;
 use geom::Vec2;
@@ -16,7 +17,7 @@ ghost use mathlib.Core.Bool.{not};
 ghost use Prim.Native.Nat.{_+_, _≤_};
 ghost use lib.Dec.{ltb};
 ghost use Rattle.sketch.specs.Drawing.{view, limits};
-ghost use Rattle.edit_plan.specs.Room.{mkAdditions, additionsFor, pointRoom, curveRoom, roomWith, leftOver, refusalFor};
+ghost use Rattle.edit_plan.specs.Room.{mkAdditions, additionsFor, pointRoom, curveRoom, roomWith, leftOver, roomFor, refusalFor};
 
 fn additions(first: Vec2, second: Vec2, points: Id, curves: Id, relations: usize) -> Additions
     ensures { λ x. ⌜ x ≡ mkAdditions first second points curves relations ⌝ }
@@ -152,4 +153,23 @@ pub(crate) fn refusal_of(sk: Sketch, kind: CurveKind, e: Extent, plan: Plan) -> 
             room(sk.next, sk.npoints, sk.ncurves, full, d)
         }
     }
+}
+
+// The number that the plan's additions are refused by, or 0: of points and curves with the numbers given, where so many relations are
+// left once the curve is released.
+pub fn room_for(
+    kind: CurveKind,
+    plan: Plan,
+    next: Id,
+    points: usize,
+    curves: usize,
+    left: usize,
+) -> u8
+    ensures { λ x. ⌜ x ≡ roomFor kind plan next points curves left ⌝ }
+{
+    if is_whole(plan) {
+        return 0;
+    }
+    let d = additions_for(kind, plan);
+    room(next, points, curves, 256 - d.relations <= left, d)
 }

@@ -83,7 +83,7 @@ fn own_points(kind: CurveKind) -> Orphans
 }
 
 // The points that may be orphaned: all points of a curve that is removed, the far end of one that loses its first or its last piece.
-fn candidates_of(kind: CurveKind, plan: Plan) -> Orphans
+pub fn candidates_of(kind: CurveKind, plan: Plan) -> Orphans
     ensures { λ x. ⌜ x ≡ candidatesFor kind plan ⌝ }
 {
     match plan {
@@ -98,7 +98,7 @@ fn candidates_of(kind: CurveKind, plan: Plan) -> Orphans
 }
 
 // Those of the points that go that the curve c doesn't use.
-fn unless_used(os: Orphans, c: Curve) -> Orphans
+pub fn unless_used(os: Orphans, c: Curve) -> Orphans
     ensures { λ x. ⌜ orphanList x ≡ keep (λ p. not (among p (usesOf (c .kind) (c .slots)))) (orphanList os) ⌝ }
 {
     Orphans {

@@ -23,9 +23,11 @@ use Rattle.edit_plan.specs.Tables.{curvesOf}
 use Rattle.edit_plan.specs.Steps.{endsOf, endsAt, measured, releaseRelation, piecesOf, addPieces, pin, swapKinds, reported}
 use Rattle.edit_plan.specs.ApplyPlan.{removePiece, checkMet, moveEnd, applyPlanTo, applyPlanAt}
 use Rattle.edit_plan.specs.Changes.{isCircle}
-use Rattle.modify.specs.Planning.{guardPlan, cutterOf, paramOfPick, nearEnd, pinTo, between, firstGoes, trimAt, trimPlan, splitFull, atEnd, splitPlan}
-use Rattle.modify.specs.Extend.{gapOf, boundary, curveHits, better, bestOf, continueWith, nearestHit, planMove, isFixed, extendEnd, extendCurve}
-use Rattle.modify.specs.Edits.{isFullArc, noFreeform, trimCurve, splitCurve, planOnCurve, planOnFound, applyPlanned}
+use Rattle.planning.specs.Planning.{guardPlan, cutterOf, paramOfPick, nearEnd, pinTo, between, firstGoes, trimAt, trimPlan, splitFull, atEnd, splitPlan, isFullArc, noFreeform, trimCurve, splitCurve}
+use Rattle.hit_search.specs.NearestHit.{gapOf, boundary, curveHits, better, bestOf, continueWith, nearestHit}
+use Rattle.extend.specs.Extend.{planMove, isFixed, extendEnd, extendCurve}
+use Rattle.extend.specs.ExtendAnswer.{applyPlanned}
+use Rattle.modify.specs.Edits.{planOnCurve, planOnFound}
 use Rattle.example_proofs.specs.Examples.{Examples}
 
 -- to name one of these under `unfolding` opens the definitions of images, of roots, or of edits

@@ -14,7 +14,7 @@ use Rattle.sketch.specs.declared.Relation.the-variants.{PointOnCurve, Collinear
 use Rattle.sketch.specs.Drawing.{limits}
 use Rattle.message.specs.declared.Operation.the-variants.{Trim, Split, Extend}
 use Rattle.image.specs.Image as I
-use Rattle.image.specs.Decode.{emptyDrawing}
+use Rattle.sketch_image.specs.SketchImage.{emptyDrawing}
 use Rattle.image.specs.Encode.{encode}
 use Rattle.edit_plan.specs.declared.Removed.{Removed}
 use Rattle.edit_plan.specs.Outcome.{refused, accepted}

@@ -1,12 +1,13 @@
 -- Floats in range and their bits.
 use mathlib.Core.Path.{_≡_, refl, sym, ap, _∙_, subst}
-use mathlib.Core.Bool.{Bool, true, false, not, _&&_}
+use mathlib.Core.Bool.{Bool, true, false, not, _&&_, true≢false}
 use Prim.Native.Nat.{ℕ, _%_}
 use native.Mathlib.Omega.{arith}
 use mathlib.Core.List.{List}
 use lib.Dec.{T, leb}
-use lib.Ieee.{Float, nan, inf, fin, le, lt, eq, isNan, ofBits, toBits, nanBits, neg, binary64}
+use lib.Ieee.{Float, nan, inf, fin, le, lt, eq, ne, isNan, ofBits, toBits, nanBits, neg, binary64}
 use lib.Ieee.Bits.{toBits-ofBits, nanBits-is, nanBits-above}
+use lib.Ieee.Compare.{differs-from-itself, nan-differs}
 use Rattle.big_endian.specs.Fields.{field}
 use Rattle.big_endian.specs.Laws.{Bytes, field-lt}
 use Rattle.sketch.specs.Valid.{okCoordinate, okRadius, okRho, okMeasure}
@@ -74,3 +75,15 @@ number-test b = rw (nanBits-above binary64 b) (leb-ltb (b % 0x8000_0000_0000_000
 -- bits that were tested may become a float
 pub number-bits : (n : ℕ) {b : ℕ} → n ≡ b → not (nanBits binary64 b) ≡ true → T (not (nanBits binary64 n))
 number-bits n e h = subst T (sym h ∙ ap (λ (k : ℕ). not (nanBits binary64 k)) (sym e)) tt
+
+-- what differs from itself has the bits of the NaN
+pub nan-bits : (x : Float) → ne x x ≡ true → 0x7ff8_0000_0000_0000 ≡ toBits binary64 x
+unfolding toBits
+nan-bits x h = rw (differs-from-itself x (subst T (sym h) tt))
+
+-- what equals itself is a number
+pub same-number : (x : Float) → ne x x ≡ false → T (not (isNan x))
+unfolding isNan
+same-number nan h = absurd (true≢false (sym nan-differs ∙ h))
+same-number (inf s) h = tt
+same-number (fin s m e) h = tt

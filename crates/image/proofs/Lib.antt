@@ -9,6 +9,5 @@ pub mod RoundTrips
 pub mod Sizes
 pub mod RecordChecks
 pub mod RelationChecks
-pub mod Walked
-pub mod DecodedSketch
-pub mod Answers
+pub mod GoodImages
+pub mod WrittenRecords

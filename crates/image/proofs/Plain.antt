@@ -13,7 +13,7 @@ use Rattle.sketch.specs.Lists.{every}
 use Rattle.sketch.specs.Valid.{okPoint, okCurve, okRelation, okCoordinate, okNumber, okRadius, okRho, okMeasure, inSlots, sortOf, isLineSort}
 use Rattle.sketch.proofs.Bools.{and-both}
 use Rattle.image.specs.Records.{pointForm, pointOf, curveForm, curveOf, relationForm, relationOf, slotsOf, kindOf, relationBy, usedSlots, curveFields, relationFields}
-use Rattle.image.specs.Decode.{numberAt, plainPoint, plainCurve, plainRelation}
+use Rattle.image.specs.Decode.{numberAt, numberOrZero, readPoint, readCurve, readRelation, plainPoint, plainCurve, plainRelation}
 use Rattle.image.proofs.Floats.{nan-fails, number-test, coordinate-rejects, radius-rejects, rho-rejects, measure-rejects}
 
 -- of two that are not and-both true, one is false
@@ -107,3 +107,27 @@ module _ (r : List ℕ) where
   relation-lost h =
       either (relationForm r) (numberAt r 9) (relationForm r && okRelation (relationOf r)) h (and-left (relationForm r) (okRelation (relationOf r)))
       (relation-nan (field r 0 1) (field r 1 4) (field r 5 4) (field r 9 8))
+
+-- ---- a number read: the two ways out
+
+module _ (r : List ℕ) (at : ℕ) {n : ℕ} {t : Bool} (e : n ≡ field r at 8) (g : t ≡ not (nanBits binary64 n)) where
+  known : numberAt r at ≡ t
+  known = ap (λ (k : ℕ). not (nanBits binary64 k)) (sym e) ∙ sym g
+
+  pub number-is : t ≡ true → ofBits binary64 n ≡ numberOrZero r at
+  number-is h = rw (known, h, e)
+
+  pub number-is-none : t ≡ false → ofBits binary64 0 ≡ numberOrZero r at
+  number-is-none h = rw (known, h)
+
+-- ---- a record whose floats are numbers is read as what its bytes encode
+
+module _ (r : List ℕ) where
+  pub read-point-is : plainPoint r ≡ true → readPoint r ≡ pointOf r
+  read-point-is h = rw (plain-x r h, plain-y r h)
+
+  pub read-curve-is : plainCurve r ≡ true → readCurve r ≡ curveOf r
+  read-curve-is h = rw (plain-number r h)
+
+  pub read-relation-is : plainRelation r ≡ true → readRelation r ≡ relationOf r
+  read-relation-is h = rw (plain-value r h)

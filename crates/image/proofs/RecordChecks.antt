@@ -15,7 +15,8 @@ use Rattle.sketch.specs.Lists.{every}
 use Rattle.sketch.specs.declared.CurveKind.the-variants.{Line, Arc, Circle, Bezier, Conic}
 use Rattle.sketch.specs.Valid.{okNumber, okRadius, okRho, inSlots, sortOf}
 use Rattle.image.specs.Records.{floatAt, slotsOf, idsAt, usedSlots, curveFields, kindOf, curveOf}
-use Rattle.image.specs.Contracts.{goodCurve, goodAs, rowSort}
+use Rattle.image.specs.Image.{goodCurve}
+use Rattle.image.specs.Contracts.{goodAs}
 use Rattle.image.proofs.Floats.{Rejects, nan-fails}
 
 -- ---- numbers: bits that are no number's are out of range, whatever the range
@@ -153,26 +154,3 @@ module _ (r : List ℕ) where
 
     pub bezier-slots : k ≡ 4 → slotsOf r ≡ curveOf r .slots
     bezier-slots h = rw (← e, h)
-
-    sort-by : {n : ℕ} → k ≡ n → sortOf (kindOf n degree (slotsOf r) (floatAt r 39)) ≡ rowSort r
-    sort-by h = ap (λ (j : ℕ). sortOf (kindOf j degree (slotsOf r) (floatAt r 39))) (sym h ∙ e)
-
-    pub sort-line : k ≡ 1 → 1 ≡ rowSort r
-    unfolding kindOf sortOf
-    sort-line h = sort-by h
-
-    pub sort-arc : k ≡ 2 → 2 ≡ rowSort r
-    unfolding kindOf sortOf
-    sort-arc h = sort-by h
-
-    pub sort-circle : k ≡ 3 → 2 ≡ rowSort r
-    unfolding kindOf sortOf
-    sort-circle h = sort-by h
-
-    pub sort-bezier : k ≡ 4 → 3 ≡ rowSort r
-    unfolding kindOf sortOf
-    sort-bezier h = sort-by h
-
-    pub sort-conic : (k ≡ 1 → ⊥) → (k ≡ 2 → ⊥) → (k ≡ 3 → ⊥) → (k ≡ 4 → ⊥) → 3 ≡ rowSort r
-    unfolding kindOf sortOf
-    sort-conic h1 h2 h3 h4 = rw (← e, ne-eqb k 1 h1, ne-eqb k 2 h2, ne-eqb k 3 h3, ne-eqb k 4 h4)

@@ -10,7 +10,7 @@ use Rattle.big_endian.specs.Fields.{field}
 use Rattle.sketch.specs.Valid.{okRelation, okMeasure}
 use Rattle.sketch.specs.declared.Relation.the-variants.{Coincident, PointOnCurve, Collinear, Equal, Length, Distance, Midpoint, ArcLength, ArcSweep}
 use Rattle.image.specs.Records.{floatAt, relationFields, relationBy, relationOf}
-use Rattle.image.specs.Contracts.{goodRelation}
+use Rattle.image.specs.Image.{goodRelation}
 
 module _ (r : List ℕ) where
   -- the test of a relation whose kind's byte is k

@@ -1,21 +1,34 @@
--- What the reader answers, and which records it makes into values.
+-- Records made into values, whatever their bytes.
 use Prim.Native.Nat.{ℕ}
-use mathlib.Core.Path.{_≡_}
 use mathlib.Core.Bool.{Bool, not, _&&_}
-use mathlib.Core.List.{List, []}
-use lib.Ieee.{nanBits, binary64}
+use mathlib.Core.List.{List}
+use lib.Ieee.{Float, nanBits, ofBits, binary64}
 use Rattle.big_endian.specs.Fields.{field}
-use Rattle.sketch.specs.Drawing.{Drawing, view}
-use Rattle.sketch.specs.Valid.{sketchFault}
-use Rattle.image.specs.declared.ImageRead.{ImageRead}
-use Rattle.image.specs.Records.{pointXAt, pointYAt, curveNumberAt, valueAt, pointForm, curveForm, relationForm}
-use Rattle.image.specs.Image.{ParseResult, refused, accepted, resultOf, parse}
+use Rattle.sketch.specs.Lists.{ite}
+use Rattle.sketch.specs.declared.Point.{Point}
+use Rattle.sketch.specs.declared.Curve.{Curve}
+use Rattle.sketch.specs.declared.Relation.{Relation}
+use Rattle.sketch.specs.Drawing.{idSize}
+use Rattle.image.specs.Records.{floatAt, pointXAt, pointYAt, curveNumberAt, firstIdAt, secondIdAt, valueAt, pointForm, curveForm, relationForm, pointBy, curveBy, relationBy}
 
 -- eight bytes that are no NaN's
 abbrev pub numberAt : List ℕ → ℕ → Bool
 numberAt r at = not (nanBits binary64 (field r at 8))
 
--- records whose floats are numbers: only these are made into values; the others are out of range in any case
+-- the number that eight bytes encode; a NaN's count as 0, so that each record has a value
+abbrev pub numberOrZero : List ℕ → ℕ → Float
+numberOrZero r at = ite (numberAt r at) (floatAt r at) (ofBits binary64 0)
+
+abbrev pub readPoint : List ℕ → Point
+readPoint r = pointBy (numberOrZero r pointXAt) (numberOrZero r pointYAt) r
+
+abbrev pub readCurve : List ℕ → Curve
+readCurve r = curveBy (numberOrZero r curveNumberAt) r
+
+abbrev pub readRelation : List ℕ → Relation
+readRelation r = relationBy (field r 0 1) (field r firstIdAt idSize) (field r secondIdAt idSize) (numberOrZero r valueAt)
+
+-- records whose floats are numbers, as those of a good image are: of these the values are what the bytes encode
 abbrev pub plainPoint : List ℕ → Bool
 plainPoint r = pointForm r && numberAt r pointXAt && numberAt r pointYAt
 
@@ -24,21 +37,3 @@ plainCurve r = curveForm r && numberAt r curveNumberAt
 
 abbrev pub plainRelation : List ℕ → Bool
 plainRelation r = relationForm r && numberAt r valueAt
-
--- what the reader's answer stands for
-abbrev pub outcome : ImageRead → ParseResult
-outcome r = resultOf (r .refusal) (view (r .sketch))
-
-abbrev pub emptyDrawing : Drawing
-emptyDrawing = record { next = 1; points = []; curves = []; relations = [] }
-
--- the drawing of a result; beside a refusal stands the empty one
-abbrev pub drawingIn : ParseResult → Drawing
-drawingIn (refused k) = emptyDrawing
-drawingIn (accepted d) = d
-
--- the answer is what the bytes are read as, with its drawing, and the sketch in it passes the test, refused or not
-pub record ReadAnswer (s : List ℕ) (r : ImageRead) : Type 0 where
-  pub result-is : outcome r ≡ parse s
-  pub drawing-is : view (r .sketch) ≡ drawingIn (parse s)
-  pub sound : sketchFault (r .sketch) ≡ 0

@@ -1,16 +1,12 @@
--- The bytes that a drawing is written as, and what a write leaves in the buffer.
+-- The bytes that a drawing is written as.
 use Prim.Native.Nat.{ℕ, _+_, _*_, _-_}
-use mathlib.Core.Path.{_≡_}
 use mathlib.Core.Bool.{Bool, true, false}
 use mathlib.Core.List.{List, [], _∷_, _++_}
 use lib.ListN.{length}
-use lib.Dec.{leb, eqb}
 use lib.Ieee.{Float, toBits, binary64}
-use Rattle.big_endian.specs.Fields.{bytes, over}
-use Rattle.sketch.specs.Lists.{ite, guardNumber, concatMap}
-use Rattle.sketch.specs.Drawing.{Drawing, view, idSize}
-use Rattle.sketch.specs.Valid.{sketchFault}
-use Rattle.sketch.specs.declared.Sketch.{Sketch}
+use Rattle.big_endian.specs.Fields.{bytes}
+use Rattle.sketch.specs.Lists.{concatMap}
+use Rattle.sketch.specs.Drawing.{Drawing, idSize}
 use Rattle.sketch.specs.declared.Point.{Point}
 use Rattle.sketch.specs.declared.Curve.{Curve}
 use Rattle.sketch.specs.declared.CurveKind.{CurveKind}
@@ -132,13 +128,3 @@ unfoldable pub encode : Drawing → List ℕ
 encode d =
     header (d .next) (length (d .points)) (length (d .curves)) (length (d .relations))
     ++ (concatMap encodePoint (d .points) ++ (concatMap encodeCurve (d .curves) ++ concatMap encodeRelation (d .relations)))
-
--- ---- a write: a sketch that no image gives is refused as its image would be, then a buffer that is too short by 25
-
-abbrev pub writeFault : Sketch → ℕ → ℕ
-writeFault s room = guardNumber (eqb (sketchFault s) 0) (sketchFault s) (guardNumber (leb (drawingSize (view s)) room) 25 0)
-
--- the number, and the buffer afterwards: the image at its front and the rest as it was, or all as it was
-pub record ImageWritten (s : Sketch) (before later : List ℕ) (r : ℕ) : Type 0 where
-  pub number : r ≡ writeFault s (length before)
-  pub buffer : later ≡ ite (eqb (writeFault s (length before)) 0) (over before 0 (encode (view s))) before

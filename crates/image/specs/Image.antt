@@ -1,6 +1,6 @@
 -- The image of a drawing: which bytes are refused, by which number, and which drawing the others give.
 use Prim.Native.Nat.{ℕ, zero, suc, _+_, _*_}
-use mathlib.Core.Bool.{true, _&&_}
+use mathlib.Core.Bool.{Bool, true, _&&_}
 use mathlib.Core.List.{List, [], _∷_, map}
 use lib.ListN.{length}
 use lib.Dec.{leb, eqb}
@@ -95,13 +95,23 @@ drawingOf s =
 abbrev pub rowId : List ℕ → ℕ
 rowId r = field r 0 idSize
 
+-- records that encode something whose values are in range
+abbrev pub goodPoint : List ℕ → Bool
+goodPoint r = pointForm r && okPoint (pointOf r)
+
+abbrev pub goodCurve : List ℕ → Bool
+goodCurve r = curveForm r && okCurve (curveOf r)
+
+abbrev pub goodRelation : List ℕ → Bool
+goodRelation r = relationForm r && okRelation (relationOf r)
+
 -- the records in order: of each first its form and its values, then its id and its references
 abbrev pub recordsFault : List ℕ → ℕ
 recordsFault s =
     let d = drawingOf s in
-    tableFault rowId (λ r. pointForm r && okPoint (pointOf r)) (λ r. true) (d .next) 0 (pointRows s)
-    (tableFault rowId (λ r. curveForm r && okCurve (curveOf r)) (λ r. soundCurve (hasPoint (d .points)) (curveOf r)) (d .next) 0 (curveRows s)
-    (listFault (λ r. relationForm r && okRelation (relationOf r)) (λ r. soundRelation (hasPoint (d .points)) (sortIn (d .curves)) (relationOf r)) (relationRows s)))
+    tableFault rowId goodPoint (λ r. true) (d .next) 0 (pointRows s)
+    (tableFault rowId goodCurve (λ r. soundCurve (hasPoint (d .points)) (curveOf r)) (d .next) 0 (curveRows s)
+    (listFault goodRelation (λ r. soundRelation (hasPoint (d .points)) (sortIn (d .curves)) (relationOf r)) (relationRows s)))
 
 -- the number of the first rule that an image breaks, 0 where it breaks none
 abbrev pub imageFault : List ℕ → ℕ

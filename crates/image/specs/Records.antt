@@ -37,8 +37,12 @@ pointSize = pointFlagsAt + 1
 abbrev pub pointForm : List ℕ → Bool
 pointForm r = leb (field r pointFlagsAt 1) 1
 
+-- the point of a record with given coordinates
+abbrev pub pointBy : Float → Float → List ℕ → Point
+pointBy x y r = record { id = field r 0 idSize; fixed = eqb (field r pointFlagsAt 1) 1; x = x; y = y }
+
 abbrev pub pointOf : List ℕ → Point
-pointOf r = record { id = field r 0 idSize; fixed = eqb (field r pointFlagsAt 1) 1; x = floatAt r pointXAt; y = floatAt r pointYAt }
+pointOf r = pointBy (floatAt r pointXAt) (floatAt r pointYAt) r
 
 -- ---- a curve: id, kind, flags, degree, eight slots for ids, number 8
 
@@ -90,17 +94,20 @@ kindOf kind degree s v =
     (ite (eqb kind 4) (Bezier degree)
     (Conic (getD s 0 0) (getD s 1 0) (getD s 2 0) v))))
 
--- flags: bit 0 construction, bit 1 centerline, bit 2 infinite; only a Bézier curve keeps the slots beside its kind
-abbrev pub curveOf : List ℕ → Curve
-curveOf r =
+-- the curve of a record with a given number; flags: bit 0 construction, bit 1 centerline, bit 2 infinite; only a Bézier curve keeps the slots beside its kind
+abbrev pub curveBy : Float → List ℕ → Curve
+curveBy v r =
     record {
       id = field r 0 idSize;
       construction = eqb (field r curveFlagsAt 1 % 2) 1;
       centerline = eqb (field r curveFlagsAt 1 / 2 % 2) 1;
       infinite = eqb (field r curveFlagsAt 1 / 4 % 2) 1;
-      kind = kindOf (field r curveKindAt 1) (field r degreeAt 1) (slotsOf r) (floatAt r curveNumberAt);
+      kind = kindOf (field r curveKindAt 1) (field r degreeAt 1) (slotsOf r) v;
       slots = ite (eqb (field r curveKindAt 1) 4) (slotsOf r) noSlots;
     }
+
+abbrev pub curveOf : List ℕ → Curve
+curveOf r = curveBy (floatAt r curveNumberAt) r
 
 -- ---- a relation: kind, two ids, value 8
 

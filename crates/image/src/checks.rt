@@ -1,11 +1,9 @@
-// The tests of one record by its bytes: its form and its values, and its references among given ids. No value is
-// made for them.
+// The tests of one record by its bytes: its form and its values. No value is made for them.
 use crate::layout::CURVE_FLAGS_AT;
 use crate::layout::CURVE_KIND_AT;
 use crate::layout::CURVE_NUMBER_AT;
 use crate::layout::DEGREE_AT;
 use crate::layout::FIFTH_SLOT_AT;
-use crate::layout::FIRST_ID_AT;
 use crate::layout::FOURTH_SLOT_AT;
 use crate::layout::POINT_FLAGS_AT;
 use crate::layout::POINT_X_AT;
@@ -20,26 +18,23 @@ use big_endian::get1;
 use big_endian::get4;
 use big_endian::get8;
 use sketch::ID_SIZE;
-use sketch::Id;
 use sketch::coordinate_ok;
-use sketch::has;
 use sketch::measure_ok;
 use sketch::radius_ok;
 use sketch::rho_ok;
-use sketch::sort_at;
 ghost use mathlib.Core.Path.{_≡_};
-ghost use mathlib.Core.Bool.{not, _&&_};
+ghost use mathlib.Core.Bool.{not};
 ghost use lib.Dec.{eqb};
 ghost use lib.Ieee.{nanBits, binary64};
-ghost use lib.ListN.{length, take, drop};
+ghost use lib.ListN.{drop};
 ghost use Rattle.sketch.specs.Lists.{every};
-ghost use Rattle.sketch.specs.Lookup.{among, Ascends, sortAmong};
-ghost use Rattle.sketch.specs.Valid.{okCoordinate, okRadius, okRho, okMeasure, soundCurve, soundRelation};
-ghost use Rattle.image.specs.Records.{curveNumberAt, valueAt, floatAt, slotsOf, curveOf, relationOf};
-ghost use Rattle.image.specs.Contracts.{goodPoint, goodCurve, goodRelation, goodAs, rowSort};
+ghost use Rattle.sketch.specs.Valid.{okCoordinate, okRadius, okRho, okMeasure};
+ghost use Rattle.image.specs.Records.{curveNumberAt, valueAt, floatAt, slotsOf};
+ghost use Rattle.image.specs.Image.{goodPoint, goodCurve, goodRelation};
+ghost use Rattle.image.specs.Contracts.{goodAs};
 
 // Whether bits are no NaN's: only such may become a float.
-fn is_number(bits: u64) -> bool
+pub(crate) fn is_number(bits: u64) -> bool
     ensures { λ r. ⌜ r ≡ not (nanBits binary64 bits) ⌝ }
 {
     bits % 0x8000_0000_0000_0000 <= 0x7ff0_0000_0000_0000
@@ -85,7 +80,7 @@ fn measure_at(r: &[u8]) -> bool
     measure_ok(f64::from_bits(bits))
 }
 
-pub(crate) fn point_good(r: &[u8]) -> bool
+pub fn point_good(r: &[u8]) -> bool
     ensures { λ v. ⌜ v ≡ goodPoint (now (r .entry)) ⌝ }
 {
     (get1(r, POINT_FLAGS_AT) <= 1) & (coordinate_at(r, POINT_X_AT) & coordinate_at(r, POINT_Y_AT))
@@ -170,7 +165,7 @@ fn conic_good(r: &[u8]) -> bool
         & rho_at(r)
 }
 
-pub(crate) fn curve_good(r: &[u8]) -> bool
+pub fn curve_good(r: &[u8]) -> bool
     ensures { λ v. ⌜ v ≡ goodCurve (now (r .entry)) ⌝ }
 {
     let kind = get1(r, CURVE_KIND_AT);
@@ -184,62 +179,7 @@ pub(crate) fn curve_good(r: &[u8]) -> bool
     }
 }
 
-// Whether the first n slots name points, whose ids rise.
-fn slots_in<'a>(r: &'a [u8], n: usize, ids: &'a [Id], near: &'a [u16]) -> bool
-    requires { ⌜ Ascends (now ids) ⌝ }
-    ensures { λ v. ⌜ v ≡ every (λ p. among p (now (ids .entry))) (take n (slotsOf (now (r .entry)))) ⌝ }
-{
-    let mut i: usize = 0;
-    while i < 8 {
-        if n <= i {
-            return true;
-        }
-        if !has(ids, near, get4(r, SLOTS_AT + i * ID_SIZE)) {
-            return false;
-        }
-        i += 1;
-    }
-    true
-}
-
-pub(crate) fn curve_sound<'a>(r: &'a [u8], ids: &'a [Id], near: &'a [u16]) -> bool
-    requires { ⌜ Ascends (now ids) ⌝ }
-    ensures { λ v. ⌜ v ≡ soundCurve (λ p. among p (now (ids .entry))) (curveOf (now (r .entry))) ⌝ }
-{
-    let kind = get1(r, CURVE_KIND_AT);
-    let degree = get1(r, DEGREE_AT);
-    let a = get4(r, SLOTS_AT);
-    let b = get4(r, SECOND_SLOT_AT);
-    let c = get4(r, THIRD_SLOT_AT);
-    match kind {
-        1 => has(ids, near, a) & has(ids, near, b) & (a != b),
-        2 => has(ids, near, a)
-            & has(ids, near, b)
-            & has(ids, near, c)
-            & (a != b)
-            & (a != c)
-            & (b != c),
-        3 => has(ids, near, a),
-        4 => slots_in(r, degree as usize + 1, ids, near),
-        _ => has(ids, near, a) & has(ids, near, b) & has(ids, near, c),
-    }
-}
-
-// A line 1, a round 2, a freeform curve 3.
-pub(crate) fn curve_sort(r: &[u8]) -> u8
-    ensures { λ v. ⌜ v ≡ rowSort (now (r .entry)) ⌝ }
-{
-    let kind = get1(r, CURVE_KIND_AT);
-    match kind {
-        1 => 1,
-        2 => 2,
-        3 => 2,
-        4 => 3,
-        _ => 3,
-    }
-}
-
-pub(crate) fn relation_good(r: &[u8]) -> bool
+pub fn relation_good(r: &[u8]) -> bool
     ensures { λ v. ⌜ v ≡ goodRelation (now (r .entry)) ⌝ }
 {
     let kind = get1(r, 0);
@@ -256,38 +196,5 @@ pub(crate) fn relation_good(r: &[u8]) -> bool
         8 => (second == 0) & measure_at(r),
         9 => (second == 0) & measure_at(r),
         _ => false,
-    }
-}
-
-pub(crate) fn relation_sound<'a>(
-    r: &'a [u8],
-    points: &'a [Id],
-    near_points: &'a [u16],
-    curves: &'a [Id],
-    near_curves: &'a [u16],
-    sorts: &'a [u8],
-) -> bool
-    requires { ⌜ (length (now curves) ≡ length (now sorts)) × Ascends (now points) × Ascends (now curves) ⌝ }
-    ensures { λ v. ⌜ v ≡ soundRelation (λ p. among p (now (points .entry))) (λ i. sortAmong i (now (curves .entry)) (now (sorts .entry))) (relationOf (now (r .entry))) ⌝ }
-{
-    let kind = get1(r, 0);
-    let a = get4(r, FIRST_ID_AT);
-    let b = get4(r, SECOND_ID_AT);
-    match kind {
-        1 => has(points, near_points, a) & has(points, near_points, b) & (a != b),
-        2 => has(points, near_points, a) & (0 < sort_at(curves, near_curves, sorts, b)),
-        3 => (sort_at(curves, near_curves, sorts, a) == 1)
-            & (sort_at(curves, near_curves, sorts, b) == 1)
-            & (a != b),
-        4 => {
-            let s = sort_at(curves, near_curves, sorts, a);
-            let t = sort_at(curves, near_curves, sorts, b);
-            (((s == 1) & (t == 1)) | ((s == 2) & (t == 2))) & (a != b)
-        }
-        5 => sort_at(curves, near_curves, sorts, a) == 1,
-        6 => has(points, near_points, a) & has(points, near_points, b) & (a != b),
-        7 => has(points, near_points, a) & (sort_at(curves, near_curves, sorts, b) == 1),
-        8 => sort_at(curves, near_curves, sorts, a) == 2,
-        _ => sort_at(curves, near_curves, sorts, a) == 2,
     }
 }

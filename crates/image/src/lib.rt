@@ -1,24 +1,24 @@
-// Images of sketches: the format, and bytes read as a sketch.
+// Images of sketches: the format, and one record of it as a value.
 mod checks;
-mod faults;
 pub mod layout;
-mod reader;
 mod records;
+mod writer;
 
+pub use checks::curve_good;
+pub use checks::point_good;
+pub use checks::relation_good;
 pub use layout::CURVE_SIZE;
 pub use layout::HEADER_SIZE;
 pub use layout::MAX_IMAGE_SIZE;
 pub use layout::POINT_SIZE;
 pub use layout::RELATION_SIZE;
-pub use reader::read;
-pub use reader::refuse;
-use sketch::Sketch;
+pub use records::read_curve;
+pub use records::read_point;
+pub use records::read_relation;
+pub use writer::write_curve;
+pub use writer::write_header;
+pub use writer::write_point;
+pub use writer::write_relation;
 
 // The version that is read and written.
 pub const IMAGE_VERSION: u8 = 1;
-
-// What reading an image answers: the number of a refusal, or 0 and the sketch.
-pub struct ImageRead {
-    pub sketch: Sketch,
-    pub refusal: u8,
-}

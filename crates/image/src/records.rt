@@ -1,4 +1,5 @@
-// One record of an image: the value that its bytes encode.
+// One record of an image: the value that its bytes encode, whatever they are.
+use crate::checks::is_number;
 use crate::layout::CURVE_FLAGS_AT;
 use crate::layout::CURVE_KIND_AT;
 use crate::layout::CURVE_NUMBER_AT;
@@ -26,26 +27,35 @@ use sketch::Id;
 use sketch::Point;
 use sketch::Relation;
 ghost use mathlib.Core.Path.{_≡_};
-ghost use mathlib.Core.Bool.{true};
 ghost use lib.Dec.{eqb};
 ghost use Rattle.sketch.specs.Lists.{ite};
 ghost use Rattle.sketch.specs.Drawing.{noSlots};
-ghost use Rattle.image.specs.Records.{slotsOf, kindOf, relationBy, pointOf, curveOf, relationOf};
-ghost use Rattle.image.specs.Decode.{plainPoint, plainCurve, plainRelation};
+ghost use Rattle.image.specs.Records.{slotsOf, kindOf, relationBy};
+ghost use Rattle.image.specs.Decode.{numberOrZero, readPoint, readCurve, readRelation};
 
-pub(crate) fn point_at(r: &[u8]) -> Point
-    requires { ⌜ plainPoint (now r) ≡ true ⌝ }
-    ensures { λ v. ⌜ v ≡ pointOf (now (r .entry)) ⌝ }
+// The number at a place; 0 for a NaN's bits, of which no float is made.
+fn number_at(r: &[u8], at: usize) -> f64
+    ensures { λ v. ⌜ v ≡ numberOrZero (now (r .entry)) at ⌝ }
+{
+    let bits = get8(r, at);
+    if is_number(bits) {
+        return f64::from_bits(bits);
+    }
+    0.0
+}
+
+pub fn read_point(r: &[u8]) -> Point
+    ensures { λ v. ⌜ v ≡ readPoint (now (r .entry)) ⌝ }
 {
     Point {
         id: get4(r, 0),
         fixed: get1(r, POINT_FLAGS_AT) == 1,
-        x: f64::from_bits(get8(r, POINT_X_AT)),
-        y: f64::from_bits(get8(r, POINT_Y_AT)),
+        x: number_at(r, POINT_X_AT),
+        y: number_at(r, POINT_Y_AT),
     }
 }
 
-pub(crate) fn slots_at(r: &[u8]) -> [Id; 8]
+fn slots_at(r: &[u8]) -> [Id; 8]
     ensures { λ v. ⌜ v ≡ slotsOf (now (r .entry)) ⌝ }
 {
     [
@@ -83,18 +93,13 @@ fn kept_slots(kind: u8, s: [Id; 8]) -> [Id; 8]
     [0, 0, 0, 0, 0, 0, 0, 0]
 }
 
-pub(crate) fn curve_at(r: &[u8], s: [Id; 8]) -> Curve
-    requires { ⌜ (plainCurve (now r) ≡ true) × (s ≡ slotsOf (now r)) ⌝ }
-    ensures { λ v. ⌜ v ≡ curveOf (now (r .entry)) ⌝ }
+pub fn read_curve(r: &[u8]) -> Curve
+    ensures { λ v. ⌜ v ≡ readCurve (now (r .entry)) ⌝ }
 {
+    let s = slots_at(r);
     let byte = get1(r, CURVE_KIND_AT);
     let flags = get1(r, CURVE_FLAGS_AT);
-    let kind = kind_of(
-        byte,
-        get1(r, DEGREE_AT),
-        s,
-        f64::from_bits(get8(r, CURVE_NUMBER_AT)),
-    );
+    let kind = kind_of(byte, get1(r, DEGREE_AT), s, number_at(r, CURVE_NUMBER_AT));
     let slots = kept_slots(byte, s);
     Curve {
         id: get4(r, 0),
@@ -123,14 +128,13 @@ fn relation_by(kind: u8, a: Id, b: Id, v: f64) -> Relation
     }
 }
 
-pub(crate) fn relation_at(r: &[u8]) -> Relation
-    requires { ⌜ plainRelation (now r) ≡ true ⌝ }
-    ensures { λ v. ⌜ v ≡ relationOf (now (r .entry)) ⌝ }
+pub fn read_relation(r: &[u8]) -> Relation
+    ensures { λ v. ⌜ v ≡ readRelation (now (r .entry)) ⌝ }
 {
     relation_by(
         get1(r, 0),
         get4(r, FIRST_ID_AT),
         get4(r, SECOND_ID_AT),
-        f64::from_bits(get8(r, VALUE_AT)),
+        number_at(r, VALUE_AT),
     )
 }

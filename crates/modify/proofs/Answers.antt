@@ -1,19 +1,20 @@
--- What a trim or a split answers, one law for each way out of the code. Assumes nothing.
+-- What an edit answers, one law for each way out of the code. Assumes nothing.
 use mathlib.Core.Path.{_≡_, refl, sym, ap, _∙_, subst}
 use mathlib.Core.Bool.{Bool, true, false, not, _&&_, _||_, cond}
 use mathlib.Core.List.{List, [], _∷_}
 use mathlib.Core.Option.{Option, some, none}
 use Prim.Native.Nat.{ℕ, _≤_, _<_}
 use native.Mathlib.Omega.{arith}
+use lib.Dec.{ltb}
 use borrow.Author.Tests.{eq-eqb, ne-eqb}
 use Rattle.geom.specs.declared.Vec2.{Vec2}
 use Rattle.shape.specs.declared.Shape.{Shape}
 use Rattle.shape.specs.Measures.{isFull, point}
 use Rattle.sketch.specs.declared.Curve.{Curve}
 use Rattle.sketch.specs.declared.Sketch.{Sketch}
-use Rattle.sketch.specs.Lists.{ite}
+use Rattle.sketch.specs.Lists.{ite, guardNumber}
 use Rattle.sketch.specs.Drawing.{Drawing, view, limits, curveIn}
-use Rattle.sketch.specs.Valid.{okCoordinate, sketchFault}
+use Rattle.sketch.specs.Valid.{okCoordinate, tableFault, listFault, sketchFault}
 use Rattle.sketch.proofs.Sketches.{sketch-valid, valid-sketch}
 use Rattle.message.specs.declared.Operation.{Operation}
 use Rattle.message.specs.declared.Operation.the-variants.{Trim, Split, Extend}
@@ -30,13 +31,16 @@ use Rattle.edit_plan.specs.Steps.{nothing}
 use Rattle.edit_plan.specs.Suited.{Suited, outcomeOf, reportOf, targetOf, PlanApplied}
 use Rattle.edit_plan.proofs.Tables.{look-some}
 use Rattle.edit_plan.specs.Changes.{isCircle}
-use Rattle.modify.specs.declared.PlanResult.{PlanResult}
-use Rattle.modify.specs.declared.PlanResult.the-variants.{Refused, Accepted}
+use Rattle.planning.specs.declared.PlanResult.{PlanResult}
+use Rattle.planning.specs.declared.PlanResult.the-variants.{Refused, Accepted}
 use Rattle.modify.specs.declared.Target.{Target}
-use Rattle.modify.specs.Planning.{guardPlan, cutsOf, paramOfPick, trimPlan, splitFull, atEnd, splitPlan}
-use Rattle.modify.specs.Edits.{isFullArc, noFreeform, trimCurve, splitCurve, planOnCurve, planOnFound, applyPlanned, editOf, editSketch, EditAnswer}
-use Rattle.modify.specs.Contracts.{CurveIndex, TargetFound, TargetTested, isExtend, isSplit}
-use Rattle.modify.proofs.Suits.{trim-curve-suited, split-curve-suited}
+use Rattle.planning.specs.Planning.{guardPlan, cutsOf, paramOfPick, trimPlan, splitFull, atEnd, splitPlan, isFullArc, noFreeform, trimCurve, splitCurve, trimOrSplit}
+use Rattle.planning.specs.Columns.{CurveIndex}
+use Rattle.extend.specs.Extend.{extendCurve}
+use Rattle.extend.specs.ExtendAnswer.{applyPlanned, extendAt, ExtendAnswer}
+use Rattle.modify.specs.Edits.{planOnCurve, planOnFound, planEdit, editOf, editSketch, EditAnswer}
+use Rattle.modify.specs.Contracts.{TargetFound, TargetTested, isExtend, isSplit}
+use Rattle.planning.proofs.Suits.{trim-curve-suited, split-curve-suited}
 use Rattle.modify.proofs.Planned.{edit-valid}
 
 -- ---- the tests that all edits begin with
@@ -63,6 +67,27 @@ module _ (s : Sketch) (id : ℕ) (p : Vec2) where
 
   pub test-passed : {n k : ℕ} → n ≡ sketchFault s → n ≡ 0 → okPosition p ≡ true → CurveIndex (s .curves) (s .ncurves) id k → k < s .ncurves → TargetTested s id p (record { refusal = 0; place = k })
   test-passed e z h w l = record { passed = λ q. record { valid = sym e ∙ z; picked = h; place = l; found = w .here l }; when-refused = λ q. absurd (q refl) }
+
+-- ---- a sketch that no image gives is refused by 5 at most
+
+guard-number-low : (b : Bool) (n rest : ℕ) → n ≤ 5 → rest ≤ 5 → guardNumber b n rest ≤ 5
+unfolding guardNumber
+guard-number-low true n rest h k = k
+guard-number-low false n rest h k = h
+
+table-low : {A : Type 0} (id : A → ℕ) (ok sound : A → Bool) (next last : ℕ) (l : List A) (rest : ℕ) → rest ≤ 5 → tableFault id ok sound next last l rest ≤ 5
+table-low id ok sound next last [] rest h = h
+table-low id ok sound next last (a ∷ l) rest h =
+    guard-number-low (ok a) 4 _ (omega arith) (guard-number-low (ltb last (id a) && ltb (id a) next && sound a) 5 _ (omega arith) (table-low id ok sound next (id a) l rest h))
+
+list-low : {A : Type 0} (ok sound : A → Bool) (l : List A) → listFault ok sound l ≤ 5
+list-low ok sound [] = omega arith
+list-low ok sound (a ∷ l) = guard-number-low (ok a) 4 _ (omega arith) (guard-number-low (sound a) 5 _ (omega arith) (list-low ok sound l))
+
+pub fault-low : (s : Sketch) → sketchFault s ≤ 5
+fault-low s =
+    guard-number-low _ 3 _ (omega arith) (guard-number-low _ 3 _ (omega arith) (guard-number-low _ 4 _ (omega arith)
+    (table-low _ _ _ _ _ (view s .points) _ (table-low _ _ _ _ _ (view s .curves) _ (list-low _ _ (view s .relations))))))
 
 -- ---- refusals
 
@@ -127,6 +152,12 @@ module _ (d : Drawing) (p : Vec2) (c : Curve) where
   unfolding planOnCurve
   curve-suited true plan e = split-curve-suited d p c plan e
   curve-suited false plan e = trim-curve-suited d p c plan e
+
+-- the plan of a trim or a split is that of its operation
+pub cut-planned : (splits : Bool) (d : Drawing) (p : Vec2) (c : Curve) → trimOrSplit splits d p c ≡ planOnCurve (cond splits Split Trim) d p c
+unfolding planOnCurve
+cut-planned true d p c = refl
+cut-planned false d p c = refl
 
 pub not-extend : (splits : Bool) → _≡_ {A = Operation} (cond splits Split Trim) Extend → ⊥
 not-extend true e = let z : _≡_ {A = ℕ} 0 1 = cc in omega arith
@@ -198,6 +229,25 @@ module _ {s : Sketch} {id : ℕ} {p : Vec2} {r : Target} (b : TargetFound s id p
 
   pub target-found-answer : (op : Operation) {e : Edited} → EditAnswer op s (targetOf s (r .place) .id) p e → EditAnswer op s id p e
   target-found-answer op {e} a = subst (λ (i : ℕ). EditAnswer op s i p e) named a
+
+  extend-is-applied : (met : Drawing → Bool) → applyPlanned met limits (view s) id (planEdit Extend (view s) id p) ≡ extendAt met s (r .place) p
+  unfolding guardPlan planOnFound planOnCurve
+  extend-is-applied met = rw (b .picked, b .found) (ap (λ (i : ℕ). applyPlanned met limits (view s) i (extendCurve (view s) p (targetOf s (r .place)) (targetOf s (r .place) .kind))) (sym named))
+
+  -- an extend of the curve at that place is one of the curve with that id
+  pub extend-answered : {e : Edited} → ExtendAnswer s (r .place) p e → EditAnswer Extend s id p e
+  unfolding guard
+  extend-answered a =
+      let o : editSketch Extend s id p ≡ extendAt allMet s (r .place) p = rw (b .valid) (extend-is-applied allMet) in
+      record {
+        outcome = a .outcome ∙ sym o;
+        report = a .report ∙ sym (ap reportOf o);
+        kept = a .kept;
+        valid = a .valid;
+        no-place = a .no-place;
+        unmet-before = λ z. a .unmet-before;
+        unmet-after = λ z n d′ removed u. a .unmet-after n d′ removed (sym (extend-is-applied (λ x. true)) ∙ u);
+      }
 
 -- a test of both coordinates
 pub ok-both : (p : Vec2) {a b : Bool} → a ≡ okCoordinate (p .x) → b ≡ okCoordinate (p .y) → {o : Bool} → (a && b) ≡ o → okPosition p ≡ o

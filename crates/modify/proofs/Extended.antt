@@ -35,13 +35,15 @@ use Rattle.edit_plan.specs.Tables.{okPosition, addRelation, withRelation, moved
 use Rattle.edit_plan.specs.Steps.{endsOf, endsAt, pin, nothing}
 use Rattle.edit_plan.specs.ApplyPlan.{checkMet, moveEnd, applyPlanTo, applyPlanAt}
 use Rattle.edit_plan.specs.Suited.{PinHolds}
-use Rattle.modify.specs.declared.PlanResult.{PlanResult}
-use Rattle.modify.specs.declared.PlanResult.the-variants.{Refused, Accepted}
-use Rattle.modify.specs.Planning.{pinTo}
-use Rattle.modify.specs.Edits.{planOnCurve, planOnFound, planEdit, applyPlanned, editOf}
-use Rattle.modify.specs.Extend.{Support, Search, stopped, finished, nearestHit, planMove, isFixed, extendEnd, extendCurve}
-use Rattle.modify.proofs.Suits.{guard-plan-accepted}
-use Rattle.modify.proofs.Moves.{extend-moves-end}
+use Rattle.planning.specs.declared.PlanResult.{PlanResult}
+use Rattle.planning.specs.declared.PlanResult.the-variants.{Refused, Accepted}
+use Rattle.planning.specs.Planning.{pinTo}
+use Rattle.extend.specs.ExtendAnswer.{applyPlanned}
+use Rattle.modify.specs.Edits.{planOnCurve, planOnFound, planEdit, editOf}
+use Rattle.hit_search.specs.NearestHit.{Support, Search, stopped, finished, nearestHit}
+use Rattle.extend.specs.Extend.{planMove, isFixed, extendEnd, extendCurve}
+use Rattle.planning.proofs.Suits.{guard-plan-accepted}
+use Rattle.extend.proofs.Moves.{extend-moves-end}
 
 pub record Extended (d d′ : Drawing) (r : Removed) : Type 0 where
   pub end : ℕ

@@ -18,11 +18,12 @@ use Rattle.edit_plan.specs.ApplyPlan.{applyPlan}
 use Rattle.edit_plan.specs.Suited.{Pinned}
 use Rattle.edit_plan.proofs.Tables.{look-some}
 use Rattle.chains.proofs.Edits.{plan-valid}
-use Rattle.modify.specs.declared.PlanResult.{PlanResult}
-use Rattle.modify.specs.declared.PlanResult.the-variants.{Refused, Accepted}
-use Rattle.modify.specs.Edits.{planOnCurve, planOnFound, planEdit, applyPlanned, editOf}
-use Rattle.modify.proofs.Suits.{guard-plan-accepted, trim-curve-suited, split-curve-suited}
-use Rattle.modify.proofs.Moves.{extend-moves-end}
+use Rattle.planning.specs.declared.PlanResult.{PlanResult}
+use Rattle.planning.specs.declared.PlanResult.the-variants.{Refused, Accepted}
+use Rattle.extend.specs.ExtendAnswer.{applyPlanned}
+use Rattle.modify.specs.Edits.{planOnCurve, planOnFound, planEdit, editOf}
+use Rattle.planning.proofs.Suits.{guard-plan-accepted, trim-curve-suited, split-curve-suited}
+use Rattle.extend.proofs.Moves.{extend-moves-end}
 
 curve-pinned : (op : Operation) (d : Drawing) (p : Vec2) (c : Curve) (plan : Plan) → planOnCurve op d p c ≡ Accepted plan → Pinned d (c .id) plan
 unfolding planOnCurve

@@ -16,11 +16,12 @@ use Rattle.edit_plan.specs.Tables.{okPosition}
 use Rattle.edit_plan.specs.Suited.{Pinned}
 use Rattle.edit_plan.proofs.Tables.{look-some}
 use Rattle.chains.proofs.Edits.{plan-valid}
-use Rattle.modify.specs.declared.PlanResult.{PlanResult}
-use Rattle.modify.specs.declared.PlanResult.the-variants.{Refused, Accepted}
-use Rattle.modify.specs.Edits.{planOnCurve, planOnFound, planEdit, applyPlanned, editUntested}
-use Rattle.modify.proofs.Suits.{guard-plan-accepted}
-use Rattle.modify.proofs.Moves.{extend-moves-end}
+use Rattle.planning.specs.declared.PlanResult.{PlanResult}
+use Rattle.planning.specs.declared.PlanResult.the-variants.{Refused, Accepted}
+use Rattle.extend.specs.ExtendAnswer.{applyPlanned}
+use Rattle.modify.specs.Edits.{planOnCurve, planOnFound, planEdit, editUntested}
+use Rattle.planning.proofs.Suits.{guard-plan-accepted}
+use Rattle.extend.proofs.Moves.{extend-moves-end}
 
 extend-pinned : (d : Drawing) (t : ℕ) (p : Vec2) (plan : Plan) → planOnFound Extend d p (curveIn (d .curves) t) ≡ Accepted plan → Pinned d t plan
 unfolding planOnFound planOnCurve

@@ -1,13 +1,13 @@
 // Trim, split and extend of a sketch.
-use crate::PlanResult;
-use crate::extending::extend_curve;
 use crate::find_target::find_target;
-use crate::moving::answer;
-use crate::planning::plan_on_curve;
 use edit_plan::Edited;
 use edit_plan::apply_plan;
+use extend::answer;
+use extend::extend_curve;
 use geom::Vec2;
 use message::Operation;
+use planning::PlanResult;
+use planning::plan_on_curve;
 use sketch::Id;
 use sketch::Sketch;
 use sketch_geometry::fill_point_columns;

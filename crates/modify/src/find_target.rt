@@ -1,7 +1,7 @@
 // The tests of the pick and of the curve that all edits begin with, once the sketch has passed its own.
 use crate::Target;
-use crate::cutter_list::curve_place;
 use geom::Vec2;
+use planning::curve_place;
 use sketch::Id;
 use sketch::Sketch;
 use sketch::coordinate_ok;

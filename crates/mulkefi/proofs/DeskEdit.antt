@@ -20,7 +20,8 @@ use Rattle.edit_plan.specs.declared.Removed.{Removed}
 use Rattle.edit_plan.specs.Outcome as O
 use Rattle.edit_plan.specs.Outcome.{guard}
 use Rattle.edit_plan.specs.Tables.{okPosition}
-use Rattle.modify.specs.Edits.{planOnFound, NoPlace}
+use Rattle.extend.specs.ExtendAnswer.{NoPlace}
+use Rattle.modify.specs.Edits.{planOnFound}
 use Rattle.agreement.specs.Machines as M
 use Rattle.agreement.specs.Machines.{State, callOutcome, withCount, stateAfter, maxEditNumber}
 use Rattle.replication.specs.declared.Replica.{Replica}

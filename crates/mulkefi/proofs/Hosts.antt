@@ -18,7 +18,7 @@ use Rattle.sketch.proofs.Facts.{fault-valid}
 use Rattle.image.specs.Image as I
 use Rattle.image.specs.Records.{pointOf, curveOf, relationOf, pointSize, curveSize, relationSize}
 use Rattle.image.specs.Encode as E
-use Rattle.image.specs.Decode.{drawingIn}
+use Rattle.sketch_image.specs.SketchImage.{drawingIn}
 use Rattle.message.specs.declared.Message.{Message}
 use Rattle.message.specs.Message as G
 use Rattle.message.specs.Message.{messageSize, isOperation}

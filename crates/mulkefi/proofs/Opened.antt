@@ -9,10 +9,10 @@ use lib.Dec.{leb}
 use lib.Ieee.{Float}
 use Rattle.sketch.specs.Lists.{ite}
 use Rattle.sketch.specs.Drawing.{Drawing, view}
-use Rattle.image.specs.declared.ImageRead.{ImageRead}
+use Rattle.sketch_image.specs.declared.ImageRead.{ImageRead}
 use Rattle.message.specs.declared.Operation.{Operation}
 use Rattle.image.specs.Image as I
-use Rattle.image.specs.Decode.{outcome, ReadAnswer}
+use Rattle.sketch_image.specs.SketchImage.{outcome, ReadAnswer}
 use Rattle.message.specs.Message.{operationOf, isOperation}
 use Rattle.image.proofs.RoundTrips.{result-refused, result-none}
 use Rattle.replication.specs.declared.Replica.{Replica}

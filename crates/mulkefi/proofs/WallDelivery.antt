@@ -12,7 +12,7 @@ use Rattle.sketch.specs.Valid.{sketchFault}
 use Rattle.sketch.proofs.Sketches.{sketch-valid}
 use Rattle.image.specs.Encode.{drawingSize}
 use Rattle.edit_plan.specs.declared.Removed.{Removed}
-use Rattle.modify.specs.Edits.{NoPlace}
+use Rattle.extend.specs.ExtendAnswer.{NoPlace}
 use Rattle.agreement.specs.Machines as M
 use Rattle.agreement.specs.Machines.{message}
 use Rattle.replication.specs.declared.Replica.{Replica}

@@ -14,7 +14,8 @@ use Rattle.sketch.specs.Lists.{ite, guardNumber}
 use Rattle.sketch.specs.Drawing.{view}
 use Rattle.sketch.specs.Valid.{sketchFault}
 use Rattle.sketch.proofs.Sketches.{sketch-valid}
-use Rattle.image.specs.Encode.{encode, drawingSize, ImageWritten}
+use Rattle.image.specs.Encode.{encode, drawingSize}
+use Rattle.sketch_image.specs.SketchImage.{ImageWritten}
 use Rattle.image.specs.Image.{headerSize, accepted, parse}
 use Rattle.image.specs.Records.{curveSize, pointSize, relationSize}
 use Rattle.edit_plan.specs.declared.Removed.{Removed}

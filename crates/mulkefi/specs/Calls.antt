@@ -13,7 +13,7 @@ use Rattle.message.specs.Message as M
 use Rattle.message.specs.Message.{operationOf}
 use Rattle.edit_plan.specs.declared.Removed.{Removed}
 use Rattle.edit_plan.specs.Steps.{nothing}
-use Rattle.modify.specs.Edits.{NoPlace}
+use Rattle.extend.specs.ExtendAnswer.{NoPlace}
 use Rattle.agreement.specs.Machines.{State, message, callOutcome}
 use Rattle.replication.specs.declared.Replica.{Replica}
 use Rattle.replication.specs.Protocol.{Edit, messageFor, protocol}

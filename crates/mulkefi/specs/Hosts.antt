@@ -8,7 +8,7 @@ use lib.Ieee.{Float}
 use Rattle.sketch.specs.Lists.{ite}
 use Rattle.sketch.specs.Drawing.{Drawing}
 use Rattle.image.specs.Image as I
-use Rattle.image.specs.Decode.{drawingIn}
+use Rattle.sketch_image.specs.SketchImage.{drawingIn}
 use Rattle.message.specs.Message.{messageSize, isOperation}
 use Rattle.edit_plan.specs.declared.Removed.{Removed}
 use Rattle.agreement.specs.Machines as M

@@ -61,7 +61,7 @@ pub(crate) fn write_result(
     ensures { λ r. ⌜ ResultWritten (ifImageFits (length (now (buffer .entry))) (stateOf replica) removed) (now (buffer .entry)) (now (buffer .exit)) (now (answer .entry)) (now (answer .exit)) r ⌝ }
 {
     let sk = replica.sketch;
-    let number = image_writer::write(sk, buffer);
+    let number = sketch_image::write(sk, buffer);
     if number != 0 {
         return number as u32;
     }

@@ -72,7 +72,7 @@ pub extern "C" fn mulkefi_desk_edit(
     ensures { λ r. ⌜ DeskCallWritten len count operation (mkEditByNumber operation curve x y) (now (buffer .entry)) (now (buffer .exit)) (now (message .entry)) (now (message .exit)) (now (answer .entry)) (now (answer .exit)) r ⌝ }
 {
     let size = min(len, buffer.len());
-    let read = image::read(&buffer[..size]);
+    let read = sketch_image::read(&buffer[..size]);
     if read.refusal != 0 {
         return refusal(read.refusal, 0);
     }

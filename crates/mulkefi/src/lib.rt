@@ -25,6 +25,6 @@ pub extern "C" fn mulkefi_versions() -> u32
 pub extern "C" fn mulkefi_test(bytes: &[u8]) -> u32
     ensures { λ r. ⌜ r ≡ I.imageFault (now (bytes .entry)) ⌝ }
 {
-    let r = image::read(bytes);
-    r.refusal as u32
+    let mut near = [0u16; 1024];
+    rows::image_fault(bytes, &mut near) as u32
 }

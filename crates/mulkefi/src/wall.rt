@@ -54,7 +54,7 @@ pub extern "C" fn mulkefi_wall_deliver(
     ensures { λ r. ⌜ WallCallWritten len count (now (message .entry)) (now (buffer .entry)) (now (buffer .exit)) (now (answer .entry)) (now (answer .exit)) r ⌝ }
 {
     let size = min(len, buffer.len());
-    let read = image::read(&buffer[..size]);
+    let read = sketch_image::read(&buffer[..size]);
     if read.refusal != 0 {
         return refusal(read.refusal, 0);
     }

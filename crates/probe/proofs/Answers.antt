@@ -11,12 +11,13 @@ use Rattle.sketch.specs.Lists.{guardNumber}
 use Rattle.sketch.specs.Drawing.{view}
 use Rattle.sketch.specs.Valid.{sketchFault}
 use Rattle.sketch.specs.declared.Sketch.{Sketch}
-use Rattle.image.specs.declared.ImageRead.{ImageRead}
+use Rattle.sketch_image.specs.declared.ImageRead.{ImageRead}
 use Rattle.image.specs.Image.{imageFault, drawingOf, parse}
-use Rattle.image.specs.Decode.{ReadAnswer}
-use Rattle.image.specs.Encode.{encode, drawingSize, ImageWritten}
+use Rattle.sketch_image.specs.SketchImage.{ReadAnswer}
+use Rattle.image.specs.Encode.{encode, drawingSize}
+use Rattle.sketch_image.specs.SketchImage.{ImageWritten}
 use Rattle.image.proofs.RoundTrips.{image-kept, encode-back, size-back}
-use Rattle.image.proofs.Answers.{read-number, read-drawing}
+use Rattle.sketch_image.proofs.Answers.{read-number, read-drawing}
 use Rattle.message.specs.declared.Message.{Message}
 use Rattle.message.specs.declared.MessageRead.the-variants.{Accepted}
 use Rattle.message.specs.Message as M

@@ -14,7 +14,8 @@ use Rattle.sketch.specs.declared.Sketch.{Sketch}
 use Rattle.sketch.specs.Lists.{ite, guardNumber}
 use Rattle.sketch.specs.Drawing.{view}
 use Rattle.sketch.specs.Valid.{sketchFault}
-use Rattle.image.specs.Encode.{encode, drawingSize, ImageWritten}
+use Rattle.image.specs.Encode.{encode, drawingSize}
+use Rattle.sketch_image.specs.SketchImage.{ImageWritten}
 use Rattle.edit_plan.specs.declared.Removed.{Removed}
 use Rattle.edit_plan.specs.Outcome.{accepted, guard}
 use Rattle.probe.specs.Edits.{numberOf, leftIn, report, Wrote}

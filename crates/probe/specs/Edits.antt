@@ -16,7 +16,8 @@ use Rattle.message.specs.declared.Operation.the-variants.{Extend}
 use Rattle.relations.specs.Met.{unmetAt}
 use Rattle.edit_plan.specs.declared.Removed.{Removed}
 use Rattle.edit_plan.specs.Outcome.{Outcome, refused, accepted, _then_, guard}
-use Rattle.modify.specs.Edits.{editOf, editUntested, NoPlace}
+use Rattle.extend.specs.ExtendAnswer.{NoPlace}
+use Rattle.modify.specs.Edits.{editOf, editUntested}
 
 -- ---- one edit
 

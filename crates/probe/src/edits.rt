@@ -34,7 +34,7 @@ fn write_edited(sk: Sketch, removed: Removed, out: &mut [u8]) -> u32
     if out.len() < REPORT {
         return 25;
     }
-    let number = image_writer::write(sk, &mut out[REPORT..]);
+    let number = sketch_image::write(sk, &mut out[REPORT..]);
     if number != 0 {
         return number as u32;
     }
@@ -56,7 +56,7 @@ pub extern "C" fn mulkefi_edit(
 ) -> u32
     ensures { λ r. ⌜ EditMade operation (now (bytes .entry)) curve (vec x y) (now (out .entry)) (now (out .exit)) r ⌝ }
 {
-    let r = image::read(bytes);
+    let r = sketch_image::read(bytes);
     if r.refusal != 0 {
         return r.refusal as u32;
     }
@@ -112,7 +112,7 @@ pub extern "C" fn mulkefi_edit_repeated(
 ) -> u32
     ensures { λ r. ⌜ r ≡ editsSum operation (now (bytes .entry)) curve (vec x y) times ⌝ }
 {
-    let r = image::read(bytes);
+    let r = sketch_image::read(bytes);
     if r.refusal != 0 {
         return r.refusal as u32;
     }

@@ -27,7 +27,7 @@ pub extern "C" fn mulkefi_versions() -> u32
 pub extern "C" fn mulkefi_image_test(bytes: &[u8]) -> u32
     ensures { λ r. ⌜ r ≡ I.imageFault (now (bytes .entry)) ⌝ }
 {
-    let r = image::read(bytes);
+    let r = sketch_image::read(bytes);
     r.refusal as u32
 }
 
@@ -36,12 +36,12 @@ pub extern "C" fn mulkefi_image_test(bytes: &[u8]) -> u32
 pub extern "C" fn mulkefi_image_copy(bytes: &[u8], out: &mut [u8]) -> u32
     ensures { λ r. ⌜ ImageCopied (now (bytes .entry)) (now (out .entry)) (now (out .exit)) r ⌝ }
 {
-    let r = image::read(bytes);
+    let r = sketch_image::read(bytes);
     if r.refusal != 0 {
         return r.refusal as u32;
     }
     let sk = r.sketch;
-    image_writer::write(sk, out) as u32
+    sketch_image::write(sk, out) as u32
 }
 
 // Reads a message and writes it again.
@@ -66,7 +66,7 @@ pub extern "C" fn mulkefi_sketch_test(
 ) -> u32
     ensures { λ r. ⌜ SketchTested (now (bytes .entry)) next points curves relations r ⌝ }
 {
-    let r = image::read(bytes);
+    let r = sketch_image::read(bytes);
     if r.refusal != 0 {
         return r.refusal as u32;
     }

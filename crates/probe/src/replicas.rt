@@ -73,7 +73,7 @@ pub extern "C" fn mulkefi_desk_repeated(
 ) -> u32
     ensures { λ r. ⌜ r ≡ desksSum (now (bytes .entry)) count operation curve x y times ⌝ }
 {
-    let r = image::read(bytes);
+    let r = sketch_image::read(bytes);
     if r.refusal != 0 {
         return r.refusal as u32;
     }
@@ -125,7 +125,7 @@ pub extern "C" fn mulkefi_deliver_repeated(
 ) -> u32
     ensures { λ r. ⌜ r ≡ wallsSum (now (bytes .entry)) count (now (message .entry)) times ⌝ }
 {
-    let r = image::read(bytes);
+    let r = sketch_image::read(bytes);
     if r.refusal != 0 {
         return r.refusal as u32;
     }

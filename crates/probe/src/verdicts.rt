@@ -15,7 +15,7 @@ pub extern "C" fn mulkefi_relations_test(
 ) -> u32
     ensures { λ r. ⌜ RelationsTested (now (bytes .entry)) next points curves relations r ⌝ }
 {
-    let r = image::read(bytes);
+    let r = sketch_image::read(bytes);
     if r.refusal != 0 {
         return r.refusal as u32;
     }

@@ -40,7 +40,7 @@ fn reports(removed: Removed, bytes: &[u8]) -> bool {
 fn write_front(sk: Sketch, buf: &mut [u8], lent: usize) -> u8
     requires { ⌜ lent ≤ length (now buf) ⌝ }
 {
-    image_writer::write(sk, &mut buf[..lent])
+    sketch_image::write(sk, &mut buf[..lent])
 }
 
 // Whether an accepted edit writes some bytes into the room that is lent for them, or finds it too short.
@@ -89,7 +89,7 @@ pub(crate) fn alike(outcome: u8, input: &[u8]) -> bool {
         return false;
     }
     let end = HEAD + size;
-    let read = image::read(&input[HEAD..end]);
+    let read = sketch_image::read(&input[HEAD..end]);
     if read.refusal != 0 {
         return (outcome == read.refusal) & (written == 0);
     }

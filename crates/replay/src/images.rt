@@ -2,7 +2,7 @@
 use crate::written::holds_image;
 
 pub(crate) fn alike(outcome: u8, input: &[u8]) -> bool {
-    let answer = image::read(input);
+    let answer = sketch_image::read(input);
     if answer.refusal != outcome {
         return false;
     }

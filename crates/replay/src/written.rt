@@ -25,7 +25,7 @@ pub(crate) fn holds_just(buf: &[u8], bytes: &[u8]) -> bool {
 // Whether a sketch has an image, and it is these bytes.
 pub(crate) fn holds_image(sk: Sketch, bytes: &[u8]) -> bool {
     let mut buf = [PATTERN; ROOM];
-    if image_writer::write(sk, &mut buf) != 0 {
+    if sketch_image::write(sk, &mut buf) != 0 {
         return false;
     }
     holds_just(&buf, bytes)

@@ -20,9 +20,10 @@ use Rattle.edit_plan.specs.declared.Removed.{Removed}
 use Rattle.edit_plan.specs.Outcome.{Outcome, refused, accepted, guard}
 use Rattle.edit_plan.specs.Tables.{okPosition}
 use Rattle.edit_plan.specs.Suited.{outcomeOf}
-use Rattle.modify.specs.declared.PlanResult.{PlanResult}
-use Rattle.modify.specs.Planning.{guardPlan}
-use Rattle.modify.specs.Edits.{planOnFound, applyPlanned, editOf, EditAnswer}
+use Rattle.planning.specs.declared.PlanResult.{PlanResult}
+use Rattle.planning.specs.Planning.{guardPlan}
+use Rattle.extend.specs.ExtendAnswer.{applyPlanned}
+use Rattle.modify.specs.Edits.{planOnFound, editOf, EditAnswer}
 use Rattle.replication.specs.Protocol.{Edit, isPick, edit}
 use Rattle.replication.specs.Transitions.{UnmetPlace, firstFault}
 use Rattle.replication.proofs.Decoding.{guard-accepted}

@@ -15,7 +15,8 @@ use Rattle.sketch.specs.Drawing.{Drawing, view}
 use Rattle.sketch.specs.Valid.{sketchFault}
 use Rattle.sketch.proofs.Sketches.{sketch-valid}
 use Rattle.image.specs.Image as I
-use Rattle.image.specs.Encode.{encode, drawingSize, ImageWritten}
+use Rattle.image.specs.Encode.{encode, drawingSize}
+use Rattle.sketch_image.specs.SketchImage.{ImageWritten}
 use Rattle.image.specs.Image.{headerSize}
 use Rattle.message.specs.Message.{messageSize}
 use Rattle.image.specs.Records.{curveSize, pointSize, relationSize}

@@ -11,7 +11,7 @@ use Rattle.sketch.specs.Lists.{guardNumber}
 use Rattle.sketch.specs.Drawing.{Drawing, view}
 use Rattle.sketch.proofs.Sketches.{sketch-valid}
 use Rattle.image.specs.Image as I
-use Rattle.image.specs.Decode.{drawingIn}
+use Rattle.sketch_image.specs.SketchImage.{drawingIn}
 use Rattle.image.proofs.RoundTrips.{result-none, result-number}
 use Rattle.message.specs.Message.{messageSize}
 use Rattle.agreement.specs.Machines.{State, initial, messages, WallRun, wallAfter}

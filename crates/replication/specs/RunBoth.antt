@@ -12,7 +12,7 @@ use Rattle.sketch.specs.Drawing.{Drawing, idSize}
 use Rattle.sketch.specs.Valid.{sketchFault}
 use Rattle.message.specs.Message.{operationOf, messageSize}
 use Rattle.image.specs.Image as I
-use Rattle.image.specs.Decode.{drawingIn}
+use Rattle.sketch_image.specs.SketchImage.{drawingIn}
 use Rattle.cuts.specs.Columns.{rows}
 use Rattle.edit_plan.specs.declared.Removed.{Removed}
 use Rattle.agreement.specs.Machines.{initial, Call, DeskStep, calls, deskAfter, messages, DeskRun, WallStep, wallAfter, WallRun}

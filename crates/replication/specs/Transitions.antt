@@ -17,11 +17,12 @@ use Rattle.message.specs.declared.Message.{Message}
 use Rattle.message.specs.declared.MessageRead.the-variants.{Accepted}
 use Rattle.message.specs.Message.{parse, encode, messageSize}
 use Rattle.image.specs.Image as I
-use Rattle.image.specs.Decode.{drawingIn}
+use Rattle.sketch_image.specs.SketchImage.{drawingIn}
 use Rattle.relations.specs.Met.{unmetAt}
 use Rattle.edit_plan.specs.declared.Removed.{Removed}
 use Rattle.edit_plan.specs.Outcome.{accepted}
-use Rattle.modify.specs.Edits.{editUntested, NoPlace}
+use Rattle.extend.specs.ExtendAnswer.{NoPlace}
+use Rattle.modify.specs.Edits.{editUntested}
 use Rattle.agreement.specs.Machines as M
 use Rattle.agreement.specs.Machines.{State, message, DeskStep, DeskStepValid, WallStep, WallStepValid}
 use Rattle.replication.specs.declared.Replica.{Replica}

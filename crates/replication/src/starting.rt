@@ -7,7 +7,7 @@ ghost use Rattle.replication.specs.Transitions.{Starts};
 pub fn start(bytes: &[u8]) -> Started
     ensures { λ r. ⌜ Starts (now (bytes .entry)) r ⌝ }
 {
-    let read = image::read(bytes);
+    let read = sketch_image::read(bytes);
     let sketch = read.sketch;
     let replica = Replica { sketch, count: 0 };
     Started {

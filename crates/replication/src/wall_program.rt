@@ -60,7 +60,7 @@ fn write_sketch(sk: Sketch, out: &mut [u8]) -> usize
     requires { ⌜ sketchFault sk ≡ 0 ⌝ }
     ensures { λ r. ⌜ WritesOutcome (accepted (view sk)) (now (out .entry)) (now (out .exit)) r ⌝ }
 {
-    if image_writer::write(sk, out) != 0 {
+    if sketch_image::write(sk, out) != 0 {
         return 0;
     }
     let np = sk.npoints;

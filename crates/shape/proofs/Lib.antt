@@ -1,4 +1,5 @@
 -- ---- what other crates cite
+pub mod CrossingsBy
 pub mod Offsets
 pub mod Opened
 -- ---- what the proofs of the functions rest on

@@ -54,3 +54,14 @@ crossings (Line a b) (Line c d) = lines a (b -ᵥ a) c (d -ᵥ c)
 crossings (Line a b) (Round c r start sweep) = lineAndRound a (normalized (b -ᵥ a)) c r
 crossings (Round c r start sweep) (Line a b) = lineAndRound a (normalized (b -ᵥ a)) c r
 crossings (Round c1 r1 start1 sweep1) (Round c2 r2 start2 sweep2) = rounds c1 r1 c2 r2
+
+-- the direction of a line; a round has none
+unfoldable pub directionOf : Shape → Direction
+directionOf (Line a b) = normalized (b -ᵥ a)
+directionOf (Round c r start sweep) = None
+
+-- the same with a given direction of the first, for a line and a round
+unfoldable pub crossingsBy : Direction → Shape → Shape → Crossings
+crossingsBy d (Line a b) (Line c e) = crossings (Line a b) (Line c e)
+crossingsBy d (Line a b) (Round c r start sweep) = lineAndRound a d c r
+crossingsBy d (Round c r start sweep) other = crossings (Round c r start sweep) other

@@ -1,7 +1,7 @@
 // Where endless lines and full circles cross.
 ghost use mathlib.Core.Path.{_≡_};
 ghost use Rattle.shape.specs.Intersections as I;
-ghost use Rattle.shape.specs.Intersections.{bySign, lineAndRound, crossings};
+ghost use Rattle.shape.specs.Intersections.{lineAndRound, crossings, directionOf, crossingsBy};
 use crate::Crossings;
 use crate::Shape;
 use geom::Direction;
@@ -19,20 +19,7 @@ fn lines(a: Vec2, r: Vec2, c: Vec2, s: Vec2) -> Crossings
     Crossings::One(a.add(r.scale(t)))
 }
 
-// None, the middle m, or two, by the sign of the square h of how far the two lie from m.
-fn by_sign(h: f64, m: Vec2, first: Vec2, second: Vec2) -> Crossings
-    ensures { λ o. ⌜ o ≡ bySign h m first second ⌝ }
-{
-    if h < 0.0 {
-        return Crossings::Zero;
-    }
-    if h == 0.0 {
-        return Crossings::One(m);
-    }
-    Crossings::Two(first, second)
-}
-
-// From a in the direction d, and around c with the radius r.
+// From a in the direction d, and around c with the radius r. A root is taken only where there are two crossings.
 fn line_and_round(a: Vec2, d: Direction, c: Vec2, r: f64) -> Crossings
     ensures { λ o. ⌜ o ≡ lineAndRound a d c r ⌝ }
 {
@@ -42,11 +29,17 @@ fn line_and_round(a: Vec2, d: Direction, c: Vec2, r: f64) -> Crossings
     let m = a.add(u.scale(Vec2::from_points(a, c).dot(u)));
     let w = Vec2::from_points(c, m);
     let h = r * r - w.dot(w);
+    if h < 0.0 {
+        return Crossings::Zero;
+    }
+    if h == 0.0 {
+        return Crossings::One(m);
+    }
     let k = u.scale(float::sqrt(h));
-    by_sign(h, m, m.sub(k), m.add(k))
+    Crossings::Two(m.sub(k), m.add(k))
 }
 
-// Around c1 with the radius r1, and around c2 with r2.
+// Around c1 with the radius r1, and around c2 with r2. The second root is taken only where there are two crossings.
 fn rounds(c1: Vec2, r1: f64, c2: Vec2, r2: f64) -> Crossings
     ensures { λ o. ⌜ o ≡ I.rounds c1 r1 c2 r2 ⌝ }
 {
@@ -57,9 +50,15 @@ fn rounds(c1: Vec2, r1: f64, c2: Vec2, r2: f64) -> Crossings
     }
     let g = (d * d + r1 * r1 - r2 * r2) / (2.0 * d);
     let h = r1 * r1 - g * g;
+    if h < 0.0 {
+        return Crossings::Zero;
+    }
     let m = c1.add(e.scale(g / d));
+    if h == 0.0 {
+        return Crossings::One(m);
+    }
     let k = e.perp().div(d).scale(float::sqrt(h));
-    by_sign(h, m, m.add(k), m.sub(k))
+    Crossings::Two(m.add(k), m.sub(k))
 }
 
 // The crossings of the endless line or the full circle of each. Between a line and a round they run along the line, whichever is given first.
@@ -81,4 +80,27 @@ pub fn intersections(sh: Shape, other: Shape) -> Crossings
             Shape::Round(c2, r2, _, _) => rounds(c1, r1, c2, r2),
         },
     }
+}
+
+// The direction of a line, none of a round: for a caller that asks for many crossings with one shape.
+pub fn direction_of(sh: Shape) -> Direction
+    ensures { λ o. ⌜ o ≡ directionOf sh ⌝ }
+{
+    match sh {
+        Shape::Line(a, b) => Vec2::from_points(a, b).normalized(),
+        Shape::Round(_, _, _, _) => Direction::None,
+    }
+}
+
+// The crossings, given the direction of the first where it is a line.
+pub fn intersections_by(sh: Shape, d: Direction, other: Shape) -> Crossings
+    ensures { λ o. ⌜ o ≡ crossingsBy d sh other ⌝ }
+{
+    let Shape::Line(a, _) = sh else {
+        return intersections(sh, other);
+    };
+    let Shape::Round(c, r, _, _) = other else {
+        return intersections(sh, other);
+    };
+    line_and_round(a, d, c, r)
 }

@@ -5,7 +5,9 @@ mod crossing;
 mod measure;
 mod turning;
 
+pub use crossing::direction_of;
 pub use crossing::intersections;
+pub use crossing::intersections_by;
 pub use turning::turn;
 
 // A line from one point to another; or a round, an arc or a circle: centre, radius, the turn at which it starts, and how far it sweeps.

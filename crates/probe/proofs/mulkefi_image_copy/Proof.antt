@@ -1,4 +1,4 @@
-use Rattle.image.proofs.Answers.{read-number}
+use Rattle.sketch_image.proofs.Answers.{read-number}
 use Rattle.probe.proofs.Answers.{not-copied, image-copied}
 use mathlib.Core.Path.{refl}
 use borrow.Author.Needs.{needs}
@@ -6,8 +6,8 @@ use Rattle.probe.proofs.mulkefi_image_copy.Statement.{statement}
 use Rattle.probe.proofs.mulkefi_image_copy.Tie as tie
 use Rattle.probe.proofs.mulkefi_image_copy.Reads as reads
 use Rattle.probe.proofs.mulkefi_image_copy.Lts as lts
-use Rattle.image.proofs.read.Reads as read-reads
-use Rattle.image_writer.proofs.write.Reads as write-reads
+use Rattle.sketch_image.proofs.read.Reads as read-reads
+use Rattle.sketch_image.proofs.write.Reads as write-reads
 
 read-requires : tie.Need-read-requires
 read-requires c κs = search needs

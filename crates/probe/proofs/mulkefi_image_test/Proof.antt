@@ -1,10 +1,10 @@
-use Rattle.image.proofs.Answers.{read-number}
+use Rattle.sketch_image.proofs.Answers.{read-number}
 use borrow.Author.Needs.{needs}
 use Rattle.probe.proofs.mulkefi_image_test.Statement.{statement}
 use Rattle.probe.proofs.mulkefi_image_test.Tie as tie
 use Rattle.probe.proofs.mulkefi_image_test.Reads as reads
 use Rattle.probe.proofs.mulkefi_image_test.Lts as lts
-use Rattle.image.proofs.read.Reads as read-reads
+use Rattle.sketch_image.proofs.read.Reads as read-reads
 
 read-requires : tie.Need-read-requires
 read-requires c κs = search needs

@@ -1,4 +1,4 @@
-use Rattle.image.proofs.Answers.{read-number, read-drawing}
+use Rattle.sketch_image.proofs.Answers.{read-number, read-drawing}
 use Rattle.probe.specs.Probe.{unread, tested}
 use mathlib.Core.Path.{sym, _∙_}
 use borrow.Author.Needs.{needs}
@@ -6,7 +6,7 @@ use Rattle.probe.proofs.mulkefi_sketch_test.Statement.{statement}
 use Rattle.probe.proofs.mulkefi_sketch_test.Tie as tie
 use Rattle.probe.proofs.mulkefi_sketch_test.Reads as reads
 use Rattle.probe.proofs.mulkefi_sketch_test.Lts as lts
-use Rattle.image.proofs.read.Reads as read-reads
+use Rattle.sketch_image.proofs.read.Reads as read-reads
 use Rattle.sketch.proofs.fault.Reads as fault-reads
 
 read-requires : tie.Need-read-requires

@@ -1,8 +1,9 @@
+use Rattle.shape.proofs.CrossingsBy.{crossings-by}
 use native.Mathlib.Omega.{arith}
 use lib.ListN.{length, take}
 use Prim.Native.Nat.{_+_, _-_, _≤_}
 use mathlib.Core.List.{_++_}
-use mathlib.Core.Path.{_≡_, refl}
+use mathlib.Core.Path.{_≡_, refl, _∙_}
 use Rattle.shape.specs.Intersections.{points}
 use Rattle.cuts.specs.Bounded as B
 use Rattle.cuts.specs.Cuts.{cutsOn}
@@ -20,8 +21,8 @@ Inv-loop sh slack o n ts₀ px₀ py₀ who₀ crossings ends all m₀ k₀ ts p
 abbrev μ-loop : tie.MeasureT-loop
 μ-loop sh slack o n ts₀ px₀ py₀ who₀ crossings ends all m₀ k₀ ts px py who m k = all - k
 
-intersections-requires : tie.Need-intersections-requires Inv-loop μ-loop
-intersections-requires c κs = search needs
+intersections-by-requires : tie.Need-intersections-by-requires Inv-loop μ-loop
+intersections-by-requires c κs = search needs
 
 end-points-requires : tie.Need-end-points-requires Inv-loop μ-loop
 end-points-requires c κs = search needs
@@ -33,10 +34,10 @@ count-requires-2 : tie.Need-count-requires-2 Inv-loop μ-loop
 count-requires-2 c κs = search needs
 
 add-all : tie.Need-add-all Inv-loop μ-loop
-add-all c = let u = few (c .before .before .before .intersections .result) in let v = few (c .before .before .end-points .result) in omega arith
+add-all c = let u = few (c .before .before .before .intersections-by .result) in let v = few (c .before .before .end-points .result) in omega arith
 
 loop-holds : tie.Need-loop-holds Inv-loop μ-loop
-loop-holds c = let u = few (c .before .before .before .intersections .result) in let v = few (c .before .before .end-points .result) in (omega arith, omega arith, omega arith, omega arith, c .before .before .before .before .before .before .before .before .pre .0, c .before .before .before .before .before .before .before .before .pre .1, refl, refl, refl, refl, stops-start (c .before .before .before .before .before .before .before .before .args .sh) (c .before .before .before .before .before .before .before .before .args .o) _ (c .before .before .before .intersections .result) (c .before .before .end-points .result))
+loop-holds c = let u = few (c .before .before .before .intersections-by .result) in let v = few (c .before .before .end-points .result) in (omega arith, omega arith, omega arith, omega arith, c .before .before .before .before .before .before .before .before .pre .0 .0, c .before .before .before .before .before .before .before .before .pre .1, refl, refl, refl, refl, stops-start (c .before .before .before .before .before .before .before .before .args .sh) (c .before .before .before .before .before .before .before .before .args .o) _ (c .before .before .before .intersections-by .result) (c .before .before .end-points .result))
 
 candidate-at-requires : tie.Need-candidate-at-requires Inv-loop μ-loop
 candidate-at-requires c κs = search needs
@@ -63,7 +64,7 @@ loop-again c =
       search needs,
       search needs,
       search needs,
-      stops-step (c .before .before .before .before .before .before .before .before .before .before .before .before .before .before .before .before .before .before .before .before .before .before .before .before .args .sh) (c .before .before .before .before .before .before .before .before .before .before .before .before .before .before .before .before .before .before .before .before .before .before .before .before .args .o) _ (c .before .before .before .before .before .before .before .before .before .before .before .before .before .before .before .before .before .before .before .intersections .result) (c .before .before .before .before .before .before .before .before .before .before .before .before .before .before .before .before .before .before .end-points .result) (c .before .before .before .before .before .before .before .before .before .before .before .before .before .before .before .loop .k) _ _ _ (omega arith) (c .before .before .before .before .before .before .before .before .before .before .before .before .before .candidate-at .ensures) (v .10) (c .before .before .before .before .before .before .before .before .candidate .ensures .0),
+      stops-step (c .before .before .before .before .before .before .before .before .before .before .before .before .before .before .before .before .before .before .before .before .before .before .before .before .args .sh) (c .before .before .before .before .before .before .before .before .before .before .before .before .before .before .before .before .before .before .before .before .before .before .before .before .args .o) _ (c .before .before .before .before .before .before .before .before .before .before .before .before .before .before .before .before .before .before .before .intersections-by .result) (c .before .before .before .before .before .before .before .before .before .before .before .before .before .before .before .before .before .before .end-points .result) (c .before .before .before .before .before .before .before .before .before .before .before .before .before .before .before .loop .k) _ _ _ (omega arith) (c .before .before .before .before .before .before .before .before .before .before .before .before .before .candidate-at .ensures) (v .10) (c .before .before .before .before .before .before .before .before .candidate .ensures .0),
     )
 
 same-length : tie.Need-same-length Inv-loop μ-loop
@@ -79,7 +80,7 @@ same-length-4 : tie.Need-same-length-4 Inv-loop μ-loop
 same-length-4 c = search needs
 
 returns : tie.Need-returns Inv-loop μ-loop
-returns c = (stops-end (c .before .before .before .before .before .before .before .before .before .before .args .sh) (c .before .before .before .before .before .before .before .before .before .before .args .o) _ (c .before .before .before .before .before .intersections .result) (c .before .before .before .before .end-points .result) (c .before .loop .k) _ (omega arith) (c .before .before .before .before .before .intersections .ensures) (c .before .before .before .before .end-points .ensures) (c .before .loop .inv .10), omega arith)
+returns c = (stops-end (c .before .before .before .before .before .before .before .before .before .before .args .sh) (c .before .before .before .before .before .before .before .before .before .before .args .o) _ (c .before .before .before .before .before .intersections-by .result) (c .before .before .before .before .end-points .result) (c .before .loop .k) _ (omega arith) (c .before .before .before .before .before .intersections-by .ensures ∙ crossings-by _ _ _ (c .before .before .before .before .before .before .before .before .before .before .pre .0 .1)) (c .before .before .before .before .end-points .ensures) (c .before .loop .inv .10), omega arith)
 
 pub cuts-by-spec : {M : Type 1} → statement M
 cuts-by-spec =
@@ -87,7 +88,7 @@ cuts-by-spec =
     (tie.spec
     Inv-loop
     μ-loop
-    intersections-requires
+    intersections-by-requires
     end-points-requires
     count-requires
     count-requires-2

@@ -2,15 +2,15 @@ use mathlib.Core.Path.{sym, ap, _∙_, subst}
 use mathlib.Core.Bool.{cond}
 use Prim.Native.Nat.{_≤_}
 use lib.ListN.{length-take}
-use Rattle.message.specs.declared.Operation.the-variants.{Trim, Split, Extend}
+use Rattle.message.specs.declared.Operation.the-variants.{Trim, Split}
 use Rattle.sketch.specs.Drawing.{view, pointIds}
 use Rattle.sketch.proofs.Facts.{rising-ascends}
 use Rattle.sketch.proofs.Sketches.{sketch-valid}
 use Rattle.sketch_geometry.proofs.Filled.{point-columns}
+use Rattle.edit_plan.specs.Suited.{targetOf}
 use Rattle.modify.specs.Edits.{EditAnswer}
 use Rattle.modify.specs.Contracts.{TargetFound}
-use Rattle.modify.proofs.Refusing.{fault-low}
-use Rattle.modify.proofs.Answers.{refused-fault, answered-refused, extend-is, cut-is, target-found-curve, target-found-answer, edit-refused, edit-suited, edit-applied}
+use Rattle.modify.proofs.Answers.{refused-fault, fault-low, answered-refused, cut-planned, extend-is, cut-is, target-found-curve, target-found-answer, extend-answered, edit-refused, edit-suited, edit-applied}
 use native.Mathlib.Omega.{arith}
 use borrow.Author.Needs.{needs}
 use Rattle.modify.proofs.edits.edit.Statement.{statement}
@@ -113,20 +113,18 @@ slice-aggregate-extend-curve-4 c =
     rw length-take (omega (arith, y .ys-long))
 
 extend-curve-requires : tie.Need-extend-curve-requires
-extend-curve-requires c κs =
-    let l = c .before .before .before .before .before .before in
-    let b = started l in
-    let w = sketch-valid (l .before .before .before .before .before .before .before .before .before .before .before .before .before .before .before .args .sk) (b .valid) in
-    let k = l .before .before .before .before .before .before .before .before .before .before .before .before .before .before .before .args .sk in
-    let z = w .0 .points in
-    let y = l .before .before .before .before .fill-point-columns .ensures (omega arith) (omega arith) (omega arith) (omega arith) in
-    let columns = point-columns y (omega arith) (omega arith) (omega arith) (rising-ascends (k .next) 0 (pointIds (view k .points)) (w .1 .points-rise)) in
-    (b .valid, w .0, w .1, b .place, b .picked, columns)
+extend-curve-requires c κs = search needs
 
 returns-3 : tie.Need-returns-3
 returns-3 c =
     let a = c .before .before .before .before .before .before .before .before .before .before .before .before .before .before .before .before .before .before .before .before .before .before .before .before .args in
-    subst (λ op. EditAnswer op (a .sk) (a .curve) (a .at) (c .before .before .extend-curve .result)) (sym (extend-is (a .operation) (sym (c .before .before .before .before .before .before .before .before .is-extend .ensures) ∙ c .before .before .before .before .before .before .before .if3 .taken))) (target-found-answer (started (c .before .before .before .before .before .before .before .before .before)) Extend (c .before .before .extend-curve .ensures))
+    let l = c .before .before .before .before .before .before .before .before .before in
+    let b = started l in
+    let w = sketch-valid (a .sk) (b .valid) in
+    let z = w .0 .points in
+    let y = l .before .before .before .before .fill-point-columns .ensures (omega arith) (omega arith) (omega arith) (omega arith) in
+    let columns = point-columns y (omega arith) (omega arith) (omega arith) (rising-ascends (a .sk .next) 0 (pointIds (view (a .sk) .points)) (w .1 .points-rise)) in
+    subst (λ op. EditAnswer op (a .sk) (a .curve) (a .at) (c .before .before .extend-curve .result)) (sym (extend-is (a .operation) (sym (c .before .before .before .before .before .before .before .before .is-extend .ensures) ∙ c .before .before .before .before .before .before .before .if3 .taken))) (extend-answered b (c .before .before .extend-curve .ensures (b .valid) (b .place) columns))
 
 is-split-requires : tie.Need-is-split-requires
 is-split-requires c κs = search needs
@@ -177,15 +175,7 @@ slice-aggregate-plan-on-curve-4 c =
     rw length-take (omega (arith, y .ys-long))
 
 plan-on-curve-requires : tie.Need-plan-on-curve-requires
-plan-on-curve-requires c κs =
-    let l = c .before .before .before .before .before .before .before in
-    let b = started l in
-    let w = sketch-valid (l .before .before .before .before .before .before .before .before .before .before .before .before .before .before .before .args .sk) (b .valid) in
-    let k = l .before .before .before .before .before .before .before .before .before .before .before .before .before .before .before .args .sk in
-    let z = w .0 .points in
-    let y = l .before .before .before .before .fill-point-columns .ensures (omega arith) (omega arith) (omega arith) (omega arith) in
-    let columns = point-columns y (omega arith) (omega arith) (omega arith) (rising-ascends (k .next) 0 (pointIds (view k .points)) (w .1 .points-rise)) in
-    (w .0, w .1, b .place, columns)
+plan-on-curve-requires c κs = search needs
 
 enum-known-number : tie.Need-enum-known-number
 enum-known-number c = search needs
@@ -202,22 +192,32 @@ apply-plan-requires c κs = search needs
 returns-4 : tie.Need-returns-4
 returns-4 c =
     let a = c .before .before .before .before .before .before .before .before .before .before .before .before .before .before .before .before .before .before .before .before .before .before .before .before .before .before .before .args in
-    let b = started (c .before .before .before .before .before .before .before .before .before .before .before .before) in
+    let l = c .before .before .before .before .before .before .before .before .before .before .before .before in
+    let b = started l in
+    let w = sketch-valid (a .sk) (b .valid) in
+    let z = w .0 .points in
+    let y = l .before .before .before .before .fill-point-columns .ensures (omega arith) (omega arith) (omega arith) (omega arith) in
+    let columns = point-columns y (omega arith) (omega arith) (omega arith) (rising-ascends (a .sk .next) 0 (pointIds (view (a .sk) .points)) (w .1 .points-rise)) in
     let k = c .before .before .before .before .before .before .before .before .before .before .before .before .before .before .before .before .before .before .before .before .before .before .before .before .find-target .result .place in
     let it = c .before .before .before .before .before .before .before .before .before .is-split .result in
     let op = ap (λ x. cond x Split Trim) (c .before .before .before .before .before .before .before .before .before .is-split .ensures) ∙ cut-is (a .operation) (sym (c .before .before .before .before .before .before .before .before .before .before .before .is-extend .ensures) ∙ c .before .before .before .before .before .before .before .before .before .before .if3 .left) in
-    let planned = c .before .before .before .before .plan-on-curve .ensures in
+    let planned = c .before .before .before .before .plan-on-curve .ensures (w .0 .curves) (b .place) columns ∙ cut-planned it (view (a .sk)) (a .at) (targetOf (a .sk) k) in
     subst (λ op. EditAnswer op (a .sk) (a .curve) (a .at) (c .answer3 .result)) op
     (target-found-answer b (cond it Split Trim) (edit-refused it (a .sk) k (a .at) (b .valid) (b .place) (b .picked) (target-found-curve b) planned (c .before .before .number .given .1) (c .answer3 .ensures .0) (c .answer3 .ensures .1) (c .answer3 .ensures .3) (c .answer3 .ensures .2)))
 
 returns-5 : tie.Need-returns-5
 returns-5 c =
     let a = c .before .before .before .before .before .before .before .before .before .before .before .before .before .before .before .before .before .before .before .before .before .before .before .before .before .before .before .args in
-    let b = started (c .before .before .before .before .before .before .before .before .before .before .before .before) in
+    let l = c .before .before .before .before .before .before .before .before .before .before .before .before in
+    let b = started l in
+    let w = sketch-valid (a .sk) (b .valid) in
+    let z = w .0 .points in
+    let y = l .before .before .before .before .fill-point-columns .ensures (omega arith) (omega arith) (omega arith) (omega arith) in
+    let columns = point-columns y (omega arith) (omega arith) (omega arith) (rising-ascends (a .sk .next) 0 (pointIds (view (a .sk) .points)) (w .1 .points-rise)) in
     let k = c .before .before .before .before .before .before .before .before .before .before .before .before .before .before .before .before .before .before .before .before .before .before .before .before .find-target .result .place in
     let it = c .before .before .before .before .before .before .before .before .before .is-split .result in
     let op = ap (λ x. cond x Split Trim) (c .before .before .before .before .before .before .before .before .before .is-split .ensures) ∙ cut-is (a .operation) (sym (c .before .before .before .before .before .before .before .before .before .before .before .is-extend .ensures) ∙ c .before .before .before .before .before .before .before .before .before .before .if3 .left) in
-    let planned = c .before .before .before .before .plan-on-curve .ensures in
+    let planned = c .before .before .before .before .plan-on-curve .ensures (w .0 .curves) (b .place) columns ∙ cut-planned it (view (a .sk)) (a .at) (targetOf (a .sk) k) in
     let plan = c .before .before .plan .given .1 in
     let suited = edit-suited it (a .sk) k (a .at) (b .valid) (b .place) (b .picked) (target-found-curve b) planned plan in
     subst (λ op. EditAnswer op (a .sk) (a .curve) (a .at) (c .apply-plan .result)) op

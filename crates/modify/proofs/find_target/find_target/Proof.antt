@@ -8,7 +8,7 @@ use Rattle.modify.proofs.find_target.find_target.Statement.{statement}
 use Rattle.modify.proofs.find_target.find_target.Tie as tie
 use Rattle.modify.proofs.find_target.find_target.Reads as reads
 use Rattle.modify.proofs.find_target.find_target.Lts as lts
-use Rattle.modify.proofs.cutter_list.curve_place.Reads as curve-place-reads
+use Rattle.planning.proofs.curve_place.Reads as curve-place-reads
 use Rattle.sketch.proofs.coordinate_ok.Reads as coordinate-ok-reads
 
 coordinate-ok-requires : tie.Need-coordinate-ok-requires
@@ -24,10 +24,10 @@ curve-place-requires : tie.Need-curve-place-requires
 curve-place-requires c κs = search needs
 
 returns-2 : tie.Need-returns-2
-returns-2 c = (test-passed _ _ _ (sym (c .before .before .before .before .before .before .before .pre .0)) refl (sym (joined (c .before .before .before .before .before .before .coordinate-ok .ensures) (c .before .before .before .before .before .coordinate-ok2 .ensures)) ∙ not-false _ (c .before .before .before .before .if1 .left)) (c .before .before .curve-place .ensures) (c .if2 .taken), omega arith)
+returns-2 c = (test-passed _ _ _ (sym (c .before .before .before .before .before .before .before .pre .0)) refl (sym (joined (c .before .before .before .before .before .before .coordinate-ok .ensures) (c .before .before .before .before .before .coordinate-ok2 .ensures)) ∙ not-false _ (c .before .before .before .before .if1 .left)) (c .before .before .curve-place .ensures (c .before .before .before .before .before .before .before .pre .1 .curves)) (c .if2 .taken), omega arith)
 
 returns-3 : tie.Need-returns-3
-returns-3 c = (test-curve _ _ _ (sym (c .before .before .before .before .before .before .before .pre .0)) refl (sym (joined (c .before .before .before .before .before .before .coordinate-ok .ensures) (c .before .before .before .before .before .coordinate-ok2 .ensures)) ∙ not-false _ (c .before .before .before .before .if1 .left)) (c .before .before .curve-place .ensures) (c .if2 .left), omega arith)
+returns-3 c = (test-curve _ _ _ (sym (c .before .before .before .before .before .before .before .pre .0)) refl (sym (joined (c .before .before .before .before .before .before .coordinate-ok .ensures) (c .before .before .before .before .before .coordinate-ok2 .ensures)) ∙ not-false _ (c .before .before .before .before .if1 .left)) (c .before .before .curve-place .ensures (c .before .before .before .before .before .before .before .pre .1 .curves)) (c .if2 .left), omega arith)
 
 pub find-target-spec : {M : Type 1} → statement M
 find-target-spec =

@@ -1,9 +1,9 @@
 -- `mulkefi::buffers::write_result` meets its contract: the sketch is of the code's own type, so that its image is read again.
 use Rattle.mulkefi.proofs.WriteResult.{not-written, is-written}
-use Rattle.image_writer.proofs.Typed.{sketch-stored}
+use Rattle.sketch_image.proofs.Typed.{sketch-stored}
 use Rattle.image.specs.Stored.{Stored}
 use Rattle.image.proofs.RoundTrips.{length-encode}
-use Rattle.image_writer.proofs.ReadBack.{parse-again}
+use Rattle.sketch_image.proofs.ReadBack.{parse-again}
 use Rattle.sketch.specs.Drawing.{view}
 use borrow.Author.Needs.{needs}
 use Rattle.mulkefi.proofs.buffers.write_result.Statement.{statement}

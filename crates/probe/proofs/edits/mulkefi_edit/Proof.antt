@@ -2,7 +2,7 @@ use mathlib.Core.Path.{sym, _∙_}
 use native.Mathlib.Omega.{arith}
 use borrow.Author.Tests.{not-true, not-false}
 use borrow.Author.Needs.{needs}
-use Rattle.image.proofs.Answers.{read-number, read-drawing}
+use Rattle.sketch_image.proofs.Answers.{read-number, read-drawing}
 use Rattle.probe.proofs.EditsMade.{image-refused, no-operation, edit-refused, edit-written, named}
 use Rattle.probe.proofs.edits.mulkefi_edit.Statement.{statement}
 use Rattle.probe.proofs.edits.mulkefi_edit.Tie as tie

@@ -3,7 +3,7 @@ use borrow.Author.Tests.{not-true, not-false}
 use borrow.Author.Needs.{needs}
 use Rattle.probe.proofs.EditsMade.{adds-read}
 use Rattle.probe.proofs.Sums.{image-refused, operation-refused, operation-passed}
-use Rattle.image.proofs.Answers.{read-number, read-drawing}
+use Rattle.sketch_image.proofs.Answers.{read-number, read-drawing}
 use Rattle.probe.proofs.edits.mulkefi_edit_repeated.Statement.{statement}
 use Rattle.probe.proofs.edits.mulkefi_edit_repeated.Tie as tie
 

@@ -2,7 +2,7 @@ use mathlib.Core.Path.{sym, _∙_}
 use borrow.Author.Needs.{needs}
 use Rattle.probe.proofs.ReplicaSums.{wall-read}
 use Rattle.probe.proofs.Sums.{image-refused, image-passed}
-use Rattle.image.proofs.Answers.{read-number, read-drawing}
+use Rattle.sketch_image.proofs.Answers.{read-number, read-drawing}
 use Rattle.probe.proofs.replicas.mulkefi_deliver_repeated.Statement.{statement}
 use Rattle.probe.proofs.replicas.mulkefi_deliver_repeated.Tie as tie
 

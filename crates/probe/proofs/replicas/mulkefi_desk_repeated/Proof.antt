@@ -3,7 +3,7 @@ use borrow.Author.Tests.{not-true, not-false}
 use borrow.Author.Needs.{needs}
 use Rattle.probe.proofs.ReplicaSums.{desk-read}
 use Rattle.probe.proofs.Sums.{image-refused, operation-refused, operation-passed}
-use Rattle.image.proofs.Answers.{read-number, read-drawing}
+use Rattle.sketch_image.proofs.Answers.{read-number, read-drawing}
 use Rattle.probe.proofs.replicas.mulkefi_desk_repeated.Statement.{statement}
 use Rattle.probe.proofs.replicas.mulkefi_desk_repeated.Tie as tie
 

@@ -2,7 +2,7 @@
 use mathlib.Core.Path.{_≡_, refl, sym, subst, _∙_}
 use Prim.Native.Nat.{ℕ, _<_}
 use borrow.Author.Needs.{needs}
-use Rattle.image.proofs.Answers.{read-number, read-drawing}
+use Rattle.sketch_image.proofs.Answers.{read-number, read-drawing}
 use Rattle.sketch.specs.declared.Sketch.{Sketch}
 use Rattle.probe.specs.Probe.{altered}
 use Rattle.probe.specs.Relations.{numbered, unread, tested, RelationsTested}

@@ -8,7 +8,7 @@ use Rattle.replication.proofs.wall_program.write_sketch.Statement.{stat
 use Rattle.replication.proofs.wall_program.write_sketch.Tie as tie
 use Rattle.replication.proofs.wall_program.write_sketch.Reads as reads
 use Rattle.replication.proofs.wall_program.write_sketch.Lts as lts
-use Rattle.image_writer.proofs.write.Reads as write-reads
+use Rattle.sketch_image.proofs.write.Reads as write-reads
 
 write-requires : tie.Need-write-requires
 write-requires c κs = search needs

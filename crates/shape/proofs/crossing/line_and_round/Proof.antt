@@ -1,7 +1,15 @@
-use Rattle.shape.specs.Intersections.{lineAndRound}
+use Rattle.shape.specs.Intersections.{bySign, lineAndRound}
 use borrow.Author.Needs.{needs}
 use Rattle.shape.proofs.crossing.line_and_round.Statement.{statement}
 use Rattle.shape.proofs.crossing.line_and_round.Tie as tie
+use Rattle.shape.proofs.crossing.line_and_round.Reads as reads
+use Rattle.shape.proofs.crossing.line_and_round.Lts as lts
+use Rattle.float.proofs.sqrt.Reads as sqrt-reads
+use Rattle.geom.proofs.Vec2.add.Reads as add-reads
+use Rattle.geom.proofs.Vec2.dot.Reads as dot-reads
+use Rattle.geom.proofs.Vec2.from_points.Reads as from-points-reads
+use Rattle.geom.proofs.Vec2.scale.Reads as scale-reads
+use Rattle.geom.proofs.Vec2.sub.Reads as sub-reads
 
 enum-known-d : tie.Need-enum-known-d
 enum-known-d c = search needs
@@ -31,6 +39,18 @@ from-points-requires-2 c κs = search needs
 dot-requires-2 : tie.Need-dot-requires-2
 dot-requires-2 c κs = search needs
 
+returns-2 : tie.Need-returns-2
+unfolding lineAndRound bySign
+returns-2 c =
+    let x = c .before in
+    simp (x .before .before .before .before .before .before .before .d .given .1, simp (x .dot2 .ensures, x .before .from-points2 .ensures, x .before .before .add .ensures, x .before .before .before .scale .ensures, x .before .before .before .before .dot .ensures, x .before .before .before .before .before .from-points .ensures) at (c .if1 .taken))
+
+returns-3 : tie.Need-returns-3
+unfolding lineAndRound bySign
+returns-3 c =
+    let x = c .before .before in
+    simp (x .before .before .before .before .before .before .before .d .given .1, simp (x .dot2 .ensures, x .before .from-points2 .ensures, x .before .before .add .ensures, x .before .before .before .scale .ensures, x .before .before .before .before .dot .ensures, x .before .before .before .before .before .from-points .ensures) at (c .before .if1 .left), simp (x .dot2 .ensures, x .before .from-points2 .ensures, x .before .before .add .ensures, x .before .before .before .scale .ensures, x .before .before .before .before .dot .ensures, x .before .before .before .before .before .from-points .ensures) at (c .if2 .taken), x .before .before .add .ensures, x .before .before .before .scale .ensures, x .before .before .before .before .dot .ensures, x .before .before .before .before .before .from-points .ensures)
+
 sqrt-requires : tie.Need-sqrt-requires
 sqrt-requires c κs = search needs
 
@@ -43,27 +63,25 @@ sub-requires c κs = search needs
 add-requires-2 : tie.Need-add-requires-2
 add-requires-2 c κs = search needs
 
-by-sign-requires : tie.Need-by-sign-requires
-by-sign-requires c κs = search needs
-
-returns-2 : tie.Need-returns-2
-unfolding lineAndRound
-returns-2 c =
-    let b = c .before .before .before .before in
-    let z = b .before .before .before .before .before in
+returns-4 : tie.Need-returns-4
+unfolding lineAndRound bySign
+returns-4 c =
+    let s = c .before .before .before in
+    let x = s .before .before .before in
     simp (
-      c .by-sign .ensures,
-      c .before .add2 .ensures,
-      c .before .before .sub .ensures,
-      c .before .before .before .scale2 .ensures,
-      b .sqrt .ensures,
-      b .before .dot2 .ensures,
-      b .before .before .from-points2 .ensures,
-      b .before .before .before .add .ensures,
-      b .before .before .before .before .scale .ensures,
-      z .dot .ensures,
-      z .before .from-points .ensures,
-      z .before .before .before .d .given .1,
+      x .before .before .before .before .before .before .before .d .given .1,
+      simp (x .dot2 .ensures, x .before .from-points2 .ensures, x .before .before .add .ensures, x .before .before .before .scale .ensures, x .before .before .before .before .dot .ensures, x .before .before .before .before .before .from-points .ensures) at (s .before .before .if1 .left),
+      simp (x .dot2 .ensures, x .before .from-points2 .ensures, x .before .before .add .ensures, x .before .before .before .scale .ensures, x .before .before .before .before .dot .ensures, x .before .before .before .before .before .from-points .ensures) at (s .before .if2 .left),
+      c .add2 .ensures,
+      c .before .sub .ensures,
+      c .before .before .scale2 .ensures,
+      s .sqrt .ensures,
+      x .dot2 .ensures,
+      x .before .from-points2 .ensures,
+      x .before .before .add .ensures,
+      x .before .before .before .scale .ensures,
+      x .before .before .before .before .dot .ensures,
+      x .before .before .before .before .before .from-points .ensures,
     )
 
 pub line-and-round-spec : {M : Type 1} → statement M
@@ -79,9 +97,10 @@ line-and-round-spec =
     add-requires
     from-points-requires-2
     dot-requires-2
+    returns-2
+    returns-3
     sqrt-requires
     scale-requires-2
     sub-requires
     add-requires-2
-    by-sign-requires
-    returns-2)
+    returns-4)

@@ -1,0 +1,9 @@
+pub mod RowRuns
+pub mod Walks
+pub mod Turns
+pub mod Parts
+pub mod Concerned
+pub mod Images
+pub mod Planned
+pub mod Lifted
+pub mod ListDefinition

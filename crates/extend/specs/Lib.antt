@@ -1,0 +1,4 @@
+-- What the contracts of `extend` cite.
+pub mod Extend
+pub mod ExtendAnswer
+pub mod ExtendContracts

@@ -1,0 +1,4 @@
+-- What is proved of the search for the nearest hit.
+pub mod OtherCurves
+pub mod NearestHit
+pub mod CurveHits

@@ -1,0 +1,4 @@
+-- What the contracts of `hit_search` cite.
+pub mod NearestHit
+pub mod Columns
+pub mod Contracts

@@ -1,3 +1,0 @@
-pub mod Written
-pub mod Typed
-pub mod ReadBack

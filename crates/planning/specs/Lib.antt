@@ -1,0 +1,4 @@
+-- What the contracts of `planning` cite.
+pub mod Planning
+pub mod Columns
+pub mod Contracts

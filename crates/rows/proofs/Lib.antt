@@ -1,0 +1,6 @@
+pub mod Rows
+pub mod RunBytes
+pub mod GoodTables
+pub mod Sorts
+pub mod Walked
+pub mod Tested

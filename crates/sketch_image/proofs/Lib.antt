@@ -1,0 +1,4 @@
+pub mod Answers
+pub mod Typed
+pub mod Written
+pub mod ReadBack

@@ -1,0 +1,2 @@
+pub mod SketchImage
+pub mod RoundTrip
