@@ -13,7 +13,8 @@ use Rattle.big_endian.specs.Laws.{Bytes, field-lt, part-join}
 use Rattle.sketch.specs.Lists.{every, concatMap, guardNumber}
 use Rattle.sketch.specs.Drawing.{Drawing, limits}
 use Rattle.sketch.specs.Valid.{okPoint, okCurve, okRelation, soundCurve, soundRelation, hasPoint, sortIn, tableFault, listFault, faultOf}
-use Rattle.sketch.proofs.Facts.{table-facts, list-facts}
+use Rattle.sketch.specs.Lookup.{Ascends}
+use Rattle.sketch.proofs.Facts.{table-facts, list-facts, rising-ascends}
 use Rattle.sketch.proofs.Bools.{and-both}
 use Rattle.image.specs.Records.{pointForm, pointOf, curveForm, curveOf, relationForm, relationOf, curveSize, pointSize, relationSize}
 use Rattle.image.specs.Image.{nextAt, pointCount, curveCount, relationCount, sizeOf, curvesFrom, relationsFrom, headFault, pointRows, curveRows, relationRows, drawingOf, rowId, recordsFault, imageFault, refused, accepted, resultOf, parse, headerSize}
@@ -220,6 +221,8 @@ pub record Sound (s : List ℕ) : Type 0 where
   pub points-pass : every (λ r. pointForm r && okPoint (pointOf r)) (pointRows s) ≡ true
   pub curves-pass : every (λ r. curveForm r && okCurve (curveOf r)) (curveRows s) ≡ true
   pub relations-pass : every (λ r. relationForm r && okRelation (relationOf r)) (relationRows s) ≡ true
+  pub points-rise : Ascends (map rowId (pointRows s))
+  pub curves-rise : Ascends (map rowId (curveRows s))
   pub records-pass : recordsFault s ≡ 0
 
 pub image-kept : (s : List ℕ) → imageFault s ≡ 0 → Sound s
@@ -236,6 +239,8 @@ image-kept s e =
       points-pass = every-true (λ r. pointForm r && okPoint (pointOf r)) (pointRows s) (t1 .0 .oks);
       curves-pass = every-true (λ r. curveForm r && okCurve (curveOf r)) (curveRows s) (t2 .0 .oks);
       relations-pass = every-true (λ r. relationForm r && okRelation (relationOf r)) (relationRows s) (t3 .0);
+      points-rise = rising-ascends (d .next) 0 (map rowId (pointRows s)) (t1 .0 .rise);
+      curves-rise = rising-ascends (d .next) 0 (map rowId (curveRows s)) (t2 .0 .rise);
       records-pass = h .1;
     }
 

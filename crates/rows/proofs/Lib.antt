@@ -4,3 +4,4 @@ pub mod GoodTables
 pub mod Sorts
 pub mod Walked
 pub mod Tested
+pub mod Holds

@@ -7,7 +7,7 @@ use Rattle.big_endian.specs.Fields.{part}
 use Rattle.sketch.specs.declared.Point.{Point}
 use Rattle.sketch.specs.declared.Curve.{Curve}
 use Rattle.sketch.specs.declared.Relation.{Relation}
-use Rattle.sketch.specs.Lookup.{noted}
+use Rattle.sketch.specs.Lookup.{noted, Ascends}
 use Rattle.image.specs.Records.{pointSize, curveSize, relationSize}
 use Rattle.image.specs.Image.{headerSize, pointCount, curveCount, relationCount, curvesFrom, relationsFrom, rowsAt, rowId, imageFault}
 use Rattle.image.specs.Decode.{readPoint, readCurve, readRelation}
@@ -45,6 +45,16 @@ relationsIn t = map readRelation (rowsIn relationSize t)
 -- the ids that the records begin with
 abbrev pub idsIn : ℕ → List ℕ → List ℕ
 idsIn size t = map rowId (rowsIn size t)
+
+-- ---- tables that hold lists, whose ids rise
+
+pub record HoldsPoints (ps : List Point) (points : List ℕ) : Type 0 where
+  pub are : pointsIn points ≡ ps
+  pub rise : Ascends (idsIn pointSize points)
+
+pub record HoldsCurves (cs : List Curve) (curves : List ℕ) : Type 0 where
+  pub are : curvesIn curves ≡ cs
+  pub rise : Ascends (idsIn curveSize curves)
 
 -- ---- the test
 

@@ -28,7 +28,7 @@ no-number = refl
 -- ---- a point by its place
 
 -- ids rise, so that the point at a place is the one that its id names
-point-at : (ps : List Point) (k : ℕ) → Ascends (pointIds ps) → k < length ps → positionOf ps (getD ps k noPoint .id) ≡ vec (getD ps k noPoint .x) (getD ps k noPoint .y)
+pub point-at : (ps : List Point) (k : ℕ) → Ascends (pointIds ps) → k < length ps → positionOf ps (getD ps k noPoint .id) ≡ vec (getD ps k noPoint .x) (getD ps k noPoint .y)
 unfolding positionOf
 point-at [] k h q = absurd (omega arith)
 point-at (p ∷ ps) zero h q = rw (eq-eqb (p .id) (p .id) refl)
@@ -37,7 +37,7 @@ point-at (p ∷ ps) (suc k) h q =
     let e = getD-mapped (λ (x : Point). x .id) 0 noPoint ps k (omega arith) in
     rw (ne-eqb (getD ps k noPoint .id) (p .id) (λ x. omega arith)) (point-at ps k (above-ascends (p .id) (pointIds ps) h) (omega arith))
 
-point-nowhere : (i : ℕ) (ps : List Point) → among i (pointIds ps) ≡ false → positionOf ps i ≡ nowhere
+pub point-nowhere : (i : ℕ) (ps : List Point) → among i (pointIds ps) ≡ false → positionOf ps i ≡ nowhere
 unfolding positionOf
 point-nowhere i [] h = refl
 point-nowhere i (p ∷ ps) h =

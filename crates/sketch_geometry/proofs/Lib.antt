@@ -2,3 +2,4 @@
 pub mod Found
 pub mod Filled
 pub mod Shapes
+pub mod RowPositions

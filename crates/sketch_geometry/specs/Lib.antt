@@ -1,3 +1,4 @@
 -- What the contracts of `sketch_geometry` cite.
 pub mod Geometry
 pub mod Columns
+pub mod Positions

@@ -1,4 +1,6 @@
-// Where the points of a sketch lie, and the shapes of its curves: by columns, so that a look-up costs little.
+// Where the points of a sketch lie, and the shapes of its curves: from an image's records, or by columns of a sketch's points.
+pub mod positions;
+
 use geom::Vec2;
 use shape::Shape;
 use sketch::CurveKind;
@@ -16,6 +18,12 @@ ghost use Rattle.sketch_geometry.specs.Columns.{position, PointsFilled, 
 pub enum Outline {
     Freeform,
     Analytic(Shape),
+}
+
+// A point that has moved, by its id, and where to; an image still has it where it was.
+pub enum Moved {
+    Nothing,
+    To(Id, Vec2),
 }
 
 // Ids and coordinates of the first n points; `near` gets guesses of their places.

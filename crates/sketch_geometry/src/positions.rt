@@ -1,0 +1,86 @@
+// Where the points of an image lie, and the shapes of its curves, straight from its records.
+use crate::Moved;
+use crate::Outline;
+use geom::Vec2;
+use image::POINT_SIZE;
+use rows::point_at;
+use rows::point_place;
+use shape::Shape;
+use sketch::CurveKind;
+use sketch::Id;
+ghost use mathlib.Core.Path.{_≡_};
+ghost use Rattle.geom.specs.Plane.{vec};
+ghost use Rattle.image.specs.Decode.{readPoint};
+ghost use Rattle.image.specs.Records.{pointSize};
+ghost use Rattle.rows.specs.Rows.{rowIn};
+ghost use Rattle.sketch_geometry.specs.Geometry.{nowhere};
+ghost use Rattle.sketch_geometry.specs.Positions.{PositionIn, PositionAfter, ShapeFrom};
+
+// No place: what is measured from it is a NaN.
+fn nowhere() -> Vec2
+    ensures { λ r. ⌜ r ≡ nowhere ⌝ }
+{
+    Vec2::new(0.0 / 0.0, 0.0 / 0.0)
+}
+
+// The point at a place.
+fn position_at(points: &[u8], k: usize) -> Vec2
+    ensures { λ r. ⌜ r ≡ vec (readPoint (rowIn pointSize (now (points .entry)) k) .x) (readPoint (rowIn pointSize (now (points .entry)) k) .y) ⌝ }
+{
+    let p = point_at(points, k);
+    Vec2::new(p.x, p.y)
+}
+
+// The point with an id; `near` guesses its place.
+pub fn position_of<'a>(id: Id, points: &'a [u8], near: &'a [u16]) -> Vec2
+    ensures { λ r. ⌜ PositionIn (now (points .entry)) id r ⌝ }
+{
+    let k = point_place(points, near, id);
+    if k < points.len() / POINT_SIZE {
+        return position_at(points, k);
+    }
+    nowhere()
+}
+
+// The point with an id, once a point has moved.
+pub fn position_after<'a>(id: Id, points: &'a [u8], near: &'a [u16], moved: Moved) -> Vec2
+    ensures { λ r. ⌜ PositionAfter (now (points .entry)) moved id r ⌝ }
+{
+    let k = point_place(points, near, id);
+    if points.len() / POINT_SIZE <= k {
+        return nowhere();
+    }
+    match moved {
+        Moved::Nothing => position_at(points, k),
+        Moved::To(i, v) => {
+            if i == id {
+                return v;
+            }
+            position_at(points, k)
+        }
+    }
+}
+
+// The shape of a curve by its kind.
+pub fn shape_of<'a>(kind: CurveKind, points: &'a [u8], near: &'a [u16]) -> Outline
+    ensures { λ r. ⌜ ShapeFrom (now (points .entry)) kind r ⌝ }
+{
+    match kind {
+        CurveKind::Line(a, b) => {
+            let p = position_of(a, points, near);
+            let q = position_of(b, points, near);
+            Outline::Analytic(Shape::from_line(p, q))
+        }
+        CurveKind::Arc(c, a, b) => {
+            let o = position_of(c, points, near);
+            let p = position_of(a, points, near);
+            let q = position_of(b, points, near);
+            Outline::Analytic(Shape::from_arc(o, p, q))
+        }
+        CurveKind::Circle(c, r) => {
+            let o = position_of(c, points, near);
+            Outline::Analytic(Shape::from_circle(o, r))
+        }
+        _ => Outline::Freeform,
+    }
+}
