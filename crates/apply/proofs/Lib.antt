@@ -7,3 +7,5 @@ pub mod Images
 pub mod Planned
 pub mod Lifted
 pub mod ListDefinition
+pub mod MovedRows
+pub mod MoveDefinition

@@ -43,7 +43,7 @@ module _ {A : Type 0} (enc : A → List ℕ) (read : List ℕ → A) where
   abbrev pub Back : List (List ℕ) → Type 0
   Back rows = Each (λ r. enc (read r) ≡ r) rows
 
-  map-back : (rows : List (List ℕ)) → Back rows → map enc (map read rows) ≡ rows
+  pub map-back : (rows : List (List ℕ)) → Back rows → map enc (map read rows) ≡ rows
   map-back [] w = refl
   map-back (r ∷ rows) w = rw (w .0, map-back rows (w .1))
 
@@ -101,7 +101,7 @@ row-bytes-map : {A : Type 0} (enc : A → List ℕ) (l : List A) → rowBytes (m
 row-bytes-map enc [] = refl
 row-bytes-map enc (a ∷ l) = ap (λ (x : List ℕ). enc a ++ x) (row-bytes-map enc l)
 
-encode-rows : (d : Drawing) → rowsImage (d .next) (map encodePoint (d .points)) (map encodeCurve (d .curves)) (map encodeRelation (d .relations)) ≡ encode d
+pub encode-rows : (d : Drawing) → rowsImage (d .next) (map encodePoint (d .points)) (map encodeCurve (d .curves)) (map encodeRelation (d .relations)) ≡ encode d
 unfolding rowsImage encode
 encode-rows d =
     rw (length-map (d .points) encodePoint, length-map (d .curves) encodeCurve, length-map (d .relations) encodeRelation, row-bytes-map encodePoint (d .points), row-bytes-map encodeCurve (d .curves), row-bytes-map encodeRelation (d .relations))
@@ -151,19 +151,19 @@ module _ (s : List ℕ) (e : imageFault s ≡ 0) (b : Bytes s) where
   head : Head s
   head = kept .head
 
-  points-back : Back encodePoint readPoint (rowsIn pointSize (pointTable s))
+  pub points-back : Back encodePoint readPoint (rowsIn pointSize (pointTable s))
   points-back =
       rw (point-rows-in s head)
       (backs encodePoint readPoint pointOf pointForm okPoint plainPoint pointSize point-back read-point-is (pointRows s)
       (rows-proper pointSize (pointCount s) s headerSize b (omega (arith, head .size))) (kept .points-pass) (plain-points s e))
 
-  curves-back : Back encodeCurve readCurve (rowsIn curveSize (curveTable s))
+  pub curves-back : Back encodeCurve readCurve (rowsIn curveSize (curveTable s))
   curves-back =
       rw (curve-rows-in s head)
       (backs encodeCurve readCurve curveOf curveForm okCurve plainCurve curveSize curve-back read-curve-is (curveRows s)
       (rows-proper curveSize (curveCount s) s (curvesFrom (pointCount s)) b (omega (arith, head .size))) (kept .curves-pass) (plain-curves s e))
 
-  relations-back : Back encodeRelation readRelation (rowsIn relationSize (relationTable s))
+  pub relations-back : Back encodeRelation readRelation (rowsIn relationSize (relationTable s))
   relations-back =
       rw (relation-rows-in s head)
       (backs encodeRelation readRelation relationOf relationForm okRelation plainRelation relationSize relation-back read-relation-is (relationRows s)

@@ -3,6 +3,7 @@ use mathlib.Core.Path.{_≡_, refl, sym, ap, _∙_}
 use mathlib.Core.Bool.{true}
 use mathlib.Core.List.{List, [], _∷_, _++_, map, append-nil, append-assoc}
 use Prim.Native.Nat.{ℕ, suc, _+_, _*_, _-_, _/_, _≤_, _<_}
+use native.Mathlib.Nat.{add-mul, one-mul, mul-le-mul-right}
 use native.Mathlib.Numerals.{add-one}
 use native.Mathlib.Omega.{arith}
 use lib.ListN.{length, take, drop, set, length-append, length-map, length-set, length-drop}
@@ -44,6 +45,40 @@ module _ (size : ℕ) (l : List ℕ) (at : ℕ) (rows : List (List ℕ)) (m : Li
 
 pub row-first : (size : ℕ) (l : List ℕ) (at : ℕ) (b m : List ℕ) → length b ≡ size → at + size ≤ length l → m ≡ overIfFits l at b → m ≡ over l at (rowBytes (b ∷ []))
 row-first size l at b m z h f = over-if l at b m (omega arith) f ∙ ap (over l at) (sym (append-nil b))
+
+-- ---- a table with one row rewritten
+
+module _ (size k : ℕ) (t : List ℕ) (below : k < length t / size) (l : List ℕ) (at : ℕ) (m : List ℕ) (a : ℕ)
+    (is : m ≡ over l at (rowBytes (take (k - 0) (drop 0 (rowsIn size t))))) (end : a ≡ at + (k - 0) * size) where
+  abbrev all-rows : List (List ℕ)
+  all-rows = rowsIn size t
+
+  abbrev zero-off : k - 0 ≡ k
+  zero-off = omega arith
+
+  first-long : length (take k all-rows) ≡ k
+  first-long = length-take-le k all-rows (omega (arith, length-rows-in size t))
+
+  first-sized : Long size (take k all-rows)
+  first-sized = each-take (λ r. length r ≡ size) k all-rows (rows-long size t)
+
+  first-put : m ≡ over l at (rowBytes (take k all-rows))
+  first-put = is ∙ ap (λ x. over l at (rowBytes (take x all-rows))) zero-off
+
+  first-end : a ≡ at + length (take k all-rows) * size
+  first-end = end ∙ ap (λ x. at + x * size) (zero-off ∙ sym first-long)
+
+  pub row-set : (b n o : List ℕ) → at + length t / size * size ≤ length l → length b ≡ size → n ≡ overIfFits m a b → o ≡ over n (a + size) (rowBytes (take (length t / size - (k + 1)) (drop (k + 1) all-rows))) → o ≡ over l at (rowBytes (set all-rows k b))
+  row-set b n o fits long g f =
+      let h : (k + 1) * size ≤ length t / size * size = mul-le-mul-right size (omega arith) in
+      let e : (k + 1) * size ≡ k * size + size = rw (add-mul, one-mul) in
+      let q : length (take k all-rows) * size ≡ k * size = ap (λ x. x * size) first-long in
+      let one = row-then size l at (take k all-rows) m a first-sized first-put first-end b n long (omega arith) g in
+      let z : length (take k all-rows ++ (b ∷ [])) * size ≡ k * size + size = ap (λ x. x * size) (length-append (take k all-rows) (b ∷ []) ∙ ap (λ x. x + 1) first-long) ∙ e in
+      let rest : take (length t / size - (k + 1)) (drop (k + 1) all-rows) ≡ drop (k + 1) all-rows = take-all (length t / size - (k + 1)) (drop (k + 1) all-rows) (omega (arith, length-drop (k + 1) all-rows, length-rows-in size t)) in
+      let j : a + size ≡ at + length (take k all-rows ++ (b ∷ [])) * size = omega (arith, z, q, first-end) in
+      rows-then size l at (take k all-rows ++ (b ∷ [])) n (a + size) (each-append (λ r. length r ≡ size) (take k all-rows) (b ∷ []) first-sized (long, tt)) one j (drop (k + 1) all-rows) o (omega arith) (f ∙ ap (λ x. over n (a + size) (rowBytes x)) rest)
+      ∙ ap (λ x. over l at (rowBytes x)) (append-assoc (take k all-rows) (b ∷ []) (drop (k + 1) all-rows) ∙ ap (λ x. take k all-rows ++ (b ∷ drop x all-rows)) (add-one k) ∙ sym (set-split all-rows k b (omega (arith, length-rows-in size t))))
 
 -- ---- what a change adds
 
@@ -155,23 +190,14 @@ module _ (k : ℕ) (t : List ℕ) (below : k < length t / curveSize) where
       abbrev set-rows : List (List ℕ)
       set-rows = set rows k (encodeCurve (h .kept))
 
-      set-is : (take k rows ++ (encodeCurve (h .kept) ∷ [])) ++ drop (k + 1) rows ≡ set-rows
-      set-is = append-assoc (take k rows) (encodeCurve (h .kept) ∷ []) (drop (k + 1) rows) ∙ ap (λ x. take k rows ++ (encodeCurve (h .kept) ∷ drop x rows)) (add-one k) ∙ sym (set-split rows k (encodeCurve (h .kept)) (omega (arith, length-rows-in curveSize t)))
-
       set-long : length set-rows ≡ length t / curveSize
       set-long = length-set rows k (encodeCurve (h .kept)) ∙ length-rows-in curveSize t
 
       set-sized : Long curveSize set-rows
       set-sized = each-set (λ r. length r ≡ curveSize) k rows (encodeCurve (h .kept)) size (rows-long curveSize t)
 
-      row-long : length (take k rows ++ (encodeCurve (h .kept) ∷ [])) ≡ k + 1
-      row-long = length-append (take k rows) (encodeCurve (h .kept) ∷ []) ∙ omega (arith, front-long)
-
       set-put : o ≡ over l at (rowBytes set-rows)
-      set-put =
-          let one = row-then curveSize l at (take k rows) m a front-sized front-put front-end (encodeCurve (h .kept)) n size (omega (arith, front-long, length-after h)) g in
-          rows-then curveSize l at (take k rows ++ (encodeCurve (h .kept) ∷ [])) n (a + curveSize) (each-append (λ r. length r ≡ curveSize) (take k rows) (encodeCurve (h .kept) ∷ []) front-sized (size, tt)) one (omega (arith, row-long, end)) (drop (k + 1) rows) o (omega arith) (f ∙ ap (λ x. over n (a + curveSize) (rowBytes x)) back)
-          ∙ ap (λ x. over l at (rowBytes x)) set-is
+      set-put = row-set curveSize k t below l at m a is end (encodeCurve (h .kept)) n o (omega (arith, length-after h)) size g f
 
       set-end : b ≡ at + length set-rows * curveSize
       set-end = omega (arith, set-long, end, e)

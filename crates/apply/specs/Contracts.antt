@@ -3,12 +3,13 @@ use Prim.Native.Nat.{ℕ, suc, _+_, _≤_}
 use mathlib.Core.Path.{_≡_}
 use mathlib.Core.Bool.{Bool, _||_}
 use mathlib.Core.List.{List, [], _∷_, _++_, map}
-use lib.ListN.{length, take, drop, set}
+use lib.ListN.{length, take, drop, set, getD}
 use lib.Dec.{eqb}
 use Rattle.big_endian.specs.Fields.{field}
 use Rattle.sketch.specs.Lists.{ite, keep, concatMap}
 use Rattle.sketch.specs.Lookup.{among}
 use Rattle.sketch.specs.Drawing.{Drawing, idSize, limits}
+use Rattle.sketch.specs.Blanks.{noPoint}
 use Rattle.image.specs.Records.{pointSize, curveSize, relationSize, firstIdAt, secondIdAt}
 use Rattle.image.specs.Image.{rowId}
 use Rattle.image.specs.Decode.{readRelation}
@@ -20,6 +21,10 @@ use Rattle.edit_plan.specs.declared.Removed.{Removed}
 use Rattle.edit_plan.specs.declared.Change.{Change}
 use Rattle.edit_plan.specs.Steps.{nothing}
 use Rattle.edit_plan.specs.Changes.{isWhole, pointsNew, curvesNew, relationsNew, staying, leftOf}
+use Rattle.geom.specs.declared.Vec2.{Vec2}
+use Rattle.sketch.specs.declared.Point.{Point}
+use Rattle.edit_plan.specs.declared.Pin.{Pin}
+use Rattle.apply.specs.Moved.{pinnedBy, movedTo, moveRefusal}
 use Rattle.apply.specs.Applied.{planExtent, planOrphans, planChange, planRefusal, removedBy, Answered}
 use Rattle.apply.specs.declared.Applied.{Applied}
 use Rattle.apply.specs.declared.TableCounts.{TableCounts}
@@ -106,3 +111,19 @@ abbrev pub RowsApplied : ℕ → List ℕ → List ℕ → List ℕ → ℕ → 
 RowsApplied next points curves relations k plan before after r =
     let d = drawingRead next points curves relations in
     Answered (planRefusal d k plan) (imageAfter next points curves relations k plan) (removedBy d k plan) before after r
+
+-- ---- a point moved
+
+-- tables with the point at place k rewritten, and the relation that its pin adds
+unfoldable pub pointsWith : ℕ → Point → List ℕ → List (List ℕ)
+pointsWith k p points = set (rowsIn pointSize points) k (encodePoint p)
+
+unfoldable pub relationsWith : Pin → ℕ → List ℕ → List (List ℕ)
+relationsWith w p relations = rowsIn relationSize relations ++ map encodeRelation (pinnedBy w p)
+
+abbrev pub imageMoved : ℕ → List ℕ → List ℕ → List ℕ → ℕ → Point → Pin → List ℕ
+imageMoved next points curves relations k p w = rowsImage next (pointsWith k p points) (rowsIn curveSize curves) (relationsWith w (p .id) relations)
+
+abbrev pub RowsMoved : ℕ → List ℕ → List ℕ → List ℕ → ℕ → Vec2 → Pin → List ℕ → List ℕ → Applied → Type 0
+RowsMoved next points curves relations k v w before after r =
+    Answered (moveRefusal (pointsIn points) (relationsIn relations) k v w) (imageMoved next points curves relations k (movedTo v (getD (pointsIn points) k noPoint)) w) nothing before after r

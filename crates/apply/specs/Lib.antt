@@ -1,2 +1,3 @@
 pub mod Applied
+pub mod Moved
 pub mod Contracts

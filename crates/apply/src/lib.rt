@@ -3,6 +3,7 @@
 mod changed;
 mod curves;
 mod image_plan;
+mod moved;
 mod points;
 mod refusals;
 mod relations;
@@ -12,6 +13,9 @@ mod without;
 
 use edit_plan::Removed;
 pub use image_plan::apply_plan;
+pub use moved::apply_move;
+pub use moved::count_pinned;
+pub use moved::move_refusal;
 
 // What applying a plan to an image answers: the number of a refusal, or 0 with the report and the size of the new image.
 pub struct Applied {
