@@ -5,3 +5,7 @@ pub mod Filled
 pub mod Failing
 pub mod Cases
 pub mod Verdicts
+pub mod RowData
+pub mod Named
+pub mod RowSearch
+pub mod Unmoved

@@ -3,3 +3,5 @@ pub mod Met
 pub mod Columns
 pub mod Filled
 pub mod Answer
+pub mod Moves
+pub mod ImageContracts

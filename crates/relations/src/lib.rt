@@ -1,5 +1,7 @@
-// Which relations of a sketch are met, as its points and curves stand.
+// Which relations of a sketch are met, as its points and curves stand, and which of an image, also once a point has moved.
 mod columns;
+mod curve_data;
+pub mod image_search;
 mod measures;
 mod reading;
 mod search;

@@ -45,7 +45,7 @@ module _ (i : ℕ) (v : Vec2) where
       go false h w = w h
 
   module _ (id : ℕ) (n : i ≡ id → ⊥) where
-    moved-other : (ps : List Point) → positionOf (map (moved i v) ps) id ≡ positionOf ps id
+    pub moved-other : (ps : List Point) → positionOf (map (moved i v) ps) id ≡ positionOf ps id
     unfolding positionOf
     moved-other [] = refl
     moved-other (p ∷ ps) = go (eqb id (p .id)) refl (moved-other ps)

@@ -1,0 +1,73 @@
+// What relations measure of a curve, straight from an image's records, once a point has moved.
+use crate::CurveData;
+use geom::Vec2;
+use rows::curve_at;
+use rows::curve_count;
+use rows::curve_place;
+use sketch::CurveKind;
+use sketch::Id;
+use sketch_geometry::Moved;
+use sketch_geometry::positions::position_after;
+ghost use mathlib.Core.Path.{_≡_};
+ghost use Rattle.relations.specs.ImageContracts.{KindData, DataOf};
+
+// A curve of which nothing is measured.
+fn unmeasured(kind: u8) -> CurveData
+    ensures { λ r. ⌜ r .kind ≡ kind ⌝ }
+{
+    CurveData {
+        number: 0.0,
+        a: Vec2::new(0.0, 0.0),
+        b: Vec2::new(0.0, 0.0),
+        kind,
+    }
+}
+
+// A curve by its kind.
+fn data_of_kind<'a>(kind: CurveKind, points: &'a [u8], near: &'a [u16], moved: Moved) -> CurveData
+    ensures { λ r. ⌜ KindData (now (points .entry)) moved kind r ⌝ }
+{
+    match kind {
+        CurveKind::Line(a, b) => CurveData {
+            number: 0.0,
+            a: position_after(a, points, near, moved),
+            b: position_after(b, points, near, moved),
+            kind: 1,
+        },
+        CurveKind::Arc(c, a, _) => CurveData {
+            number: 0.0,
+            a: position_after(c, points, near, moved),
+            b: position_after(a, points, near, moved),
+            kind: 2,
+        },
+        CurveKind::Circle(c, r) => {
+            let o = position_after(c, points, near, moved);
+            CurveData {
+                number: r,
+                a: o,
+                b: o,
+                kind: 3,
+            }
+        }
+        _ => unmeasured(4),
+    }
+}
+
+// The curve with an id, one of no kind where there is none; `near` guesses its place and its points'.
+pub(crate) fn curve_data<'a>(
+    id: Id,
+    points: &'a [u8],
+    curves: &'a [u8],
+    near: &'a [u16],
+    moved: Moved,
+) -> CurveData
+    ensures { λ r. ⌜ DataOf (now (points .entry)) (now (curves .entry)) moved id r ⌝ }
+{
+    let k = curve_place(curves, near, id);
+    if k < curve_count(curves) {
+        let c = curve_at(curves, k);
+        let kind = c.kind;
+        return data_of_kind(kind, points, near, moved);
+    }
+    unmeasured(0)
+}
