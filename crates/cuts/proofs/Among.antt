@@ -82,7 +82,7 @@ module _ (sh : Shape) (o : Cutter) (found : List Cut) (w v : Crossings) where
       e ∙ rw (take-all k stops l, ev, ew)
 
 -- ---- all
-among-append : (sh : Shape) (os ps : List Cutter) (found : List Cut) → cutsAmong sh (os ++ ps) found ≡ cutsAmong sh ps (cutsAmong sh os found)
+pub among-append : (sh : Shape) (os ps : List Cutter) (found : List Cut) → cutsAmong sh (os ++ ps) found ≡ cutsAmong sh ps (cutsAmong sh os found)
 unfolding cutsAmong
 among-append sh [] ps found = refl
 among-append sh (o ∷ os) ps found = among-append sh os ps (cutsBy sh o found)

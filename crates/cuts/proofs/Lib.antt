@@ -6,3 +6,4 @@ pub mod Among
 pub mod Sorting
 pub mod Passes
 pub mod Sides
+pub mod Cutters

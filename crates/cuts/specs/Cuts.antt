@@ -2,6 +2,7 @@
 use Prim.Native.Nat.{ℕ}
 use mathlib.Core.Bool.{Bool, not, _&&_, _||_, cond}
 use mathlib.Core.List.{List, [], _∷_, _++_}
+use mathlib.Core.Option.{Option, some, none}
 use lib.Ieee.{Float, lt}
 use Rattle.float.specs.Numbers.{0f, 1e-6}
 use Rattle.geom.specs.Plane.{distance}
@@ -10,6 +11,10 @@ use Rattle.shape.specs.declared.Shape.{Shape}
 use Rattle.shape.specs.declared.Shape.the-variants.{Line, Round}
 use Rattle.shape.specs.Measures.{isFull, param, point}
 use Rattle.shape.specs.Intersections.{points, crossings}
+use Rattle.sketch.specs.declared.Point.{Point}
+use Rattle.sketch.specs.declared.Curve.{Curve}
+use Rattle.sketch.specs.Lists.{concatMap}
+use Rattle.sketch_geometry.specs.Geometry.{shapeOf}
 use Rattle.cuts.specs.declared.Cutter.{Cutter}
 use Rattle.cuts.specs.declared.Cut.{Cut}
 use Rattle.cuts.specs.Lists.{any}
@@ -55,3 +60,13 @@ cutsAmong sh (o ∷ os) found =
 -- the cuts of all others, in their order
 abbrev pub cutPoints : Shape → List Cutter → List Cut
 cutPoints sh os = cutsAmong sh os []
+
+-- ---- what may cut
+
+-- a freeform curve doesn't
+unfoldable pub cutterOf : Curve → Option Shape → List Cutter
+cutterOf c none = []
+cutterOf c (some sh) = record { id = c .id; infinite = c .infinite; shape = sh } ∷ []
+
+abbrev pub cuttersOf : List Point → List Curve → List Cutter
+cuttersOf ps cs = concatMap (λ c. cutterOf c (shapeOf ps (c .kind))) cs

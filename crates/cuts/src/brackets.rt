@@ -32,7 +32,7 @@ fn cut_at<'a>(i: usize, ts: &'a [f64], px: &'a [f64], py: &'a [f64], who: &'a [I
 }
 
 // On a curve with ends: the last before tq, and the first after it.
-fn beside<'a>(
+pub(crate) fn beside<'a>(
     sh: Shape,
     tq: f64,
     n: usize,
@@ -77,7 +77,7 @@ fn or_of_all(side: Side, last: bool, tq: f64, ts: &[f64], n: usize) -> usize
 }
 
 // On a full curve: the two around tq, going round.
-fn around<'a>(
+pub(crate) fn around<'a>(
     sh: Shape,
     tq: f64,
     n: usize,

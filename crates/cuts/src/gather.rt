@@ -127,7 +127,7 @@ fn candidate_at(c: Crossings, d: Crossings, k: usize) -> Vec2
 
 // The cuts of one other curve: where it crosses, then where its ends touch. All these points go through
 // one call, which is then compiled in place: passing shapes on to calls costs more than the tests do.
-fn cuts_by<'a>(
+pub(crate) fn cuts_by<'a>(
     sh: Shape,
     d: Direction,
     slack: f64,

@@ -6,6 +6,7 @@ use sketch::Id;
 mod bounded;
 mod brackets;
 mod gather;
+pub mod image_cuts;
 mod nearest;
 
 pub use brackets::bracket;

@@ -16,14 +16,14 @@ use Rattle.relations.specs.Met.{met, on}
 use Rattle.support.specs.Hits.{guardHits, overlaps, onPiece, shapeHits, endlessAlong}
 use Rattle.cuts.specs.Lists.{any, firstOr, lastOr}
 use Rattle.cuts.specs.Bounded.{lengthOrRadius, slack, inRange, onBounded}
-use Rattle.cuts.specs.Cuts.{endPoints, foundNear, cutsHere, cutStep, cutsOn, cutsBy, cutsAmong}
+use Rattle.cuts.specs.Cuts.{endPoints, foundNear, cutsHere, cutStep, cutsOn, cutsBy, cutsAmong, cutterOf}
 use Rattle.cuts.specs.Bracket.{within, interior, insertCut, sortCuts, inOrder, lastOne, firstOne, beside, around, bracket}
 use Rattle.edit_plan.specs.Outcome.{guard}
 use Rattle.edit_plan.specs.Tables.{curvesOf}
 use Rattle.edit_plan.specs.Steps.{endsOf, endsAt, measured, releaseRelation, piecesOf, addPieces, pin, swapKinds, reported}
 use Rattle.edit_plan.specs.ApplyPlan.{removePiece, checkMet, moveEnd, applyPlanTo, applyPlanAt}
 use Rattle.edit_plan.specs.Changes.{isCircle}
-use Rattle.planning.specs.Planning.{guardPlan, cutterOf, paramOfPick, nearEnd, pinTo, between, firstGoes, trimAt, trimPlan, splitFull, atEnd, splitPlan, isFullArc, noFreeform, trimCurve, splitCurve}
+use Rattle.planning.specs.Planning.{guardPlan, paramOfPick, nearEnd, pinTo, between, firstGoes, trimAt, trimPlan, splitFull, atEnd, splitPlan, isFullArc, noFreeform, trimCurve, splitCurve}
 use Rattle.hit_search.specs.NearestHit.{gapOf, boundary, curveHits, better, bestOf, continueWith, nearestHit}
 use Rattle.extend.specs.Extend.{planMove, isFixed, extendEnd, extendCurve}
 use Rattle.extend.specs.ExtendAnswer.{applyPlanned}

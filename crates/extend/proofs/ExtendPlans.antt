@@ -72,7 +72,7 @@ module _ (d : Drawing) (atB : Bool) (best : Nearest) where
 
 -- ---- the end that moves
 
-fixed-at : (ps : List Point) (k : ℕ) → Ascends (pointIds ps) → k < length ps → isFixed ps (getD ps k noPoint .id) ≡ getD ps k noPoint .fixed
+pub fixed-at : (ps : List Point) (k : ℕ) → Ascends (pointIds ps) → k < length ps → isFixed ps (getD ps k noPoint .id) ≡ getD ps k noPoint .fixed
 unfolding isFixed
 fixed-at [] k h q = absurd (omega arith)
 fixed-at (p ∷ ps) zero h q = rw (eq-eqb (p .id) (p .id) refl)

@@ -5,3 +5,4 @@ pub mod Shifts
 pub mod Refusing
 pub mod ExtendPlans
 pub mod Extends
+pub mod ImageExtend

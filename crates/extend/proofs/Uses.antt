@@ -9,9 +9,12 @@ use Rattle.sketch.specs.declared.Curve.{Curve}
 use Rattle.sketch.specs.Lookup.{among}
 use Rattle.sketch.specs.Drawing.{usesOf}
 use Rattle.sketch.specs.Blanks.{noCurve}
+use Rattle.image.specs.Records.{curveSize}
+use Rattle.image.specs.Decode.{readCurve}
+use Rattle.rows.specs.Rows.{rowIn, curvesIn}
 use Rattle.edit_plan.specs.Tables.{uses, others}
 use Rattle.edit_plan.proofs.Leaves.{among-append}
-use Rattle.hit_search.proofs.OtherCurves.{curves-end, others-past, others-on}
+use Rattle.hit_search.proofs.OtherCurves.{curves-end, others-past, others-on, curve-row, all-curves}
 
 -- what is used is used from place i on
 pub record UsedFrom (cs : List Curve) (n id p i : ℕ) : Type 0 where
@@ -45,3 +48,32 @@ module _ {cs : List Curve} {n id p i : ℕ} (w : UsedFrom cs n id p i) where
 
       pub used-on : b ≡ false → UsedFrom cs n id p (i + 1)
       used-on t = record { within = omega arith; enough = w .enough; same = more ∙ ap (λ x. x || among p rest) t }
+
+-- ---- the curves of an image's table, whatever its bytes
+
+module _ (curves : List ℕ) {n id p i : ℕ} (w : UsedFrom (curvesIn curves) n id p i) (k : n ≡ length (curvesIn curves)) where
+  all : {b : Bool} → b ≡ among p (uses (others id (take n (curvesIn curves)))) → b ≡ among p (uses (others id (curvesIn curves)))
+  all e = e ∙ ap (λ (l : List Curve). among p (uses (others id l))) (all-curves curves n k)
+
+  pub rows-end : n ≤ i → false ≡ among p (uses (others id (curvesIn curves)))
+  rows-end h = all (used-end w h)
+
+  module _ (h : i < n) {c : Curve} (r : c ≡ readCurve (rowIn curveSize curves i)) where
+    is : c ≡ getD (curvesIn curves) i noCurve
+    is = r ∙ curve-row curves i (omega arith)
+
+    pub row-past : id ≡ c .id → UsedFrom (curvesIn curves) n id p (i + 1)
+    row-past e = used-past w h (e ∙ ap (λ (x : Curve). x .id) is)
+
+    module _ (e : id ≡ c .id → ⊥) {b : Bool} (f : b ≡ among p (usesOf (c .kind) (c .slots))) where
+      other : id ≡ getD (curvesIn curves) i noCurve .id → ⊥
+      other q = e (q ∙ sym (ap (λ (x : Curve). x .id) is))
+
+      its-uses : b ≡ among p (usesOf (getD (curvesIn curves) i noCurve .kind) (getD (curvesIn curves) i noCurve .slots))
+      its-uses = f ∙ ap (λ (x : Curve). among p (usesOf (x .kind) (x .slots))) is
+
+      pub row-here : b ≡ true → true ≡ among p (uses (others id (curvesIn curves)))
+      row-here t = all (used-here w h other its-uses t)
+
+      pub row-on : b ≡ false → UsedFrom (curvesIn curves) n id p (i + 1)
+      row-on t = used-on w h other its-uses t

@@ -2,3 +2,4 @@
 pub mod Extend
 pub mod ExtendAnswer
 pub mod ExtendContracts
+pub mod ImageExtendContracts

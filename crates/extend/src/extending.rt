@@ -56,7 +56,7 @@ fn plan_move<'a>(
 }
 
 // The end of a line that moves: b or (false) a.
-fn moving_end(atb: bool, i: Id, j: Id) -> Id
+pub(crate) fn moving_end(atb: bool, i: Id, j: Id) -> Id
     ensures { λ r. ⌜ r ≡ cond atb j i ⌝ }
 {
     if atb { j } else { i }

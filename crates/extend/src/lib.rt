@@ -1,5 +1,6 @@
 // The extend of a line: an end moves on to the nearest curve that it meets, and is pinned there.
 mod extending;
+pub mod image_extend;
 mod moving;
 mod point_uses;
 

@@ -2,3 +2,4 @@
 pub mod OtherCurves
 pub mod NearestHit
 pub mod CurveHits
+pub mod ImageSearch

@@ -2,3 +2,5 @@
 pub mod NearestHit
 pub mod Columns
 pub mod Contracts
+pub mod ImageSearch
+pub mod ImageContracts

@@ -19,7 +19,7 @@ ghost use Rattle.hit_search.specs.NearestHit as E;
 ghost use Rattle.hit_search.specs.Contracts.{ControlsOf, CurveHitsAre, Fits};
 
 // An infinite line reaches far beyond its points, from the place next to the pick.
-fn boundary(infinite: bool, sh: Shape, near: Vec2) -> Shape
+pub(crate) fn boundary(infinite: bool, sh: Shape, near: Vec2) -> Shape
     ensures { λ r. ⌜ r ≡ E.boundary infinite sh near ⌝ }
 {
     match sh {

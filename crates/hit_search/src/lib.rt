@@ -1,5 +1,7 @@
 // The nearest hit of a line beyond one of its ends, among its hits with other curves.
 mod curve_hits;
+mod image_hits;
+pub mod image_search;
 mod search;
 
 use geom::Vec2;

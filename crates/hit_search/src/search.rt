@@ -22,7 +22,7 @@ ghost use Rattle.hit_search.specs.Columns.{support, bestIn, FindsNearest
 ghost use Rattle.hit_search.specs.Contracts.{SearchesCurve};
 
 // The budget of one edit.
-const BUDGET: usize = 1000000;
+pub(crate) const BUDGET: usize = 1000000;
 
 // How far beyond the end that moves, b or (false) a, a place on the line lies, whose length is l.
 fn gap_of(a: Vec2, b: Vec2, atb: bool, l: f64, q: Vec2) -> f64
@@ -92,7 +92,7 @@ fn consider(a: Vec2, b: Vec2, atb: bool, l: f64, q: Vec2, by: Id, best: Nearest)
 }
 
 // The first n hits, of the curve `by`.
-fn best_of<'a>(
+pub(crate) fn best_of<'a>(
     a: Vec2,
     b: Vec2,
     atb: bool,

@@ -14,7 +14,7 @@ use Rattle.sketch.specs.declared.CurveKind.the-variants.{Line, Arc, Circle, Bez
 use Rattle.sketch.specs.Drawing.{Drawing}
 use Rattle.sketch_geometry.specs.Geometry.{positionOf, shapeOf}
 use Rattle.cuts.specs.declared.Cutter.{Cutter}
-use Rattle.cuts.specs.Cuts.{cutPoints}
+use Rattle.cuts.specs.Cuts.{cutPoints, cuttersOf}
 use Rattle.cuts.specs.Bracket.{bracket}
 use Rattle.edit_plan.specs.declared.Plan.{Plan}
 use Rattle.edit_plan.specs.declared.Plan.the-variants as P
@@ -22,7 +22,7 @@ use Rattle.edit_plan.specs.Tables.{others}
 use Rattle.edit_plan.specs.Changes.{isCircle}
 use Rattle.planning.specs.declared.PlanResult.{PlanResult}
 use Rattle.planning.specs.declared.PlanResult.the-variants.{Refused, Accepted}
-use Rattle.planning.specs.Planning.{guardPlan, cuttersOf, paramOfPick, trimPlan, splitFull, atEnd, splitPlan, isFullArc, noFreeform, trimCurve, splitCurve, trimOrSplit}
+use Rattle.planning.specs.Planning.{guardPlan, paramOfPick, trimPlan, splitFull, atEnd, splitPlan, isFullArc, noFreeform, trimCurve, splitCurve, trimOrSplit}
 use Rattle.planning.proofs.Suits.{circle-full}
 
 module _ (d : Drawing) (p : Vec2) (c : Curve) where

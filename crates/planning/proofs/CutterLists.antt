@@ -1,8 +1,8 @@
 -- The walks over the curves: one by its id, and all that may cut. Assumes nothing.
 use mathlib.Core.Path.{_≡_, refl, sym, ap, _∙_}
 use mathlib.Core.Bool.{Bool, true, false, not, _&&_}
-use mathlib.Core.List.{List, [], _∷_, _++_, append-nil}
-use mathlib.Core.Option.{Option, some, none}
+use mathlib.Core.List.{List, [], _∷_, _++_}
+use mathlib.Core.Option.{some, none}
 use Prim.Native.Nat.{ℕ, zero, suc, _+_, _≤_, _<_}
 use native.Mathlib.Omega.{arith}
 use lib.ListN.{length, take, drop, getD, set, length-take}
@@ -15,17 +15,16 @@ use Rattle.sketch.specs.declared.Point.{Point}
 use Rattle.sketch.specs.declared.Curve.{Curve}
 use Rattle.sketch.specs.declared.CurveKind.{CurveKind}
 use Rattle.sketch.specs.declared.CurveKind.the-variants.{Line, Arc, Circle, Bezier, Conic}
-use Rattle.sketch.specs.Lists.{ite, every}
+use Rattle.sketch.specs.Lists.{every}
 use Rattle.sketch.specs.Blanks.{noCurve}
 use Rattle.sketch.specs.Drawing.{Drawing, curveIn}
 use Rattle.sketch.specs.Valid.{sortOf}
 use Rattle.sketch_geometry.specs.Geometry.{shapeOf}
 use Rattle.cuts.specs.declared.Cutter.{Cutter}
+use Rattle.cuts.specs.Cuts.{cuttersOf}
+use Rattle.cuts.proofs.Cutters.{target-no-cutter, freeform-no-cutter, one-cutter}
 use Rattle.edit_plan.specs.Tables.{others}
-use Rattle.planning.specs.Planning.{cutterOf, cuttersOf, noFreeform}
-use Rattle.sketch_geometry.specs.declared.Outline.{Outline}
-use Rattle.sketch_geometry.specs.declared.Outline.the-variants.{Freeform, Analytic as Outlined}
-use Rattle.sketch_geometry.specs.Columns.{shapeOfOutline}
+use Rattle.planning.specs.Planning.{noFreeform}
 use Rattle.planning.specs.Columns.{CurveIndex, ColumnsOf}
 use Rattle.planning.specs.Contracts.{CuttersAre}
 
@@ -60,7 +59,7 @@ module _ {cs : List Curve} {n id i : ℕ} (w : Seeking cs n id i) (h : i < n) wh
       let z : i + 1 ≡ suc i = omega arith in
       record { within = omega arith; enough = w .enough; same = w .same ∙ rw (head, ne-eqb id (getD cs i noCurve .id) (λ u. e (sym u)), z) }
 
-drop-past : {A : Type 0} (l : List A) (i : ℕ) → length l ≤ i → drop i l ≡ []
+pub drop-past : {A : Type 0} (l : List A) (i : ℕ) → length l ≤ i → drop i l ≡ []
 drop-past [] zero h = refl
 drop-past [] (suc i) h = refl
 drop-past (a ∷ l) zero h = absurd (omega arith)
@@ -77,22 +76,6 @@ index-end {cs} {n} {id} {i} w h =
 
 -- ---- all that may cut
 
-others-append : (id : ℕ) (xs ys : List Curve) → others id (xs ++ ys) ≡ others id xs ++ others id ys
-others-append id [] ys = refl
-others-append id (x ∷ xs) ys = go (not (eqb id (x .id))) (others-append id xs ys)
-  where
-    go : (b : Bool) → others id (xs ++ ys) ≡ others id xs ++ others id ys → ite b (x ∷ others id (xs ++ ys)) (others id (xs ++ ys)) ≡ ite b (x ∷ others id xs) (others id xs) ++ others id ys
-    go true h = ap (λ t. x ∷ t) h
-    go false h = h
-
-append-assoc′ : {A : Type 0} (xs ys zs : List A) → (xs ++ ys) ++ zs ≡ xs ++ (ys ++ zs)
-append-assoc′ [] ys zs = refl
-append-assoc′ (x ∷ xs) ys zs = ap (λ t. x ∷ t) (append-assoc′ xs ys zs)
-
-shapes-append : (ps : List Point) (xs ys : List Curve) → cuttersOf ps (xs ++ ys) ≡ cuttersOf ps xs ++ cuttersOf ps ys
-shapes-append ps [] ys = refl
-shapes-append ps (x ∷ xs) ys = ap (λ t. cutterOf x (shapeOf ps (x .kind)) ++ t) (shapes-append ps xs ys) ∙ sym (append-assoc′ (cutterOf x (shapeOf ps (x .kind))) (cuttersOf ps xs) (cuttersOf ps ys))
-
 every-append-one : {A : Type 0} (f : A → Bool) (xs : List A) (a : A) → every f (xs ++ (a ∷ [])) ≡ (every f xs && f a)
 every-append-one f [] a = go (f a)
   where
@@ -105,7 +88,7 @@ every-append-one f (x ∷ xs) a = go (f x) (every-append-one f xs a)
     go true h = h
     go false h = refl
 
-abbrev plain : Curve → Bool
+abbrev pub plain : Curve → Bool
 plain c = not (eqb (sortOf (c .kind)) 3)
 
 -- what was gathered of the first i curves
@@ -141,22 +124,14 @@ module _ {ps : List Point} {cs : List Curve} {id i : ℕ} {list : List Cutter} {
   next : take (i + 1) cs ≡ take i cs ++ (c ∷ [])
   next = let z : i + 1 ≡ suc i = omega arith in rw z (take-suc cs i noCurve h)
 
-  split : cuttersOf ps (others id (take (i + 1) cs)) ≡ cuttersOf ps (others id (take i cs)) ++ cuttersOf ps (others id (c ∷ []))
-  split = ap (λ l. cuttersOf ps (others id l)) next ∙ ap (cuttersOf ps) (others-append id (take i cs) (c ∷ [])) ∙ shapes-append ps (others id (take i cs)) (others id (c ∷ []))
-
   plains : every plain (take (i + 1) cs) ≡ (every plain (take i cs) && plain c)
   plains = ap (every plain) next ∙ every-append-one plain (take i cs) c
-
-  none-of : (b : Bool) → none ≡ shapeOf ps (c .kind) → cuttersOf ps (ite b (c ∷ []) []) ≡ []
-  unfolding cutterOf
-  none-of true e = rw (← e)
-  none-of false e = refl
 
   pub gather-freeform : none ≡ shapeOf ps (c .kind) → Gathering ps cs id (i + 1) list count true
   gather-freeform e =
       record {
         few = omega (arith, w .few);
-        front = w .front ∙ sym (split ∙ ap (λ l. cuttersOf ps (others id (take i cs)) ++ l) (none-of (not (eqb id (c .id))) e) ∙ append-nil _);
+        front = w .front ∙ sym (freeform-no-cutter ps cs id i h e);
         seen = sym (plains ∙ ap (λ b. every plain (take i cs) && b) (shapeless ps (c .kind) e) ∙ and-false (every plain (take i cs)));
       }
     where
@@ -176,12 +151,11 @@ module _ {ps : List Point} {cs : List Curve} {id i : ℕ} {list : List Cutter} {
     gather-target q =
         record {
           few = omega (arith, w .few);
-          front = w .front ∙ sym (split ∙ ap (λ b. cuttersOf ps (others id (take i cs)) ++ cuttersOf ps (ite (not b) (c ∷ []) [])) (eq-eqb id (c .id) (sym q)) ∙ append-nil _);
+          front = w .front ∙ sym (target-no-cutter ps cs id i h q);
           seen = still;
         }
 
     pub gather-other : (c .id ≡ id → ⊥) → count < length list → Gathering ps cs id (i + 1) (set list count (record { id = c .id; infinite = c .infinite; shape = sh })) (count + 1) freeform
-    unfolding cutterOf
     gather-other q l =
         let z : count + 1 ≡ suc count = omega arith in
         record {
@@ -189,16 +163,9 @@ module _ {ps : List Point} {cs : List Curve} {id i : ℕ} {list : List Cutter} {
           front =
               rw z (take-suc-set list count _ l)
               ∙ ap (λ t. t ++ (record { id = c .id; infinite = c .infinite; shape = sh } ∷ [])) (w .front)
-              ∙ sym (split ∙ ap (λ b. cuttersOf ps (others id (take i cs)) ++ cuttersOf ps (ite (not b) (c ∷ []) [])) (ne-eqb id (c .id) (λ u. q (sym u))) ∙ ap (λ o. cuttersOf ps (others id (take i cs)) ++ (cutterOf c o ++ [])) (sym e));
+              ∙ sym (one-cutter ps cs id i h sh e q);
           seen = still;
         }
-
--- the shape that a curve was found to have
-pub answered-none : {r : Outline} {x : Option Shape} → r ≡ Freeform → shapeOfOutline r ≡ x → none ≡ x
-answered-none e h = sym (ap shapeOfOutline e) ∙ h
-
-pub answered-some : {r : Outline} {x : Option Shape} {sh : Shape} → r ≡ Outlined sh → shapeOfOutline r ≡ x → some sh ≡ x
-answered-some e h = sym (ap shapeOfOutline e) ∙ h
 
 module _ {d : Drawing} {ids : List ℕ} {xs ys : List Float} {cs : List Curve} {n : ℕ} (o : ColumnsOf d ids xs ys cs n) {id i : ℕ} {list : List Cutter} {count : ℕ} {freeform : Bool} where
   pub gather-end : Gathering (d .points) cs id i list count freeform → i ≤ n → n ≤ i → CuttersAre d id (record { list = list; count = count; freeform = freeform })

@@ -4,3 +4,4 @@ pub mod Suits
 pub mod TrimSplitPlans
 pub mod CurvePlans
 pub mod CutterLists
+pub mod ImageCurves

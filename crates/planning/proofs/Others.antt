@@ -23,7 +23,7 @@ use Rattle.sketch_geometry.specs.Geometry.{shapeOf}
 use Rattle.cuts.specs.declared.Cutter.{Cutter}
 use Rattle.cuts.specs.declared.Cut.{Cut}
 use Rattle.cuts.specs.Lists.{firstOr, lastOr}
-use Rattle.cuts.specs.Cuts.{mkCut, cutsHere, cutStep, cutsOn, cutsBy, cutsAmong}
+use Rattle.cuts.specs.Cuts.{mkCut, cutsHere, cutStep, cutsOn, cutsBy, cutsAmong, cutterOf, cuttersOf}
 use Rattle.cuts.specs.Bracket.{insertCut, sortCuts, inOrder, interior, lastOne, firstOne, beside, around, bracket}
 use Rattle.edit_plan.specs.declared.Pin.the-variants.{On, At}
 use Rattle.edit_plan.specs.Tables.{uses, others}
@@ -32,7 +32,7 @@ use Rattle.edit_plan.specs.Suited.{PinHolds}
 use Rattle.chains.proofs.Pins.{ends-used}
 use Rattle.edit_plan.proofs.Every.{every-append, every-keep, or-right, among-left, among-right, among-same}
 use Rattle.edit_plan.proofs.Tables.{look-stays}
-use Rattle.planning.specs.Planning.{cutterOf, cuttersOf, cutsOf, nearEnd, pinTo}
+use Rattle.planning.specs.Planning.{cutsOf, nearEnd, pinTo}
 
 -- ---- cuts come from the curves that were asked
 

@@ -34,13 +34,13 @@ use Rattle.edit_plan.specs.declared.Pin.{Pin}
 use Rattle.edit_plan.specs.declared.Pin.the-variants.{On, At}
 use Rattle.edit_plan.specs.declared.Plan.the-variants as P
 use Rattle.planning.specs.declared.PlanResult.the-variants.{Refused, Accepted}
-use Rattle.planning.specs.Planning.{cuttersOf, paramOfPick, pinnedPointOf, trimAt, trimPlan, nearEnd, pinTo, between, firstGoes, splitFull, atEnd}
+use Rattle.planning.specs.Planning.{paramOfPick, pinnedPointOf, trimAt, trimPlan, nearEnd, pinTo, between, firstGoes, splitFull, atEnd}
 use Rattle.edit_plan.specs.declared.PinnedPoint.{PinnedPoint}
 use Rattle.edit_plan.specs.Tables.{others}
 use Rattle.edit_plan.specs.Steps.{endsOf, endsAt}
 use Rattle.edit_plan.specs.Changes.{isCircle}
 use Rattle.cuts.specs.declared.Cutter.{Cutter}
-use Rattle.cuts.specs.Cuts.{cutPoints}
+use Rattle.cuts.specs.Cuts.{cutPoints, cuttersOf}
 use Rattle.cuts.specs.Bracket.{bracket}
 use Rattle.sketch.specs.Drawing.{Drawing, curveIn}
 use lib.ListN.{take}
@@ -170,14 +170,26 @@ ends-none (Circle c r) h = refl
 ends-none (Bezier n) h = refl
 ends-none (Conic a p b rho) h = refl
 
+module _ (ps : List Point) (cs : List Curve) (q : Vec2) (by : ℕ) where
+  pub pin-of : {c : Curve} {e : Option (ℕ × ℕ)} {r : Pin} → curveIn cs by ≡ some c → endsOf (c .kind) ≡ e → r ≡ pinTo ps q by e → r ≡ pinTo ps q by (endsAt (curveIn cs by))
+  unfolding endsAt
+  pin-of f g h = h ∙ ap (pinTo ps q by) (sym (rw f g))
+
+  pub pin-of-none : curveIn cs by ≡ none → On by ≡ pinTo ps q by (endsAt (curveIn cs by))
+  unfolding endsAt pinTo
+  pin-of-none f = sym (rw f)
+
+  -- no end to be held at
+  pub pin-of-endless : {c : Curve} → curveIn cs by ≡ some c → endsOf (c .kind) ≡ none → On by ≡ pinTo ps q by (endsAt (curveIn cs by))
+  unfolding pinTo
+  pin-of-endless f g = pin-of f g refl
+
 module _ {d : Drawing} {ids : List ℕ} {xs ys : List Float} {cs : List Curve} {n : ℕ} (o : ColumnsOf d ids xs ys cs n) (q : Vec2) (by : ℕ) where
   pub pin-found : {c : Curve} {e : Option (ℕ × ℕ)} {r : Pin} → curveIn (take n cs) by ≡ some c → endsOf (c .kind) ≡ e → r ≡ pinTo (d .points) q by e → r ≡ pinTo (d .points) q by (endsAt (curveIn (d .curves) by))
-  unfolding endsAt
-  pin-found f g h = h ∙ ap (pinTo (d .points) q by) (sym (rw (o .curves, f) g))
+  pin-found f = pin-of (d .points) (d .curves) q by (ap (λ (l : List Curve). curveIn l by) (o .curves) ∙ f)
 
   pub pin-nowhere : curveIn (take n cs) by ≡ none → On by ≡ pinTo (d .points) q by (endsAt (curveIn (d .curves) by))
-  unfolding endsAt pinTo
-  pin-nowhere f = sym (rw (o .curves, f))
+  pin-nowhere f = pin-of-none (d .points) (d .curves) q by (ap (λ (l : List Curve). curveIn l by) (o .curves) ∙ f)
 
 -- no end to be held at
 pub pin-bare : (d : Drawing) (q : Vec2) (by : ℕ) → On by ≡ pinTo (d .points) q by none

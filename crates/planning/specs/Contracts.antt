@@ -14,6 +14,7 @@ use Rattle.sketch.specs.Drawing.{Drawing}
 use Rattle.sketch_geometry.specs.Columns.{PointColumns}
 use Rattle.sketch_geometry.specs.Geometry.{shapeOf}
 use Rattle.cuts.specs.declared.Cutter.{Cutter}
+use Rattle.cuts.specs.Cuts.{cuttersOf}
 use Rattle.cuts.specs.declared.Cut.{Cut}
 use Rattle.edit_plan.specs.declared.Pin.{Pin}
 use Rattle.edit_plan.specs.declared.PinnedPoint.{PinnedPoint}
@@ -21,7 +22,7 @@ use Rattle.edit_plan.specs.declared.Plan.{Plan}
 use Rattle.edit_plan.specs.Tables.{others}
 use Rattle.planning.specs.declared.PlanResult.{PlanResult}
 use Rattle.planning.specs.declared.Cutters.{Cutters}
-use Rattle.planning.specs.Planning.{cuttersOf, pinTo, pinnedPointOf, trimPlan, noFreeform, trimCurve, splitCurve, trimOrSplit}
+use Rattle.planning.specs.Planning.{pinTo, pinnedPointOf, trimPlan, noFreeform, trimCurve, splitCurve, trimOrSplit}
 use Rattle.planning.specs.Columns.{ColumnsOf}
 
 pub record CuttersAre (d : Drawing) (id : ℕ) (r : Cutters) : Type 0 where

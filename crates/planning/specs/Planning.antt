@@ -13,13 +13,12 @@ use Rattle.shape.specs.declared.Shape.{Shape}
 use Rattle.shape.specs.Measures.{range, isFull, param, point, project}
 use Rattle.sketch.specs.declared.Point.{Point}
 use Rattle.sketch.specs.declared.Curve.{Curve}
-use Rattle.sketch.specs.Lists.{ite, every, keep, concatMap}
+use Rattle.sketch.specs.Lists.{ite, every, keep}
 use Rattle.sketch.specs.Drawing.{Drawing, curveIn}
 use Rattle.sketch.specs.Valid.{sortOf}
 use Rattle.sketch_geometry.specs.Geometry.{positionOf, shapeOf}
-use Rattle.cuts.specs.declared.Cutter.{Cutter}
 use Rattle.cuts.specs.declared.Cut.{Cut}
-use Rattle.cuts.specs.Cuts.{cutPoints}
+use Rattle.cuts.specs.Cuts.{cutPoints, cuttersOf}
 use Rattle.cuts.specs.Bracket.{bracket}
 use Rattle.edit_plan.specs.declared.Pin.{Pin}
 use Rattle.edit_plan.specs.declared.Pin.the-variants.{On, At}
@@ -37,15 +36,7 @@ unfoldable pub guardPlan : Bool → ℕ → PlanResult → PlanResult
 guardPlan true n c = c
 guardPlan false n c = Refused n
 
--- ---- what may cut
-
--- a freeform curve doesn't
-unfoldable pub cutterOf : Curve → Option Shape → List Cutter
-cutterOf c none = []
-cutterOf c (some sh) = record { id = c .id; infinite = c .infinite; shape = sh } ∷ []
-
-abbrev pub cuttersOf : List Point → List Curve → List Cutter
-cuttersOf ps cs = concatMap (λ c. cutterOf c (shapeOf ps (c .kind))) cs
+-- ---- where it is cut
 
 -- the cuts of the curve c, whose shape is sh, by all others
 abbrev pub cutsOf : Drawing → ℕ → Shape → List Cut

@@ -28,7 +28,7 @@ ghost use Rattle.planning.specs.Planning.{paramOfPick, firstGoes, splitF
 ghost use Rattle.planning.specs.Columns.{PlansFor};
 ghost use Rattle.planning.specs.Contracts.{PinnedPointOf, TrimPlan, Trims, Splits, PlansOnCurve};
 
-fn is_circle(kind: CurveKind) -> bool
+pub(crate) fn is_circle(kind: CurveKind) -> bool
     ensures { λ r. ⌜ r ≡ isCircle kind ⌝ }
 {
     match kind {
@@ -59,7 +59,7 @@ fn pinned_point_of<'a>(
 }
 
 // Whether the first piece is removed where there is one cut.
-fn first_of_one(sh: Shape, tq: f64, k: Cut) -> bool
+pub(crate) fn first_of_one(sh: Shape, tq: f64, k: Cut) -> bool
     ensures { λ r. ⌜ r ≡ firstGoes sh tq (k ∷ []) ⌝ }
 {
     if sh.is_full() {
@@ -69,7 +69,7 @@ fn first_of_one(sh: Shape, tq: f64, k: Cut) -> bool
 }
 
 // Whether the first piece is removed where there are two cuts.
-fn first_of_two(sh: Shape, tq: f64, k: Cut, j: Cut) -> bool
+pub(crate) fn first_of_two(sh: Shape, tq: f64, k: Cut, j: Cut) -> bool
     ensures { λ r. ⌜ r ≡ firstGoes sh tq (k ∷ j ∷ []) ⌝ }
 {
     if sh.is_full() {
@@ -146,7 +146,7 @@ fn split_full(sh: Shape, at: Vec2, list: [Cutter; 128], count: usize) -> PlanRes
     PlanResult::Accepted(Plan::DivideTwo(sh.point(k.t), sh.point(j.t)))
 }
 
-fn split_open(sh: Shape, at: Vec2) -> PlanResult
+pub(crate) fn split_open(sh: Shape, at: Vec2) -> PlanResult
     ensures { λ r. ⌜ r ≡ cond (atEnd sh (paramOfPick sh at)) (PlanResult.Refused 12) (PlanResult.Accepted (Plan.Divide (point sh (paramOfPick sh at)))) ⌝ }
 {
     let t = sh.param(sh.project(at));

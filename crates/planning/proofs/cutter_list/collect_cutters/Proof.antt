@@ -1,5 +1,6 @@
 use lib.ListN.{length-set}
-use Rattle.planning.proofs.CutterLists.{answered-none, answered-some, gather-end}
+use Rattle.cuts.proofs.Cutters.{answered-none, answered-some}
+use Rattle.planning.proofs.CutterLists.{gather-end}
 use Rattle.planning.proofs.CutterLists.{Gathering, gather-start, gather-freeform, gather-target, gather-other}
 use mathlib.Core.Path.{_≡_}
 use Prim.Native.Nat.{_-_, _≤_}

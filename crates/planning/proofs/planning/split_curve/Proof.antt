@@ -1,6 +1,6 @@
 use borrow.Author.Tests.{not-true, not-false}
 use mathlib.Core.Path.{sym, _∙_}
-use Rattle.planning.proofs.CutterLists.{answered-none, answered-some}
+use Rattle.cuts.proofs.Cutters.{answered-none, answered-some}
 use Rattle.planning.proofs.CurvePlans.{split-bare, split-barred, split-inside, split-beside, split-round}
 use borrow.Author.Needs.{needs}
 use Rattle.planning.proofs.planning.split_curve.Statement.{statement}

@@ -1,4 +1,4 @@
-use Rattle.planning.proofs.CutterLists.{answered-none, answered-some}
+use Rattle.cuts.proofs.Cutters.{answered-none, answered-some}
 use Rattle.planning.proofs.CurvePlans.{trim-bare, trim-barred, trim-beside, trim-planned}
 use borrow.Author.Needs.{needs}
 use Rattle.planning.proofs.planning.trim_curve.Statement.{statement}
