@@ -6,3 +6,5 @@ pub mod Refusing
 pub mod ExtendPlans
 pub mod Extends
 pub mod ImageExtend
+pub mod OutcomesWritten
+pub mod ImageMoves

@@ -2,19 +2,28 @@
 use Prim.Native.Nat.{ℕ, _<_}
 use mathlib.Core.Path.{_≡_}
 use mathlib.Core.Bool.{Bool, true, false}
-use mathlib.Core.List.{List}
+use mathlib.Core.List.{List, map}
 use mathlib.Core.Option.{some}
 use lib.ListN.{length, getD}
+use lib.Dec.{eqb}
 use Rattle.geom.specs.declared.Vec2.{Vec2}
 use Rattle.sketch.specs.declared.Curve.{Curve}
-use Rattle.sketch.specs.Lists.{ite}
+use Rattle.sketch.specs.Lists.{ite, every}
 use Rattle.sketch.specs.Blanks.{noPoint, noCurve}
 use Rattle.sketch.specs.Lookup.{among}
 use Rattle.sketch.specs.Drawing.{Drawing, pointIds}
 use Rattle.image.specs.Image.{drawingOf, imageFault}
-use Rattle.relations.specs.Met.{allMet}
-use Rattle.edit_plan.specs.Tables.{uses, others}
-use Rattle.edit_plan.specs.Steps.{endsOf}
+use Rattle.relations.specs.Met.{met, allMet, unmetAt}
+use Rattle.edit_plan.specs.Tables.{moved, uses, others}
+use Rattle.edit_plan.specs.declared.Pin.{Pin}
+use Rattle.edit_plan.specs.declared.Removed.{Removed}
+use Rattle.edit_plan.specs.Outcome.{Outcome, refused}
+use Rattle.edit_plan.specs.Steps.{endsOf, nothing}
+use Rattle.edit_plan.specs.ApplyPlan.{checkMet}
+use Rattle.apply.specs.Moved.{pinnedBy, pointIn, drawingMoved, moveRefusal}
+use Rattle.extend.specs.declared.EditedImage.{EditedImage}
+use Rattle.extend.specs.ExtendAnswer.{NoPlace}
+use Rattle.extend.specs.ImageExtend.{ifFits, OutcomeWritten}
 use Rattle.hit_search.specs.declared.Nearest.{Nearest}
 use Rattle.hit_search.specs.NearestHit.{Support, finished}
 use Rattle.hit_search.specs.Columns.{bestIn}
@@ -59,3 +68,31 @@ pub record ExtendIn (d : Drawing) (c : Curve) (p : Vec2) (r : EndPlan) : Type 0 
 abbrev pub PlansExtendIn : List ℕ → ℕ → Vec2 → EndPlan → Type 0
 PlansExtendIn s place p r =
     imageFault s ≡ 0 → place < length (drawingOf s .curves) → allMet (drawingOf s) ≡ true → ExtendIn (drawingOf s) (getD (drawingOf s .curves) place noCurve) p r
+
+-- ---- the move
+
+-- an answer without a place, and one of a relation
+abbrev pub refusedAt : ℕ → ℕ → EditedImage
+refusedAt n place = record { refusal = n; place = place; removed = nothing; size = 0 }
+
+-- the move of the point at place k to v, pinned there, with a test of relations at its end
+abbrev pub moveIn : (Drawing → Bool) → Drawing → ℕ → Vec2 → Pin → Outcome Drawing Removed
+moveIn met d k v w =
+    let n : ℕ = moveRefusal (d .points) (d .relations) k v w in
+    ite (eqb n 0) (checkMet met (drawingMoved d k v w)) (refused n)
+
+-- the relation that a pin of the point p adds is met once p is at v
+abbrev pub PinMet : List ℕ → Pin → ℕ → Vec2 → Bool → Type 0
+PinMet s w p v r = imageFault s ≡ 0 → r ≡ every (met (map (moved p v) (drawingOf s .points)) (drawingOf s .curves)) (pinnedBy w p)
+
+pub record MoveAnswer (d : Drawing) (k : ℕ) (v : Vec2) (w : Pin) (before after : List ℕ) (r : EditedImage) : Type 0 where
+  pub written : OutcomeWritten (ifFits (length before) (moveIn allMet d k v w)) before after r
+  pub no-place : NoPlace (r .refusal) (r .place)
+  pub not-13 : r .refusal ≡ 13 → ⊥
+  pub unmet-after : r .refusal ≡ 19 → unmetAt (drawingMoved d k v w) (r .place) ≡ true
+
+-- of a point of a good image, whose relations are met, that no curve but `id` uses
+abbrev pub MovesIfMet : List ℕ → ℕ → ℕ → Vec2 → Pin → List ℕ → List ℕ → EditedImage → Type 0
+MovesIfMet s id k v w before after r =
+    imageFault s ≡ 0 → allMet (drawingOf s) ≡ true → k < length (drawingOf s .points) → among (pointIn (drawingOf s) k .id) (uses (others id (drawingOf s .curves))) ≡ false
+    → MoveAnswer (drawingOf s) k v w before after r

@@ -2,4 +2,5 @@
 pub mod Extend
 pub mod ExtendAnswer
 pub mod ExtendContracts
+pub mod ImageExtend
 pub mod ImageExtendContracts

@@ -30,7 +30,7 @@ use Rattle.support.specs.declared.Hits.the-variants.{Found, Refused}
 use Rattle.support.specs.declared.Piece.the-variants as P
 use Rattle.support.specs.Freeform.{bezier}
 use Rattle.support.specs.Hits as H
-use Rattle.support.specs.Hits.{freeformHits, endlessLine}
+use Rattle.support.specs.Hits.{shapeHits, freeformHits, endlessLine}
 use Rattle.support.specs.Pieces.{zipPoints, hitsOf, withRoom, answerOf, listOf, HitsWritten}
 use Rattle.support.proofs.Coordinates.{points-stored}
 use Rattle.edit_plan.specs.Tables.{others}
@@ -164,6 +164,11 @@ module _ (ps : List Point) (s : Support) (foot : Vec2) (c : Curve) (budget : ℕ
   meets-shape (Circle o r) {sh} xs ys e f = let q : sh ≡ circle (positionOf ps o) r = cc in rw (f, q)
   meets-shape (Bezier n) xs ys e f = let z : _≡_ {A = ℕ} 0 1 = cc in absurd (omega arith)
   meets-shape (Conic a p b rho) xs ys e f = let z : _≡_ {A = ℕ} 0 1 = cc in absurd (omega arith)
+
+  pub meets-along : (k : CurveKind) {sh sh′ : Shape} → some sh ≡ shapeOf ps k → sh′ ≡ boundary (c .infinite) sh foot
+      → shapeHits (s .a) (s .b) sh′ budget ≡ curveHits ps s foot c k budget
+  unfolding hitsOf
+  meets-along k e f = meets-shape k [] [] e f
 
   pub meets-bezier : {k : CurveKind} {n : ℕ} {r : Controls} → k ≡ Bezier n → ControlsAre ps (c .slots) (suc n) r
       → hitsOf (s .a) (s .b) (P.Bezier (n + 1)) (r .xs) (r .ys) budget ≡ curveHits ps s foot c k budget

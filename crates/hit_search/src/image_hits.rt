@@ -1,6 +1,7 @@
 // Where the endless line of a support meets one curve of an image, straight from its records.
 use crate::Controls;
 use crate::curve_hits::boundary;
+use geom::Direction;
 use geom::Vec2;
 use sketch::Curve;
 use sketch::CurveKind;
@@ -11,8 +12,11 @@ use sketch_geometry::positions::shape_of;
 use support::Hits;
 use support::Piece;
 use support::search::hits;
+use support::search::hits_along;
+ghost use mathlib.Core.Path.{_≡_};
 ghost use Prim.Native.Nat.{suc, _≤_};
 ghost use lib.ListN.{length};
+ghost use Rattle.geom.specs.Plane.{_-ᵥ_, normalized};
 ghost use Rattle.hit_search.specs.Contracts.{Fits};
 ghost use Rattle.hit_search.specs.ImageContracts.{ControlsIn, CurveHitsIn};
 
@@ -35,10 +39,11 @@ fn controls<'a>(slots: [Id; 8], n: usize, points: &'a [u8], near: &'a [u16]) -> 
     Controls { xs: px, ys: py }
 }
 
-// The hits with a curve, put to the front of hx and hy, under a budget.
+// The hits of a support, whose direction is given, with a curve, put to the front of hx and hy, under a budget.
 pub(crate) fn curve_hits<'a, 'b>(
     a: Vec2,
     b: Vec2,
+    along: Direction,
     foot: Vec2,
     c: Curve,
     budget: usize,
@@ -47,7 +52,7 @@ pub(crate) fn curve_hits<'a, 'b>(
     hx: &'b mut [f64],
     hy: &'b mut [f64],
 ) -> Hits
-    requires { ⌜ (28 ≤ length (now hx)) × (28 ≤ length (now hy)) ⌝ }
+    requires { ⌜ (28 ≤ length (now hx)) × (28 ≤ length (now hy)) × (along ≡ normalized (b -ᵥ a)) ⌝ }
     ensures { λ r. ⌜ CurveHitsIn (now (points .entry)) a b foot c budget (now (hx .entry)) (now (hy .entry)) (now (hx .exit)) (now (hy .exit)) r ⌝ }
     ensures { λ r. ⌜ Fits (now (hx .exit)) (now (hy .exit)) r ⌝ }
 {
@@ -79,12 +84,11 @@ pub(crate) fn curve_hits<'a, 'b>(
         }
         // Every other curve has an outline.
         _ => {
-            let bare = [0.0; 8];
             let Outline::Analytic(sh) = shape_of(kind, points, near) else {
                 return Hits::Found(0, budget);
             };
-            let piece = Piece::Analytic(boundary(c.infinite, sh, foot));
-            hits(a, b, piece, bare, bare, hx, hy, budget)
+            let bound = boundary(c.infinite, sh, foot);
+            hits_along(a, b, along, bound, hx, hy, budget)
         }
     }
 }

@@ -91,8 +91,32 @@ fn consider(a: Vec2, b: Vec2, atb: bool, l: f64, q: Vec2, by: Id, best: Nearest)
     best
 }
 
-// The first n hits, of the curve `by`.
-pub(crate) fn best_of<'a>(
+// The first n hits, of the curve `by`, on the line whose length is l.
+pub(crate) fn best_along<'a>(
+    a: Vec2,
+    b: Vec2,
+    atb: bool,
+    l: f64,
+    by: Id,
+    best: Nearest,
+    n: usize,
+    hx: &'a [f64],
+    hy: &'a [f64],
+) -> Nearest
+    requires { ⌜ (l ≡ distance a b) × (n ≤ length (now hx)) × (n ≤ length (now hy)) ⌝ }
+    ensures { λ r. ⌜ bestIn r ≡ bestOf (support a b atb) by (bestIn best) (zipPoints (take n (now (hx .entry))) (take n (now (hy .entry)))) ⌝ }
+{
+    let mut now = best;
+    let mut i: usize = 0;
+    while i < n {
+        now = consider(a, b, atb, l, Vec2::new(hx[i], hy[i]), by, now);
+        i += 1;
+    }
+    now
+}
+
+// The same, where the length is yet to be found.
+fn best_of<'a>(
     a: Vec2,
     b: Vec2,
     atb: bool,
@@ -109,14 +133,7 @@ pub(crate) fn best_of<'a>(
     if n == 0 {
         return best;
     }
-    let l = a.dist(b);
-    let mut now = best;
-    let mut i: usize = 0;
-    while i < n {
-        now = consider(a, b, atb, l, Vec2::new(hx[i], hy[i]), by, now);
-        i += 1;
-    }
-    now
+    best_along(a, b, atb, a.dist(b), by, best, n, hx, hy)
 }
 
 // One curve more.

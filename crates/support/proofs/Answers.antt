@@ -1,6 +1,6 @@
 -- Laws by which an answer and what lies in the lent floats are those of an outcome. Assumes nothing.
-use mathlib.Core.Path.{_≡_, refl, sym, _∙_}
-use mathlib.Core.Bool.{true, false}
+use mathlib.Core.Path.{_≡_, refl, sym, ap, _∙_}
+use mathlib.Core.Bool.{Bool, true, false}
 use mathlib.Core.List.{List, [], _∷_, _++_, map}
 use Prim.Native.Nat.{ℕ, _≤_}
 use native.Mathlib.Omega.{arith}
@@ -14,7 +14,8 @@ use Rattle.shape.specs.declared.Crossings.{Crossings}
 use Rattle.shape.specs.declared.Crossings.the-variants.{Zero, One, Two}
 use Rattle.shape.specs.declared.Shape.{Shape}
 use Rattle.shape.specs.declared.Shape.the-variants.{Line, Round}
-use Rattle.shape.specs.Intersections.{points, crossings}
+use Rattle.shape.specs.Intersections.{points, crossings, directionOf, crossingsBy}
+use Rattle.shape.proofs.CrossingsBy.{crossings-by}
 use Rattle.sketch.specs.Lists.{keep}
 use Rattle.support.specs.declared.Hits.{Hits}
 use Rattle.support.specs.declared.Hits.the-variants.{Found, Refused}
@@ -126,6 +127,18 @@ module _ (a b : Vec2) (sh : Shape) (budget : ℕ) where
       → shapeHits a b sh budget ≡ found (keep (onPiece sh) (points all)) budget
   unfolding shapeHits guardHits
   clear e all f = rw (e, f)
+
+-- by the direction of the support
+module _ (a b : Vec2) (sh : Shape) (budget : ℕ) {along : Direction} (d : along ≡ normalized (b -ᵥ a)) {r : Bool} (o : r ≡ overlaps a along sh) where
+  same-overlap : r ≡ overlaps a (normalized (b -ᵥ a)) sh
+  same-overlap = o ∙ ap (λ (x : Direction). overlaps a x sh) d
+
+  pub overlapping-along : r ≡ true → shapeHits a b sh budget ≡ refused 15 budget
+  overlapping-along h = overlapping a b sh budget (sym same-overlap ∙ h)
+
+  pub clear-along : r ≡ false → (all : Crossings) → all ≡ crossingsBy along (Line a b) sh → shapeHits a b sh budget ≡ found (keep (onPiece sh) (points all)) budget
+  unfolding directionOf
+  clear-along h all f = clear a b sh budget (sym same-overlap ∙ h) all (f ∙ crossings-by along (Line a b) sh d)
 
 module _ (sh : Shape) (all : Crossings) (b : ℕ) where
   abbrev kept : HitsResult

@@ -15,14 +15,14 @@ use geom::Vec2;
 use shape::Crossings;
 use shape::Shape;
 
-// Whether the piece is a line that lies along the support from a to b: both its ends are within 1e-9 of it.
-fn overlaps(a: Vec2, b: Vec2, sh: Shape) -> bool
-    ensures { λ r. ⌜ r ≡ Defs.overlaps a (normalized (b -ᵥ a)) sh ⌝ }
+// Whether the piece is a line that lies along the support, from a in its direction: both its ends are within 1e-9 of it.
+fn overlaps(a: Vec2, along: Direction, sh: Shape) -> bool
+    ensures { λ r. ⌜ r ≡ Defs.overlaps a along sh ⌝ }
 {
     let Shape::Line(p, q) = sh else {
         return false;
     };
-    let Direction::Unit(d) = Vec2::from_points(a, b).normalized() else {
+    let Direction::Unit(d) = along else {
         return false;
     };
     let first = float::abs(d.cross(Vec2::from_points(a, p)));
@@ -90,7 +90,27 @@ fn kept<'a>(sh: Shape, all: Crossings, hx: &'a mut [f64], hy: &'a mut [f64], bud
     }
 }
 
-// The endless line through a and b against a line or round.
+// The endless line through a and b, whose direction is given, against a line or round.
+pub(crate) fn shape_hits_along<'a>(
+    a: Vec2,
+    b: Vec2,
+    along: Direction,
+    sh: Shape,
+    hx: &'a mut [f64],
+    hy: &'a mut [f64],
+    budget: usize,
+) -> Hits
+    requires { ⌜ (28 ≤ length (now hx)) × (28 ≤ length (now hy)) ⌝ }
+    ensures { λ r. ⌜ ((along ≡ normalized (b -ᵥ a)) → HitsWritten (shapeHits a b sh budget) (now (hx .entry)) (now (hy .entry)) (now (hx .exit)) (now (hy .exit)) r) ⌝ }
+{
+    if overlaps(a, along, sh) {
+        return Hits::Refused(15, budget);
+    }
+    let all = shape::intersections_by(Shape::Line(a, b), along, sh);
+    kept(sh, all, hx, hy, budget)
+}
+
+// The same, where the direction is yet to be found.
 pub(crate) fn shape_hits<'a>(
     a: Vec2,
     b: Vec2,
@@ -102,9 +122,6 @@ pub(crate) fn shape_hits<'a>(
     requires { ⌜ (28 ≤ length (now hx)) × (28 ≤ length (now hy)) ⌝ }
     ensures { λ r. ⌜ HitsWritten (shapeHits a b sh budget) (now (hx .entry)) (now (hy .entry)) (now (hx .exit)) (now (hy .exit)) r ⌝ }
 {
-    if overlaps(a, b, sh) {
-        return Hits::Refused(15, budget);
-    }
-    let all = shape::intersections(Shape::Line(a, b), sh);
-    kept(sh, all, hx, hy, budget)
+    let along = Vec2::from_points(a, b).normalized();
+    shape_hits_along(a, b, along, sh, hx, hy, budget)
 }

@@ -1,13 +1,19 @@
 use mathlib.Core.Path.{sym, ap, _∙_}
 use Rattle.sketch_geometry.specs.Columns.{shapeOfOutline}
 use Rattle.hit_search.specs.Columns.{support}
-use Rattle.hit_search.proofs.CurveHits.{with-room, met-fits, met-as, outlined-is, meets-shape, meets-bezier, meets-conic}
+use Rattle.hit_search.proofs.CurveHits.{with-room, met-fits, met-as, outlined-is, meets-along, meets-bezier, meets-conic}
 use native.Mathlib.Omega.{arith}
 use borrow.Author.Needs.{needs}
 use Rattle.hit_search.proofs.image_hits.curve_hits.Statement.{statement}
 use Rattle.hit_search.proofs.image_hits.curve_hits.Tie as tie
 use Rattle.hit_search.proofs.image_hits.curve_hits.Reads as reads
 use Rattle.hit_search.proofs.image_hits.curve_hits.Lts as lts
+use Rattle.hit_search.proofs.curve_hits.boundary.Reads as boundary-reads
+use Rattle.hit_search.proofs.image_hits.controls.Reads as controls-reads
+use Rattle.sketch_geometry.proofs.positions.position_of.Reads as position-of-reads
+use Rattle.sketch_geometry.proofs.positions.shape_of.Reads as shape-of-reads
+use Rattle.support.proofs.search.hits.Reads as hits-reads
+use Rattle.support.proofs.search.hits_along.Reads as hits-along-reads
 
 enum-known-kind : tie.Need-enum-known-kind
 enum-known-kind c = search needs
@@ -57,8 +63,8 @@ returns c = ((λ ps w atB. absurd (outlined-is ps _ (c .before .before .before .
 boundary-requires : tie.Need-boundary-requires
 boundary-requires c κs = search needs
 
-hits-requires-3 : tie.Need-hits-requires-3
-hits-requires-3 c κs = search needs
+hits-along-requires : tie.Need-hits-along-requires
+hits-along-requires c κs = search needs
 
 same-length : tie.Need-same-length
 same-length c = search needs
@@ -85,7 +91,10 @@ same-length-6 : tie.Need-same-length-6
 same-length-6 c = search needs
 
 returns-4 : tie.Need-returns-4
-returns-4 c = ((λ ps w atB. met-as (with-room _ _ _ _ (c .before .before .before .before .before .before .before .before .before .before .before .before .before .before .before .before .before .pre .0) (c .before .before .before .before .before .before .before .before .before .before .before .before .before .before .before .before .before .pre .1) ∙ meets-shape ps (support _ _ atB) _ _ _ _ _ _ (sym (ap shapeOfOutline (c .before .before .before .before .before .before .before .before .before .sh .given .1)) ∙ c .before .before .before .before .before .before .before .before .before .before .before .shape-of .ensures ps w) (c .before .before .before .before .before .before .before .boundary .ensures)) (c .before .before .before .before .hits3 .ensures)), met-fits (c .before .before .before .before .hits3 .ensures))
+returns-4 c =
+    let start = c .before .before .before .before .before .before .before .before .before .before .before .before .before .before .before .before .before in
+    let written = c .before .before .before .before .hits-along .ensures (start .pre .2) in
+    ((λ ps w atB. met-as (with-room _ _ _ _ (start .pre .0) (start .pre .1) ∙ meets-along ps (support _ _ atB) _ _ _ _ (sym (ap shapeOfOutline (c .before .before .before .before .before .before .before .before .before .sh .given .1)) ∙ c .before .before .before .before .before .before .before .before .before .before .before .shape-of .ensures ps w) (c .before .before .before .before .before .before .before .boundary .ensures)) written), met-fits written)
 
 pub curve-hits-spec : {M : Type 1} → statement M
 curve-hits-spec =
@@ -107,7 +116,7 @@ curve-hits-spec =
     enum-told
     returns
     boundary-requires
-    hits-requires-3
+    hits-along-requires
     same-length
     same-length-2
     returns-2

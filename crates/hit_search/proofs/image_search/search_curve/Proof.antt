@@ -33,17 +33,17 @@ returns c = refused-not-found (c .enum-told .given .1)
 returns-2 : tie.Need-returns-2
 returns-2 c = λ ps w os. look-stopped ps (support _ _ _) _ _ _ (c .before .before .before .before .before .before .before .before .curve-hits .ensures .0 ps w _) _ os (c .before .before .before .before .hits2 .given .1 ∙ c .before .hits3 .given .1)
 
-slice-aggregate-best-of : tie.Need-slice-aggregate-best-of
-slice-aggregate-best-of c = search needs
+slice-aggregate-best-along : tie.Need-slice-aggregate-best-along
+slice-aggregate-best-along c = search needs
 
-slice-aggregate-best-of-2 : tie.Need-slice-aggregate-best-of-2
-slice-aggregate-best-of-2 c = search needs
+slice-aggregate-best-along-2 : tie.Need-slice-aggregate-best-along-2
+slice-aggregate-best-along-2 c = search needs
 
-best-of-requires : tie.Need-best-of-requires
-best-of-requires c κs = fits-found _ _ _ (c .before .before .before .hits .given .1) (c .before .before .before .before .before .before .before .curve-hits .ensures .1)
+best-along-requires : tie.Need-best-along-requires
+best-along-requires c κs = let fits = fits-found _ _ _ (c .before .before .before .hits .given .1) (c .before .before .before .before .before .before .before .curve-hits .ensures .1) in (c .before .before .before .before .before .before .before .before .before .before .before .before .pre .1, fits .0, fits .1)
 
 returns-3 : tie.Need-returns-3
-returns-3 c = λ ps w os. look-went ps (support _ _ _) _ _ _ (c .before .before .before .before .before .before .before .before .curve-hits .ensures .0 ps w _) _ os (c .before .before .before .before .hits .given .1) (c .best-of .ensures)
+returns-3 c = λ ps w os. look-went ps (support _ _ _) _ _ _ (c .before .before .before .before .before .before .before .before .curve-hits .ensures .0 ps w _) _ os (c .before .before .before .before .hits .given .1) (c .best-along .ensures)
 
 pub search-curve-spec : {M : Type 1} → statement M
 search-curve-spec =
@@ -58,7 +58,7 @@ search-curve-spec =
     enum-told
     returns
     returns-2
-    slice-aggregate-best-of
-    slice-aggregate-best-of-2
-    best-of-requires
+    slice-aggregate-best-along
+    slice-aggregate-best-along-2
+    best-along-requires
     returns-3)

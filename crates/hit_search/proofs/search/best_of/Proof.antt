@@ -1,77 +1,27 @@
--- `hit_search::search::best_of` meets its contract.
-use mathlib.Core.Path.{_≡_}
-use Prim.Native.Nat.{_-_}
-use Rattle.geom.specs.Plane.{distance}
 use Rattle.hit_search.specs.Columns.{support, bestIn}
-use Rattle.hit_search.proofs.NearestHit.{Weighing, weighing, weighed, weigh-on}
-use borrow.Author.Needs.{needs}
+use Rattle.hit_search.proofs.NearestHit.{weighing, weighed}
 use native.Mathlib.Omega.{arith}
+use borrow.Author.Needs.{needs}
 use Rattle.hit_search.proofs.search.best_of.Statement.{statement}
 use Rattle.hit_search.proofs.search.best_of.Tie as tie
+use Rattle.hit_search.proofs.search.best_of.Reads as reads
+use Rattle.hit_search.proofs.search.best_of.Lts as lts
+use Rattle.geom.proofs.Vec2.dist.Reads as dist-reads
+use Rattle.hit_search.proofs.search.best_along.Reads as best-along-reads
 
-abbrev Inv-loop : tie.InvT-loop
-Inv-loop a b atb by n hx hy l now₀ i₀ now i = Weighing (support a b atb) by hx hy n (bestIn now₀) i (bestIn now) × (l ≡ distance a b)
-
-abbrev μ-loop : tie.MeasureT-loop
-μ-loop a b atb by n hx hy l now₀ i₀ now i = n - i
-
-returns : tie.Need-returns Inv-loop μ-loop
+returns : tie.Need-returns
 returns c =
     let a = c .before .before .before .args in
     weighed (weighing (support (a .a) (a .b) (a .atb)) (a .by) (a .hx .now) (a .hy .now) (a .n) (bestIn (a .best))) (omega arith)
 
-dist-requires : tie.Need-dist-requires Inv-loop μ-loop
+dist-requires : tie.Need-dist-requires
 dist-requires c κs = search needs
 
-loop-holds : tie.Need-loop-holds Inv-loop μ-loop
-loop-holds c = (weighing _ _ _ _ _ _, c .dist .ensures)
+best-along-requires : tie.Need-best-along-requires
+best-along-requires c κs = search needs
 
-mul-new : tie.Need-mul-new Inv-loop μ-loop
-mul-new c = search needs
-
-shared-slice-read-new : tie.Need-shared-slice-read-new Inv-loop μ-loop
-shared-slice-read-new c = search needs
-
-mul-new-2 : tie.Need-mul-new-2 Inv-loop μ-loop
-mul-new-2 c = search needs
-
-shared-slice-read-new-2 : tie.Need-shared-slice-read-new-2 Inv-loop μ-loop
-shared-slice-read-new-2 c = search needs
-
-new-requires : tie.Need-new-requires Inv-loop μ-loop
-new-requires c κs = search needs
-
-consider-requires : tie.Need-consider-requires Inv-loop μ-loop
-consider-requires c κs = search needs
-
-add-i : tie.Need-add-i Inv-loop μ-loop
-add-i c = search needs
-
-loop-less : tie.Need-loop-less Inv-loop μ-loop
-loop-less c = search needs
-
-loop-again : tie.Need-loop-again Inv-loop μ-loop
-loop-again c = (weigh-on (c .before .before .before .before .before .loop .inv .0) (c .before .before .before .before .loop-test .taken) (search needs) (search needs) _ (c .before .new .ensures) (c .consider .ensures), c .before .before .before .before .before .loop .inv .1)
-
-returns-2 : tie.Need-returns-2 Inv-loop μ-loop
-returns-2 c = weighed (c .before .loop .inv .0) (c .loop-test .left)
+returns-2 : tie.Need-returns-2
+returns-2 c = search needs
 
 pub best-of-spec : {M : Type 1} → statement M
-best-of-spec =
-    tie.close
-    (tie.spec
-    Inv-loop
-    μ-loop
-    returns
-    dist-requires
-    loop-holds
-    mul-new
-    shared-slice-read-new
-    mul-new-2
-    shared-slice-read-new-2
-    new-requires
-    consider-requires
-    add-i
-    loop-less
-    loop-again
-    returns-2)
+best-of-spec = tie.close (tie.spec returns dist-requires best-along-requires returns-2)

@@ -1,0 +1,335 @@
+-- The extend of a line of an image, one law for each way out of the code. Assumes nothing.
+use mathlib.Core.Path.{_≡_, refl, sym, ap, _∙_, subst}
+use mathlib.Core.Bool.{Bool, true, false, not, _&&_, and-true}
+use mathlib.Core.List.{List, [], _∷_, _++_, map}
+use mathlib.Core.Option.{some}
+use Prim.Native.Nat.{ℕ, zero, suc, _+_, _≤_, _<_}
+use native.Mathlib.Omega.{arith}
+use lib.Dec.{eqb, ltb, leb}
+use lib.ListN.{length, getD}
+use types.Run.{OneOf}
+use denote.Enum.Declared.{tagOf}
+use borrow.Author.Tests.{ne-eqb, not-true, not-false}
+use Rattle.big_endian.specs.Laws.{Bytes}
+use Rattle.geom.specs.declared.Vec2.{Vec2}
+use Rattle.sketch.specs.declared.Point.{Point}
+use Rattle.sketch.specs.declared.Curve.{Curve}
+use Rattle.sketch.specs.declared.CurveKind.{CurveKind}
+use Rattle.sketch.specs.declared.CurveKind.the-variants.{Line}
+use Rattle.sketch.specs.declared.Relation.{Relation}
+use Rattle.sketch.proofs.CurveKind as K
+use Rattle.sketch.specs.Lists.{ite, every, guardNumber}
+use Rattle.sketch.specs.Blanks.{noPoint, noCurve}
+use Rattle.sketch.specs.Lookup.{among}
+use Rattle.sketch.specs.Drawing.{Drawing, limits, curveIn}
+use Rattle.sketch.specs.Facts.{Valid}
+use Rattle.sketch.proofs.Bools.{never}
+use Rattle.sketch.proofs.Facts.{fault-valid}
+use Rattle.image.specs.Image.{drawingOf, imageFault}
+use Rattle.image.specs.Encode.{encode}
+use Rattle.image.specs.Records.{pointSize, curveSize}
+use Rattle.image.specs.Decode.{readPoint, readCurve}
+use Rattle.image.proofs.GoodImages.{drawing-good}
+use Rattle.rows.specs.Rows.{pointTable, curveTable, relationTable, rowIn, relationsIn}
+use Rattle.rows.proofs.GoodTables.{relations-in}
+use Rattle.rows.proofs.Holds.{holds-points, held-points, held-point, holds-curves, held-curves, held-curve}
+use Rattle.relations.specs.Met.{met, allMet, failsAt, unmetAt, firstFailing, firstUnmet}
+use Rattle.relations.specs.Moves.{firstNamedUnmet}
+use Rattle.relations.proofs.Failing.{none-fails, fails-there}
+use Rattle.relations.proofs.Unmoved.{named-enough}
+use Rattle.edit_plan.specs.declared.Pin.{Pin}
+use Rattle.edit_plan.specs.declared.Plan.the-variants as P
+use Rattle.edit_plan.specs.declared.Removed.{Removed}
+use Rattle.edit_plan.specs.Outcome.{Outcome, refused, accepted, guard}
+use Rattle.edit_plan.specs.Tables.{okPosition, moved, uses, others}
+use Rattle.edit_plan.specs.Changes.{pinRelation}
+use Rattle.edit_plan.specs.Steps.{endsOf, isLine, nothing}
+use Rattle.edit_plan.specs.ApplyPlan.{checkMet, moveEnd, applyPlanTo, applyPlanAt, applyPlan}
+use Rattle.edit_plan.proofs.Bridge.{unlessRefused}
+use Rattle.edit_plan.proofs.Loops.{look-at}
+use Rattle.apply.specs.declared.Applied.{Applied}
+use Rattle.apply.specs.Applied.{Answered}
+use Rattle.apply.specs.Moved.{pinnedBy, pointIn, drawingMoved, moveRefusal}
+use Rattle.apply.proofs.MovedRows.{pinned-few, pinned-one, pinned-none}
+use Rattle.apply.proofs.MoveDefinition.{drawing-moved, move-is}
+use Rattle.planning.specs.declared.PlanResult.the-variants.{Refused, Accepted}
+use Rattle.extend.specs.declared.EndPlan.{EndPlan}
+use Rattle.extend.specs.declared.EndPlan.the-variants as N
+use Rattle.extend.specs.declared.EditedImage.{EditedImage}
+use Rattle.extend.specs.Extend.{extendCurve}
+use Rattle.extend.specs.ExtendAnswer.{applyPlanned, NoPlace}
+use Rattle.extend.specs.ExtendContracts.{planOf}
+use Rattle.extend.specs.ImageExtend.{ifFits, OutcomeWritten, extendIn, ExtendWritten}
+use Rattle.extend.specs.ImageExtendContracts.{FreeEnd, MovesEnd, ExtendIn, PlansExtendIn, refusedAt, moveIn, MoveAnswer, MovesIfMet}
+use Rattle.extend.proofs.Refusing as F
+use Rattle.extend.proofs.Refusing.{extend-number}
+use Rattle.extend.proofs.ExtendPlans.{others-than-line, not-line, unmet-line}
+use Rattle.extend.proofs.Extends.{not-all}
+use Rattle.extend.proofs.OutcomesWritten.{editedBy, answered-outcome, refused-outcome}
+
+-- ---- lists of which one more entry stands last
+
+module _ {A : Type 0} (f : A → Bool) where
+  fails-before : (xs ys : List A) (k : ℕ) → failsAt f xs k ≡ true → failsAt f (xs ++ ys) k ≡ true
+  fails-before [] ys k h = never h
+  fails-before (x ∷ xs) ys zero h = h
+  fails-before (x ∷ xs) ys (suc k) h = fails-before xs ys k h
+
+  fails-last : (xs ys : List A) → length ys ≤ 1 → every f ys ≡ false → failsAt f (xs ++ ys) (length xs) ≡ true
+  fails-last [] [] l h = never (sym h)
+  fails-last [] (y ∷ []) l h = go (f y) h
+    where
+      go : (b : Bool) → (b && true) ≡ false → not b ≡ true
+      go true h = never (sym h)
+      go false h = refl
+  fails-last [] (y ∷ z ∷ ys) l h = absurd (omega arith)
+  fails-last (x ∷ xs) ys l h = fails-last xs ys l h
+
+  every-both : (xs ys : List A) → every f xs ≡ true → every f ys ≡ true → every f (xs ++ ys) ≡ true
+  every-both [] ys h k = k
+  every-both (x ∷ xs) ys h k = go (f x) h (every-both xs ys)
+    where
+      go : (b : Bool) → (b && every f xs) ≡ true → (every f xs ≡ true → every f ys ≡ true → every f (xs ++ ys) ≡ true) → (b && every f (xs ++ ys)) ≡ true
+      go true h w = w h k
+      go false h w = never h
+
+-- ---- the pin's own relation
+
+module _ (w : Pin) (p : ℕ) (f : Relation → Bool) {n : ℕ} (e : n ≡ length (pinnedBy w p)) where
+  pub pin-adds-none : n ≡ 0 → true ≡ every f (pinnedBy w p)
+  pin-adds-none z = sym (ap (every f) (pinned-none w p (sym e ∙ z)))
+
+  pub pin-adds-one : (n ≡ 0 → ⊥) → {r : Relation} → r ≡ pinRelation w p → {b : Bool} → b ≡ f r → b ≡ every f (pinnedBy w p)
+  pin-adds-one z {r} g h = h ∙ ap f g ∙ sym (ap (every f) (pinned-one w p (λ x. z (e ∙ x))) ∙ and-true (f (pinRelation w p)))
+
+-- ---- the move
+
+-- 8, 24 or 22
+move-number : (ps : List Point) (rs : List Relation) (k : ℕ) (v : Vec2) (w : Pin) → (moveRefusal ps rs k v w ≡ 13 → ⊥) × (moveRefusal ps rs k v w ≡ 19 → ⊥)
+unfolding guardNumber
+move-number ps rs k v w = go (ltb k (length ps)) (okPosition v) (leb (length rs + length (pinnedBy w (getD ps k noPoint .id))) (limits .relations))
+  where
+    go : (a b c : Bool) → (guardNumber a 8 (guardNumber b 24 (guardNumber c 22 0)) ≡ 13 → ⊥) × (guardNumber a 8 (guardNumber b 24 (guardNumber c 22 0)) ≡ 19 → ⊥)
+    go false b c = (λ e. omega arith, λ e. omega arith)
+    go true false c = (λ e. omega arith, λ e. omega arith)
+    go true true false = (λ e. omega arith, λ e. omega arith)
+    go true true true = (λ e. omega arith, λ e. omega arith)
+
+module _ (d : Drawing) (k : ℕ) (v : Vec2) (w : Pin) where
+  abbrev number : ℕ
+  number = moveRefusal (d .points) (d .relations) k v w
+
+  abbrev after-move : Drawing
+  after-move = drawingMoved d k v w
+
+  abbrev p : ℕ
+  p = pointIn d k .id
+
+  pub move-refused-by : {n : ℕ} (l : List ℕ) → n ≡ number → (n ≡ 0 → ⊥) → MoveAnswer d k v w l l (refusedAt n 0)
+  move-refused-by {n} l e h =
+      let o : moveIn allMet d k v w ≡ refused n = ap (λ x. ite (eqb x 0) (checkMet allMet after-move) (refused x)) (sym e) ∙ ap (λ b. ite b (checkMet allMet after-move) (refused n)) (ne-eqb n 0 h) in
+      let m = move-number (d .points) (d .relations) k v w in
+      record { written = refused-outcome n 0 o; no-place = λ x y. refl; not-13 = λ z. m .0 (sym e ∙ z); unmet-after = λ z. absurd (m .1 (sym e ∙ z)) }
+
+  module _ (z : number ≡ 0) where
+    moves : (f : Drawing → Bool) → moveIn f d k v w ≡ checkMet f after-move
+    moves f = ap (λ x. ite (eqb x 0) (checkMet f after-move) (refused x)) z
+
+    pub move-unmet : (l : List ℕ) {j : ℕ} → unmetAt after-move j ≡ true → MoveAnswer d k v w l l (refusedAt 19 j)
+    unfolding checkMet guard
+    move-unmet l {j} u =
+        let o : moveIn allMet d k v w ≡ refused 19 = moves allMet ∙ ap (λ b. guard b 19 (accepted after-move nothing)) (not-all after-move j u) in
+        record { written = refused-outcome 19 j o; no-place = λ x y. absurd (y refl); not-13 = λ x. omega arith; unmet-after = λ x. u }
+
+    pub move-met : allMet after-move ≡ true → (before after : List ℕ) (a : Applied) → Answered number (encode after-move) nothing before after a → MoveAnswer d k v w before after (editedBy a)
+    unfolding checkMet guard
+    move-met u before after a g =
+        let o : moveIn allMet d k v w ≡ accepted after-move nothing = moves allMet ∙ ap (λ b. guard b 19 (accepted after-move nothing)) u in
+        let t : Answered 0 (encode after-move) nothing before after a = subst (λ x. Answered x (encode after-move) nothing before after a) z g in
+        let few = go (leb (length (encode after-move)) (length before)) (t .refusal) in
+        record {
+          written = subst (λ x. OutcomeWritten (ifFits (length before) x) before after (editedBy a)) (sym o) (answered-outcome after-move nothing t);
+          no-place = λ x y. refl;
+          not-13 = few .0;
+          unmet-after = λ x. absurd (few .1 x);
+        }
+      where
+        go : (b : Bool) → a .refusal ≡ ite b 0 25 → (a .refusal ≡ 13 → ⊥) × (a .refusal ≡ 19 → ⊥)
+        go true e = (λ x. omega arith, λ x. omega arith)
+        go false e = (λ x. omega arith, λ x. omega arith)
+
+-- ---- which relations are met then
+
+module _ {d : Drawing} (valid : Valid limits d) (k : ℕ) (below : k < length (d .points)) (v : Vec2) (w : Pin) (all : allMet d ≡ true) (id : ℕ)
+    (alone : among (pointIn d k .id) (uses (others id (d .curves))) ≡ false) where
+  abbrev q : ℕ
+  q = pointIn d k .id
+
+  abbrev shifted : List Point
+  shifted = map (moved q v) (d .points)
+
+  abbrev f : Relation → Bool
+  f = met shifted (d .curves)
+
+  is-moved : drawingMoved d k v w ≡ record { next = d .next; points = shifted; curves = d .curves; relations = d .relations ++ pinnedBy w q }
+  is-moved = drawing-moved valid k below v w
+
+  module _ {j : ℕ} (e : j ≡ firstNamedUnmet q v id d) where
+    first : j ≡ firstUnmet shifted (d .curves) (d .relations)
+    first = e ∙ named-enough q v id d all alone
+
+    pub named-unmet : j < length (d .relations) → unmetAt (drawingMoved d k v w) j ≡ true
+    named-unmet h = ap (λ (x : Drawing). unmetAt x j) is-moved ∙ fails-before f (d .relations) (pinnedBy w q) j (rw first (fails-there f (d .relations) (omega (arith, first))))
+
+    old-met : length (d .relations) ≤ j → every f (d .relations) ≡ true
+    old-met h = none-fails f (d .relations) (omega (arith, first))
+
+    module _ (h : length (d .relations) ≤ j) {b : Bool} (c : b ≡ every f (pinnedBy w q)) where
+      pub pin-met : b ≡ true → allMet (drawingMoved d k v w) ≡ true
+      pin-met t = ap allMet is-moved ∙ every-both f (d .relations) (pinnedBy w q) (old-met h) (sym c ∙ t)
+
+      pub pin-unmet : b ≡ false → unmetAt (drawingMoved d k v w) (length (d .relations)) ≡ true
+      pin-unmet t = ap (λ (x : Drawing). unmetAt x (length (d .relations))) is-moved ∙ fails-last f (d .relations) (pinnedBy w q) (pinned-few w q) (sym c ∙ t)
+
+-- ---- what is read of a good image
+
+module _ (s : List ℕ) (e : imageFault s ≡ 0) where
+  pub counted-relations : {t : List ℕ} {n : ℕ} → t ≡ relationTable s → n ≡ length (relationsIn t) → n ≡ length (drawingOf s .relations)
+  counted-relations u h = h ∙ ap (λ x. length (relationsIn x)) u ∙ ap length (relations-in s e)
+
+  pub placed-point : (k : ℕ) {t : List ℕ} {p : Point} → k < length (drawingOf s .points) → t ≡ pointTable s → p ≡ readPoint (rowIn pointSize t k) → p ≡ pointIn (drawingOf s) k
+  placed-point k h u g = let w = holds-points s e in g ∙ ap (λ x. readPoint (rowIn pointSize x k)) u ∙ held-point w k (omega (arith, held-points w))
+
+  pub placed-curve : (k : ℕ) {t : List ℕ} {c : Curve} → k < length (drawingOf s .curves) → t ≡ curveTable s → c ≡ readCurve (rowIn curveSize t k) → c ≡ getD (drawingOf s .curves) k noCurve
+  placed-curve k h u g = let w = holds-curves s e in g ∙ ap (λ x. readCurve (rowIn curveSize x k)) u ∙ held-curve w k (omega (arith, held-curves w))
+
+  pub image-valid : Bytes s → Valid limits (drawingOf s)
+  image-valid b = fault-valid limits (drawingOf s) (drawing-good s e b)
+
+-- ---- the move in an image
+
+module _ (s : List ℕ) (b : Bytes s) (id k : ℕ) (v : Vec2) (w : Pin) (e : imageFault s ≡ 0) (all : allMet (drawingOf s) ≡ true) (below : k < length (drawingOf s .points))
+    (alone : among (pointIn (drawingOf s) k .id) (uses (others id (drawingOf s .curves))) ≡ false) {number : ℕ} (u : number ≡ moveRefusal (drawingOf s .points) (drawingOf s .relations) k v w) (z : number ≡ 0)
+    {t : List ℕ} {p : Point} (et : t ≡ pointTable s) (ep : p ≡ readPoint (rowIn pointSize t k)) {r : List ℕ} {n : ℕ} (er : r ≡ relationTable s) (en : n ≡ length (relationsIn r))
+    {j : ℕ} (ej : j ≡ firstNamedUnmet (p .id) v id (drawingOf s)) where
+  point-so : p ≡ pointIn (drawingOf s) k
+  point-so = placed-point s e k below et ep
+
+  count-so : n ≡ length (drawingOf s .relations)
+  count-so = counted-relations s e er en
+
+  first-so : j ≡ firstNamedUnmet (pointIn (drawingOf s) k .id) v id (drawingOf s)
+  first-so = ej ∙ ap (λ (x : Point). firstNamedUnmet (x .id) v id (drawingOf s)) point-so
+
+  pub answer-unmet : (l : List ℕ) → j < n → MoveAnswer (drawingOf s) k v w l l (refusedAt 19 j)
+  answer-unmet l h = move-unmet (drawingOf s) k v w (sym u ∙ z) l (named-unmet (image-valid s e b) k below v w all id alone first-so (omega (arith, count-so)))
+
+  module _ (h : n ≤ j) {m : Bool} (em : m ≡ every (met (map (moved (p .id) v) (drawingOf s .points)) (drawingOf s .curves)) (pinnedBy w (p .id))) where
+    pin-so : m ≡ every (met (map (moved (pointIn (drawingOf s) k .id) v) (drawingOf s .points)) (drawingOf s .curves)) (pinnedBy w (pointIn (drawingOf s) k .id))
+    pin-so = em ∙ ap (λ (x : Point). every (met (map (moved (x .id) v) (drawingOf s .points)) (drawingOf s .curves)) (pinnedBy w (x .id))) point-so
+
+    pub answer-pin-unmet : (l : List ℕ) → not m ≡ true → MoveAnswer (drawingOf s) k v w l l (refusedAt 19 n)
+    answer-pin-unmet l x =
+        move-unmet (drawingOf s) k v w (sym u ∙ z) l
+        (ap (unmetAt (drawingMoved (drawingOf s) k v w)) count-so ∙ pin-unmet (image-valid s e b) k below v w all id alone first-so (omega (arith, count-so)) pin-so (not-true m x))
+
+    pub answer-met : not m ≡ false → (before after : List ℕ) (a : Applied) → Answered (moveRefusal (drawingOf s .points) (drawingOf s .relations) k v w) (encode (drawingMoved (drawingOf s) k v w)) nothing before after a → MoveAnswer (drawingOf s) k v w before after (editedBy a)
+    answer-met x before after a g = move-met (drawingOf s) k v w (sym u ∙ z) (pin-met (image-valid s e b) k below v w all id alone first-so (omega (arith, count-so)) pin-so (not-false m x)) before after a g
+
+-- ---- the extend
+
+module _ (d : Drawing) (k : ℕ) (at : Vec2) where
+  abbrev target : Curve
+  target = getD (d .curves) k noCurve
+
+  refused-by : (l : List ℕ) (n : ℕ) → F.Told n → extendIn allMet d k at ≡ refused n → ((d′ : Drawing) (removed : Removed) → n ≡ 19 → extendIn (λ d′. true) d k at ≡ accepted d′ removed → ⊥) → ExtendWritten d k at l l (refusedAt n 0)
+  refused-by l n h o u =
+      record { written = refused-outcome n 0 o; no-place = λ x y. refl; unmet-before = λ x. absurd (h .not-13 x); unmet-after = λ x d′ removed a. absurd (u d′ removed x a) }
+
+  pub no-line : (l : List ℕ) → OneOf others-than-line (tagOf K.the-type (target .kind)) → ExtendWritten d k at l l (refusedAt 10 0)
+  unfolding applyPlanned
+  no-line l h = refused-by l 10 (record { some-number = λ z. omega arith; not-13 = λ z. omega arith }) (ap (applyPlanned allMet limits d (target .id)) (sym (not-line d at target (target .kind) h))) (λ d′ removed z a. omega arith)
+
+  pub unmet-first : (l : List ℕ) {j : ℕ} → isLine (target .kind) ≡ true → unmetAt d j ≡ true → ExtendWritten d k at l l (refusedAt 13 j)
+  unfolding applyPlanned
+  unmet-first l {j} q u =
+      let o : extendIn allMet d k at ≡ refused 13 = ap (applyPlanned allMet limits d (target .id)) (sym (unmet-line d at target (target .kind) q (not-all d j u))) in
+      record { written = refused-outcome 13 j o; no-place = λ x y. absurd (x refl); unmet-before = λ x. u; unmet-after = λ x. absurd (omega arith) }
+
+  module _ (all : allMet d ≡ true) {y : EndPlan} (i : ExtendIn d target at y) where
+    pub plan-refused : (l : List ℕ) {n : ℕ} → y ≡ N.Refused n → ExtendWritten d k at l l (refusedAt n 0)
+    unfolding applyPlanned
+    plan-refused l {n} g =
+        let u : extendCurve d at target (target .kind) ≡ Refused n = sym (i .plan) ∙ ap planOf g in
+        refused-by l n (extend-number d at target (target .kind) n all u) (ap (applyPlanned allMet limits d (target .id)) u)
+        (λ d′ removed z a. let b : refused n ≡ accepted d′ removed = sym (ap (applyPlanned (λ x. true) limits d (target .id)) u) ∙ a in let y : _≡_ {A = ℕ} 0 1 = cc in omega arith)
+
+    module _ {atB : Bool} {j : ℕ} {v : Vec2} {w : Pin} (g : y ≡ N.Move atB j v w) where
+      ends : MovesEnd d target (N.Move atB j v w)
+      ends = subst (MovesEnd d target) g (i .place)
+
+      pub moving-within : j < length (d .points)
+      moving-within = ends .2 .within
+
+      pub moving-alone : among (pointIn d j .id) (uses (others (target .id) (d .curves))) ≡ false
+      moving-alone = ap (λ x. among x (uses (others (target .id) (d .curves)))) (ends .2 .is) ∙ ends .2 .unshared
+
+      module _ (valid : Valid limits d) (below : k < length (d .curves)) where
+        extends-so : (f : Drawing → Bool) → extendIn f d k at ≡ moveIn f d j v w
+        unfolding applyPlanned applyPlanAt applyPlanTo unlessRefused
+        extends-so f =
+            let u : extendCurve d at target (target .kind) ≡ Accepted (P.Move atB v w) = sym (i .plan) ∙ ap planOf g in
+            ap (applyPlanned f limits d (target .id)) u
+            ∙ ap (applyPlanAt f limits d (P.Move atB v w)) (look-at noCurve (d .next) 0 (d .curves) k (valid .curves-rise) below)
+            ∙ ap (moveEnd f limits d atB v w) (ends .1)
+            ∙ move-is valid j moving-within v w f atB (ends .0) (ends .2 .is)
+
+        pub move-extends : (before after : List ℕ) (r : EditedImage) → MoveAnswer d j v w before after r → ExtendWritten d k at before after r
+        unfolding checkMet guard
+        move-extends before after r m =
+            record {
+              written = subst (λ x. OutcomeWritten (ifFits (length before) x) before after r) (sym (extends-so allMet)) (m .written);
+              no-place = m .no-place;
+              unmet-before = λ x. absurd (m .not-13 x);
+              unmet-after = λ x d′ removed a. go (eqb (moveRefusal (d .points) (d .relations) j v w) 0) x d′ removed (sym (extends-so (λ d′. true)) ∙ a);
+            }
+          where
+            go : (b : Bool) → r .refusal ≡ 19 → (d′ : Drawing) (removed : Removed) → ite b (checkMet (λ d′. true) (drawingMoved d j v w)) (refused (moveRefusal (d .points) (d .relations) j v w)) ≡ accepted d′ removed → unmetAt d′ (r .place) ≡ true
+            go true x d′ removed a = let h : drawingMoved d j v w ≡ d′ = cc in ap (λ (t : Drawing). unmetAt t (r .place)) (sym h) ∙ m .unmet-after x
+            go false x d′ removed a = let z : _≡_ {A = ℕ} 0 1 = cc in absurd (omega arith)
+
+-- ---- the extend in an image
+
+line-so : {c : CurveKind} {i j : ℕ} → c ≡ Line i j → isLine c ≡ true
+line-so e = ap isLine e
+
+module _ (s : List ℕ) (b : Bytes s) (k : ℕ) (at : Vec2) (e : imageFault s ≡ 0) (below : k < length (drawingOf s .curves)) {t : List ℕ} {c : Curve} (et : t ≡ curveTable s) (ec : c ≡ readCurve (rowIn curveSize t k)) where
+  curve-so : c ≡ getD (drawingOf s .curves) k noCurve
+  curve-so = placed-curve s e k below et ec
+
+  pub image-no-line : (l : List ℕ) → OneOf others-than-line (tagOf K.the-type (c .kind)) → ExtendWritten (drawingOf s) k at l l (refusedAt 10 0)
+  image-no-line l h = no-line (drawingOf s) k at l (subst (λ (x : Curve). OneOf others-than-line (tagOf K.the-type (x .kind))) curve-so h)
+
+  module _ {u : ℕ} (eu : u ≡ firstUnmet (drawingOf s .points) (drawingOf s .curves) (drawingOf s .relations)) {r : List ℕ} {n : ℕ} (er : r ≡ relationTable s) (en : n ≡ length (relationsIn r)) where
+    pub image-unmet : (l : List ℕ) {i j : ℕ} → c .kind ≡ Line i j → u < n → ExtendWritten (drawingOf s) k at l l (refusedAt 13 u)
+    image-unmet l q h =
+        let f = met (drawingOf s .points) (drawingOf s .curves) in
+        let m : firstUnmet (drawingOf s .points) (drawingOf s .curves) (drawingOf s .relations) < length (drawingOf s .relations) = omega (arith, eu, counted-relations s e er en) in
+        unmet-first (drawingOf s) k at l (sym (ap (λ (x : Curve). isLine (x .kind)) curve-so) ∙ line-so q) (ap (failsAt f (drawingOf s .relations)) eu ∙ fails-there f (drawingOf s .relations) m)
+
+    module _ (h : n ≤ u) where
+      pub all-so : allMet (drawingOf s) ≡ true
+      all-so = none-fails (met (drawingOf s .points) (drawingOf s .curves)) (drawingOf s .relations) (omega (arith, eu, counted-relations s e er en))
+
+      module _ {y : EndPlan} (g : PlansExtendIn s k at y) where
+        planned : ExtendIn (drawingOf s) (getD (drawingOf s .curves) k noCurve) at y
+        planned = g e below all-so
+
+        pub image-plan-refused : (l : List ℕ) {m : ℕ} → y ≡ N.Refused m → ExtendWritten (drawingOf s) k at l l (refusedAt m 0)
+        image-plan-refused l q = plan-refused (drawingOf s) k at all-so planned l q
+
+        pub image-moved : {atB : Bool} {j : ℕ} {v : Vec2} {w : Pin} → y ≡ N.Move atB j v w → (before after : List ℕ) (a : EditedImage) → MovesIfMet s (c .id) j v w before after a → ExtendWritten (drawingOf s) k at before after a
+        image-moved {j = j} q before after a m =
+            let x = moving-within (drawingOf s) k at all-so planned q in
+            let z : among (pointIn (drawingOf s) j .id) (uses (others (c .id) (drawingOf s .curves))) ≡ false = ap (λ (i : Curve). among (pointIn (drawingOf s) j .id) (uses (others (i .id) (drawingOf s .curves)))) curve-so ∙ moving-alone (drawingOf s) k at all-so planned q in
+            move-extends (drawingOf s) k at all-so planned q (image-valid s e b) below before after a (m e all-so x z)
