@@ -9,3 +9,5 @@ pub mod Lifted
 pub mod ListDefinition
 pub mod MovedRows
 pub mod MoveDefinition
+pub mod NewImages
+pub mod PlanNumbers

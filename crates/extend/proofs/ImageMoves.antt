@@ -25,8 +25,9 @@ use Rattle.sketch.specs.Drawing.{Drawing, limits, curveIn}
 use Rattle.sketch.specs.Facts.{Valid}
 use Rattle.sketch.proofs.Bools.{never}
 use Rattle.sketch.proofs.Facts.{fault-valid}
-use Rattle.image.specs.Image.{drawingOf, imageFault}
-use Rattle.image.specs.Encode.{encode}
+use Rattle.image.specs.Image.{drawingOf, imageFault, parse}
+use Rattle.image.specs.Image as I
+use Rattle.image.specs.Encode.{encode, drawingSize}
 use Rattle.image.specs.Records.{pointSize, curveSize}
 use Rattle.image.specs.Decode.{readPoint, readCurve}
 use Rattle.image.proofs.GoodImages.{drawing-good}
@@ -44,6 +45,7 @@ use Rattle.edit_plan.specs.Outcome.{Outcome, refused, accepted, guard}
 use Rattle.edit_plan.specs.Tables.{okPosition, moved, uses, others}
 use Rattle.edit_plan.specs.Changes.{pinRelation}
 use Rattle.edit_plan.specs.Steps.{endsOf, isLine, nothing}
+use Rattle.edit_plan.specs.Suited.{Pinned}
 use Rattle.edit_plan.specs.ApplyPlan.{checkMet, moveEnd, applyPlanTo, applyPlanAt, applyPlan}
 use Rattle.edit_plan.proofs.Bridge.{unlessRefused}
 use Rattle.edit_plan.proofs.Loops.{look-at}
@@ -52,6 +54,9 @@ use Rattle.apply.specs.Applied.{Answered}
 use Rattle.apply.specs.Moved.{pinnedBy, pointIn, drawingMoved, moveRefusal}
 use Rattle.apply.proofs.MovedRows.{pinned-few, pinned-one, pinned-none}
 use Rattle.apply.proofs.MoveDefinition.{drawing-moved, move-is}
+use Rattle.apply.proofs.NewImages.{Numbers, new-image, drawing-numbers}
+use Rattle.apply.proofs.PlanNumbers.{VecNumbers, move-numbers}
+use Rattle.chains.proofs.Edits.{plan-valid}
 use Rattle.planning.specs.declared.PlanResult.the-variants.{Refused, Accepted}
 use Rattle.extend.specs.declared.EndPlan.{EndPlan}
 use Rattle.extend.specs.declared.EndPlan.the-variants as N
@@ -59,13 +64,14 @@ use Rattle.extend.specs.declared.EditedImage.{EditedImage}
 use Rattle.extend.specs.Extend.{extendCurve}
 use Rattle.extend.specs.ExtendAnswer.{applyPlanned, NoPlace}
 use Rattle.extend.specs.ExtendContracts.{planOf}
-use Rattle.extend.specs.ImageExtend.{ifFits, OutcomeWritten, extendIn, ExtendWritten}
-use Rattle.extend.specs.ImageExtendContracts.{FreeEnd, MovesEnd, ExtendIn, PlansExtendIn, refusedAt, moveIn, MoveAnswer, MovesIfMet}
+use Rattle.extend.specs.ImageExtend.{ifFits, OutcomeWritten, refusedAt, extendIn, ExtendWritten}
+use Rattle.extend.specs.ImageExtendContracts.{FreeEnd, MovesEnd, ExtendIn, PlansExtendIn, moveIn, MoveAnswer, MovesIfMet}
 use Rattle.extend.proofs.Refusing as F
 use Rattle.extend.proofs.Refusing.{extend-number}
 use Rattle.extend.proofs.ExtendPlans.{others-than-line, not-line, unmet-line}
 use Rattle.extend.proofs.Extends.{not-all}
-use Rattle.extend.proofs.OutcomesWritten.{editedBy, answered-outcome, refused-outcome}
+use Rattle.extend.proofs.Moves.{extend-moves-end}
+use Rattle.extend.proofs.OutcomesWritten.{editedBy, answered-outcome, refused-outcome, not-accepted}
 
 -- ---- lists of which one more entry stands last
 
@@ -244,7 +250,7 @@ module _ (d : Drawing) (k : ℕ) (at : Vec2) where
 
   refused-by : (l : List ℕ) (n : ℕ) → F.Told n → extendIn allMet d k at ≡ refused n → ((d′ : Drawing) (removed : Removed) → n ≡ 19 → extendIn (λ d′. true) d k at ≡ accepted d′ removed → ⊥) → ExtendWritten d k at l l (refusedAt n 0)
   refused-by l n h o u =
-      record { written = refused-outcome n 0 o; no-place = λ x y. refl; unmet-before = λ x. absurd (h .not-13 x); unmet-after = λ x d′ removed a. absurd (u d′ removed x a) }
+      record { written = refused-outcome n 0 o; sound = λ d′ removed a. not-accepted o a; no-place = λ x y. refl; unmet-before = λ x. absurd (h .not-13 x); unmet-after = λ x d′ removed a. absurd (u d′ removed x a) }
 
   pub no-line : (l : List ℕ) → OneOf others-than-line (tagOf K.the-type (target .kind)) → ExtendWritten d k at l l (refusedAt 10 0)
   unfolding applyPlanned
@@ -254,7 +260,7 @@ module _ (d : Drawing) (k : ℕ) (at : Vec2) where
   unfolding applyPlanned
   unmet-first l {j} q u =
       let o : extendIn allMet d k at ≡ refused 13 = ap (applyPlanned allMet limits d (target .id)) (sym (unmet-line d at target (target .kind) q (not-all d j u))) in
-      record { written = refused-outcome 13 j o; no-place = λ x y. absurd (x refl); unmet-before = λ x. u; unmet-after = λ x. absurd (omega arith) }
+      record { written = refused-outcome 13 j o; sound = λ d′ removed a. not-accepted o a; no-place = λ x y. absurd (x refl); unmet-before = λ x. u; unmet-after = λ x. absurd (omega arith) }
 
   module _ (all : allMet d ≡ true) {y : EndPlan} (i : ExtendIn d target at y) where
     pub plan-refused : (l : List ℕ) {n : ℕ} → y ≡ N.Refused n → ExtendWritten d k at l l (refusedAt n 0)
@@ -262,7 +268,7 @@ module _ (d : Drawing) (k : ℕ) (at : Vec2) where
     plan-refused l {n} g =
         let u : extendCurve d at target (target .kind) ≡ Refused n = sym (i .plan) ∙ ap planOf g in
         refused-by l n (extend-number d at target (target .kind) n all u) (ap (applyPlanned allMet limits d (target .id)) u)
-        (λ d′ removed z a. let b : refused n ≡ accepted d′ removed = sym (ap (applyPlanned (λ x. true) limits d (target .id)) u) ∙ a in let y : _≡_ {A = ℕ} 0 1 = cc in omega arith)
+        (λ d′ removed z a. not-accepted (ap (applyPlanned (λ x. true) limits d (target .id)) u) a)
 
     module _ {atB : Bool} {j : ℕ} {v : Vec2} {w : Pin} (g : y ≡ N.Move atB j v w) where
       ends : MovesEnd d target (N.Move atB j v w)
@@ -284,11 +290,30 @@ module _ (d : Drawing) (k : ℕ) (at : Vec2) where
             ∙ ap (moveEnd f limits d atB v w) (ends .1)
             ∙ move-is valid j moving-within v w f atB (ends .0) (ends .2 .is)
 
-        pub move-extends : (before after : List ℕ) (r : EditedImage) → MoveAnswer d j v w before after r → ExtendWritten d k at before after r
+        new-drawing : (d′ : Drawing) (removed : Removed) → extendIn allMet d k at ≡ accepted d′ removed → d′ ≡ drawingMoved d j v w
         unfolding checkMet guard
-        move-extends before after r m =
+        new-drawing d′ removed a = go (eqb (moveRefusal (d .points) (d .relations) j v w) 0) (allMet (drawingMoved d j v w)) (sym (extends-so allMet) ∙ a)
+          where
+            go : (b c : Bool) → ite b (guard c 19 (accepted (drawingMoved d j v w) nothing)) (refused (moveRefusal (d .points) (d .relations) j v w)) ≡ accepted d′ removed → d′ ≡ drawingMoved d j v w
+            go true true h = let z : drawingMoved d j v w ≡ d′ = cc in sym z
+            go true false h = not-accepted refl h
+            go false c h = not-accepted refl h
+
+        new-sound : Numbers d → VecNumbers v → (d′ : Drawing) (removed : Removed) → extendIn allMet d k at ≡ accepted d′ removed → (length (encode d′) ≡ drawingSize d′) × (parse (encode d′) ≡ I.accepted d′)
+        unfolding applyPlanned
+        new-sound ns fits d′ removed a =
+            let u : extendCurve d at target (target .kind) ≡ Accepted (P.Move atB v w) = sym (i .plan) ∙ ap planOf g in
+            let m = extend-moves-end d target at (P.Move atB v w) u .1 in
+            new-image d′
+            (plan-valid allMet limits d valid (target .id) (P.Move atB v w) d′ removed (sym (ap (applyPlanned allMet limits d (target .id)) u) ∙ a) (subst (Pinned d (target .id)) (sym (m .is)) (m .held)))
+            (subst Numbers (sym (new-drawing d′ removed a)) (move-numbers d j v w ns (fits .0) (fits .1)))
+
+        pub move-extends : Numbers d → VecNumbers v → (before after : List ℕ) (r : EditedImage) → MoveAnswer d j v w before after r → ExtendWritten d k at before after r
+        unfolding checkMet guard
+        move-extends ns fits before after r m =
             record {
               written = subst (λ x. OutcomeWritten (ifFits (length before) x) before after r) (sym (extends-so allMet)) (m .written);
+              sound = new-sound ns fits;
               no-place = m .no-place;
               unmet-before = λ x. absurd (m .not-13 x);
               unmet-after = λ x d′ removed a. go (eqb (moveRefusal (d .points) (d .relations) j v w) 0) x d′ removed (sym (extends-so (λ d′. true)) ∙ a);
@@ -332,4 +357,4 @@ module _ (s : List ℕ) (b : Bytes s) (k : ℕ) (at : Vec2) (e : imageFault s �
         image-moved {j = j} q before after a m =
             let x = moving-within (drawingOf s) k at all-so planned q in
             let z : among (pointIn (drawingOf s) j .id) (uses (others (c .id) (drawingOf s .curves))) ≡ false = ap (λ (i : Curve). among (pointIn (drawingOf s) j .id) (uses (others (i .id) (drawingOf s .curves)))) curve-so ∙ moving-alone (drawingOf s) k at all-so planned q in
-            move-extends (drawingOf s) k at all-so planned q (image-valid s e b) below before after a (m e all-so x z)
+            move-extends (drawingOf s) k at all-so planned q (image-valid s e b) below (drawing-numbers s) (m .0, m .1) before after a (m .2 e all-so x z)

@@ -10,11 +10,13 @@ use Rattle.geom.specs.declared.Vec2.{Vec2}
 use Rattle.sketch.specs.declared.Curve.{Curve}
 use Rattle.sketch.specs.Drawing.{Drawing, limits}
 use Rattle.sketch.specs.Blanks.{noCurve}
-use Rattle.image.specs.Image.{drawingOf, imageFault}
-use Rattle.image.specs.Encode.{encode}
+use Rattle.image.specs.Image.{drawingOf, imageFault, parse}
+use Rattle.image.specs.Image as I
+use Rattle.image.specs.Encode.{encode, drawingSize}
 use Rattle.relations.specs.Met.{allMet, unmetAt}
 use Rattle.edit_plan.specs.declared.Removed.{Removed}
 use Rattle.edit_plan.specs.Outcome.{Outcome, refused, accepted, guard}
+use Rattle.edit_plan.specs.Steps.{nothing}
 use Rattle.edit_plan.specs.Suited.{reportOf}
 use Rattle.extend.specs.declared.EditedImage.{EditedImage}
 use Rattle.extend.specs.Extend.{extendCurve}
@@ -47,6 +49,10 @@ pub record OutcomeWritten (o : Outcome Drawing Removed) (before after : List ℕ
   pub size : r .size ≡ sizeIn o
   pub bytes : after ≡ bufferWith o before
 
+-- a refusal, with the place of a relation or 0
+abbrev pub refusedAt : ℕ → ℕ → EditedImage
+refusedAt n place = record { refusal = n; place = place; removed = nothing; size = 0 }
+
 -- ---- an extend
 
 -- the extend of the curve at place k, picked at p, with a test of relations at its end
@@ -58,6 +64,8 @@ extendIn met d k p =
 -- the outcome, and with 13 and 19 the place of a relation that is not met, or would not be
 pub record ExtendWritten (d : Drawing) (k : ℕ) (p : Vec2) (before after : List ℕ) (r : EditedImage) : Type 0 where
   pub written : OutcomeWritten (ifFits (length before) (extendIn allMet d k p)) before after r
+  -- a new image is as long as it says, and is read as the new drawing
+  pub sound : (d′ : Drawing) (removed : Removed) → extendIn allMet d k p ≡ accepted d′ removed → (length (encode d′) ≡ drawingSize d′) × (parse (encode d′) ≡ I.accepted d′)
   pub no-place : NoPlace (r .refusal) (r .place)
   pub unmet-before : r .refusal ≡ 13 → unmetAt d (r .place) ≡ true
   pub unmet-after : r .refusal ≡ 19 → (d′ : Drawing) (removed : Removed) → extendIn (λ d′. true) d k p ≡ accepted d′ removed → unmetAt d′ (r .place) ≡ true

@@ -13,12 +13,13 @@ use Rattle.sketch.specs.Blanks.{noPoint, noCurve}
 use Rattle.sketch.specs.Lookup.{among}
 use Rattle.sketch.specs.Drawing.{Drawing, pointIds}
 use Rattle.image.specs.Image.{drawingOf, imageFault}
+use Rattle.image.specs.Stored.{Binary64}
 use Rattle.relations.specs.Met.{met, allMet, unmetAt}
 use Rattle.edit_plan.specs.Tables.{moved, uses, others}
 use Rattle.edit_plan.specs.declared.Pin.{Pin}
 use Rattle.edit_plan.specs.declared.Removed.{Removed}
 use Rattle.edit_plan.specs.Outcome.{Outcome, refused}
-use Rattle.edit_plan.specs.Steps.{endsOf, nothing}
+use Rattle.edit_plan.specs.Steps.{endsOf}
 use Rattle.edit_plan.specs.ApplyPlan.{checkMet}
 use Rattle.apply.specs.Moved.{pinnedBy, pointIn, drawingMoved, moveRefusal}
 use Rattle.extend.specs.declared.EditedImage.{EditedImage}
@@ -71,10 +72,6 @@ PlansExtendIn s place p r =
 
 -- ---- the move
 
--- an answer without a place, and one of a relation
-abbrev pub refusedAt : ℕ → ℕ → EditedImage
-refusedAt n place = record { refusal = n; place = place; removed = nothing; size = 0 }
-
 -- the move of the point at place k to v, pinned there, with a test of relations at its end
 abbrev pub moveIn : (Drawing → Bool) → Drawing → ℕ → Vec2 → Pin → Outcome Drawing Removed
 moveIn met d k v w =
@@ -91,8 +88,9 @@ pub record MoveAnswer (d : Drawing) (k : ℕ) (v : Vec2) (w : Pin) (before after
   pub not-13 : r .refusal ≡ 13 → ⊥
   pub unmet-after : r .refusal ≡ 19 → unmetAt (drawingMoved d k v w) (r .place) ≡ true
 
--- of a point of a good image, whose relations are met, that no curve but `id` uses
+-- of a point of a good image, whose relations are met, that no curve but `id` uses; v is of the code's own type
 abbrev pub MovesIfMet : List ℕ → ℕ → ℕ → Vec2 → Pin → List ℕ → List ℕ → EditedImage → Type 0
 MovesIfMet s id k v w before after r =
-    imageFault s ≡ 0 → allMet (drawingOf s) ≡ true → k < length (drawingOf s .points) → among (pointIn (drawingOf s) k .id) (uses (others id (drawingOf s .curves))) ≡ false
-    → MoveAnswer (drawingOf s) k v w before after r
+    Binary64 (v .x) × Binary64 (v .y)
+    × (imageFault s ≡ 0 → allMet (drawingOf s) ≡ true → k < length (drawingOf s .points) → among (pointIn (drawingOf s) k .id) (uses (others id (drawingOf s .curves))) ≡ false
+    → MoveAnswer (drawingOf s) k v w before after r)

@@ -21,11 +21,11 @@ use rows::relations_of;
 use sketch::CurveKind;
 use sketch::Id;
 ghost use mathlib.Core.Path.{_≡_};
-ghost use Rattle.extend.specs.ImageExtend.{ExtendsImage};
-ghost use Rattle.extend.specs.ImageExtendContracts.{refusedAt, PinMet, MovesIfMet};
+ghost use Rattle.extend.specs.ImageExtend.{refusedAt, ExtendsImage};
+ghost use Rattle.extend.specs.ImageExtendContracts.{PinMet, MovesIfMet};
 
 // A refusal, with the place of a relation or 0.
-fn refused(number: u8, place: usize) -> EditedImage
+pub fn refused(number: u8, place: usize) -> EditedImage
     ensures { λ r. ⌜ r ≡ refusedAt number place ⌝ }
 {
     EditedImage {

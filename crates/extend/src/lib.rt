@@ -10,6 +10,7 @@ use edit_plan::Removed;
 pub use extending::extend_curve;
 use geom::Vec2;
 pub use image_moves::extend_image;
+pub use image_moves::refused;
 pub use moving::answer;
 
 // What becomes of the end of a line: the number of a refusal; or that the end, or (false) the start, the point at a place, moves.

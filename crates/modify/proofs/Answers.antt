@@ -70,17 +70,17 @@ module _ (s : Sketch) (id : ℕ) (p : Vec2) where
 
 -- ---- a sketch that no image gives is refused by 5 at most
 
-guard-number-low : (b : Bool) (n rest : ℕ) → n ≤ 5 → rest ≤ 5 → guardNumber b n rest ≤ 5
+pub guard-number-low : (b : Bool) (n rest : ℕ) → n ≤ 5 → rest ≤ 5 → guardNumber b n rest ≤ 5
 unfolding guardNumber
 guard-number-low true n rest h k = k
 guard-number-low false n rest h k = h
 
-table-low : {A : Type 0} (id : A → ℕ) (ok sound : A → Bool) (next last : ℕ) (l : List A) (rest : ℕ) → rest ≤ 5 → tableFault id ok sound next last l rest ≤ 5
+pub table-low : {A : Type 0} (id : A → ℕ) (ok sound : A → Bool) (next last : ℕ) (l : List A) (rest : ℕ) → rest ≤ 5 → tableFault id ok sound next last l rest ≤ 5
 table-low id ok sound next last [] rest h = h
 table-low id ok sound next last (a ∷ l) rest h =
     guard-number-low (ok a) 4 _ (omega arith) (guard-number-low (ltb last (id a) && ltb (id a) next && sound a) 5 _ (omega arith) (table-low id ok sound next (id a) l rest h))
 
-list-low : {A : Type 0} (ok sound : A → Bool) (l : List A) → listFault ok sound l ≤ 5
+pub list-low : {A : Type 0} (ok sound : A → Bool) (l : List A) → listFault ok sound l ≤ 5
 list-low ok sound [] = omega arith
 list-low ok sound (a ∷ l) = guard-number-low (ok a) 4 _ (omega arith) (guard-number-low (sound a) 5 _ (omega arith) (list-low ok sound l))
 

@@ -3,3 +3,5 @@ pub mod Untested
 pub mod Planned
 pub mod Answers
 pub mod Extended
+pub mod ImageFaults
+pub mod ImageEdits

@@ -1,3 +1,5 @@
 -- What the contracts of `modify` cite.
 pub mod Edits
+pub mod ImageEdits
+pub mod ImageContracts
 pub mod Contracts
