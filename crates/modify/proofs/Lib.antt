@@ -5,3 +5,4 @@ pub mod Answers
 pub mod Extended
 pub mod ImageFaults
 pub mod ImageEdits
+pub mod Numbered

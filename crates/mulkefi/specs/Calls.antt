@@ -5,7 +5,7 @@ use mathlib.Core.List.{List}
 use lib.ListN.{length, take, set}
 use lib.Ieee.{Float}
 use Rattle.big_endian.specs.Fields.{over}
-use Rattle.sketch.specs.Drawing.{Drawing, view}
+use Rattle.sketch.specs.Drawing.{Drawing}
 use Rattle.message.specs.declared.Operation.{Operation}
 use Rattle.image.specs.Image as I
 use Rattle.image.specs.Encode as E
@@ -14,11 +14,10 @@ use Rattle.message.specs.Message.{operationOf}
 use Rattle.edit_plan.specs.declared.Removed.{Removed}
 use Rattle.edit_plan.specs.Steps.{nothing}
 use Rattle.extend.specs.ExtendAnswer.{NoPlace}
-use Rattle.agreement.specs.Machines.{State, message, callOutcome}
-use Rattle.replication.specs.declared.Replica.{Replica}
+use Rattle.agreement.specs.Machines.{State, message}
 use Rattle.replication.specs.Protocol.{Edit, messageFor, protocol}
-use Rattle.replication.specs.Transitions.{stateOf, UnmetPlace}
-use Rattle.mulkefi.specs.Outcomes.{CallOutcome, refused, old, updated, onImage, deskOutcome, deskOn, wallOn}
+use Rattle.replication.specs.Transitions.{UnmetPlace}
+use Rattle.mulkefi.specs.Outcomes.{CallOutcome, refused, old, updated, onImage, deskOn, wallOn}
 
 -- the refusal's number, or 0
 abbrev pub numberOf : CallOutcome → ℕ
@@ -54,13 +53,6 @@ answerAfter (refused k) a = a
 answerAfter (old s) a = answerFor a s nothing
 answerAfter (updated s r) a = answerFor a s r
 
--- an outcome written: the number, the buffer afterwards, the answer
-pub record ResultWritten (v : CallOutcome) (buffer buffer′ answer answer′ : List ℕ) (r : ℕ) : Type 0 where
-  pub number : r ≡ numberOf v
-  pub image : buffer′ ≡ bufferAfter v buffer
-  pub sound : OutcomeSound v
-  pub numbers : answer′ ≡ answerAfter v answer
-
 -- what desk and wall answer alike: the low 16 bits are the number, those above a relation's place, 0 where the number comes with none
 pub record CallWritten (v : CallOutcome) (buffer buffer′ answer answer′ : List ℕ) (r : ℕ) : Type 0 where
   pub number : r % 65536 ≡ numberOf v
@@ -90,15 +82,6 @@ pub record DeskCallWritten (len count operation : ℕ) (e : Edit) (buffer buffer
   pub written : message′ ≡ messageAfter (deskCallOutcome buffer len count operation e (length message)) e message
   pub place : (d : Drawing) → I.parse (take len buffer) ≡ I.accepted d → UnmetPlace e d (r % 65536) (r / 65536)
 
--- the outcome of an edit of a replica, and what is written for it
-abbrev pub deskEditOutcome : Replica → Edit → ℕ → ℕ → CallOutcome
-deskEditOutcome s e buffer room = deskOutcome buffer (callOutcome protocol (stateOf s) (record { edit = e; room = room }))
-
-pub record DeskEditWritten (s : Replica) (e : Edit) (buffer buffer′ message message′ answer answer′ : List ℕ) (r : ℕ) : Type 0 where
-  pub served : CallWritten (deskEditOutcome s e (length buffer) (length message)) buffer buffer′ answer answer′ r
-  pub written : message′ ≡ messageAfter (deskEditOutcome s e (length buffer) (length message)) e message
-  pub place : UnmetPlace e (view (s .sketch)) (r % 65536) (r / 65536)
-
 -- ---- the wall
 
 -- the image as at the desk, and a message's bytes
@@ -109,8 +92,3 @@ wallCallOutcome buffer len count bytes = onImage (I.parse (take len buffer)) cou
 pub record WallCallWritten (len count : ℕ) (bytes buffer buffer′ answer answer′ : List ℕ) (r : ℕ) : Type 0 where
   pub served : CallWritten (wallCallOutcome buffer len count bytes) buffer buffer′ answer answer′ r
   pub place : (d : Drawing) → I.parse (take len buffer) ≡ I.accepted d → (n : ℕ) (e : Edit) → protocol .decode bytes ≡ message n e → UnmetPlace e d (r % 65536) (r / 65536)
-
--- what is written for a delivery to a replica
-pub record WallDeliveryWritten (s : Replica) (bytes buffer buffer′ answer answer′ : List ℕ) (r : ℕ) : Type 0 where
-  pub served : CallWritten (wallOn (length buffer) bytes (stateOf s)) buffer buffer′ answer answer′ r
-  pub place : (n : ℕ) (e : Edit) → protocol .decode bytes ≡ message n e → UnmetPlace e (view (s .sketch)) (r % 65536) (r / 65536)

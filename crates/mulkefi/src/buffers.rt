@@ -1,20 +1,15 @@
-// Writes to the memory that a host lends, for desk and wall alike.
+// Images tested, and results written to the memory that a host lends, for desk and wall alike.
 use crate::AnswerField;
 use edit_plan::Removed;
-use image::CURVE_SIZE;
-use image::HEADER_SIZE;
-use image::POINT_SIZE;
-use image::RELATION_SIZE;
-use replication::Replica;
+use extend::EditedImage;
+use message::EditNumber;
 ghost use mathlib.Core.Path.{_≡_};
 ghost use Prim.Native.Nat.{_≤_, _/_, _%_};
 ghost use lib.ListN.{length};
 ghost use lib.Dec.{leb};
 ghost use Rattle.sketch.specs.Lists.{ite};
-ghost use Rattle.sketch.specs.Valid.{sketchFault};
-ghost use Rattle.replication.specs.Transitions.{stateOf};
-ghost use Rattle.mulkefi.specs.Outcomes.{ifImageFits};
-ghost use Rattle.mulkefi.specs.Calls.{answerFor, ResultWritten};
+ghost use Rattle.image.specs.Image.{maxImageSize};
+ghost use Rattle.mulkefi.specs.Contracts.{firstFault, answerWith, ResultWritten};
 
 // Above this stands the place of a relation.
 const PLACES: usize = 65536;
@@ -32,39 +27,56 @@ pub(crate) fn refusal(number: u8, place: usize) -> u32
     number as u32 + (place % PLACES) as u32 * PLACES as u32
 }
 
-// The count, the image's size and the report.
-pub(crate) fn write_answer(replica: Replica, removed: Removed, answer: &mut [AnswerField; 5])
-    requires { ⌜ sketchFault (replica .sketch) ≡ 0 ⌝ }
-    ensures { λ r. ⌜ now (answer .exit) ≡ answerFor (now (answer .entry)) (stateOf replica) removed ⌝ }
+// The number that an image is refused by, or else the number given.
+pub(crate) fn first_fault(image: &[u8], number: u32) -> u32
+    ensures { λ r. ⌜ r ≡ firstFault (now (image .entry)) number ⌝ }
 {
-    let np = replica.sketch.npoints;
-    let nc = replica.sketch.ncurves;
-    let nr = replica.sketch.nrelations;
-    answer[0] = replica.count;
-    answer[1] = (HEADER_SIZE
-        + np * POINT_SIZE
-        + nc * CURVE_SIZE
-        + nr * RELATION_SIZE) as AnswerField;
+    let mut near = [0u16; 1024];
+    let fault = rows::image_fault(image, &mut near);
+    if fault != 0 {
+        return fault as u32;
+    }
+    number
+}
+
+// The count, the image's size and the report.
+pub(crate) fn write_answer(
+    count: EditNumber,
+    size: usize,
+    removed: Removed,
+    answer: &mut [AnswerField; 5],
+)
+    requires { ⌜ size ≤ maxImageSize ⌝ }
+    ensures { λ r. ⌜ now (answer .exit) ≡ answerWith (now (answer .entry)) count size removed ⌝ }
+{
+    answer[0] = count;
+    answer[1] = size as AnswerField;
     answer[2] = removed.curve;
     answer[3] = removed.from;
     answer[4] = removed.to;
 }
 
-// The image goes to the buffer's front, and count, size and report to the answer; or both are left, and the buffer is too short (25).
+// An edit's result: the new image, which stands at the front of `out`, goes to the buffer's front, and count, size and report to the
+// answer; or both are left, where the edit was refused, or the buffer is too short (25).
 pub(crate) fn write_result(
-    replica: Replica,
-    removed: Removed,
+    edited: EditedImage,
+    count: EditNumber,
+    out: &[u8],
     buffer: &mut [u8],
     answer: &mut [AnswerField; 5],
 ) -> u32
-    requires { ⌜ sketchFault (replica .sketch) ≡ 0 ⌝ }
-    ensures { λ r. ⌜ ResultWritten (ifImageFits (length (now (buffer .entry))) (stateOf replica) removed) (now (buffer .entry)) (now (buffer .exit)) (now (answer .entry)) (now (answer .exit)) r ⌝ }
+    requires { ⌜ (edited .size ≤ maxImageSize) × (maxImageSize ≤ length (now out)) ⌝ }
+    ensures { λ r. ⌜ ResultWritten edited count (now (out .entry)) (now (buffer .entry)) (now (buffer .exit)) (now (answer .entry)) (now (answer .exit)) r ⌝ }
 {
-    let sk = replica.sketch;
-    let number = sketch_image::write(sk, buffer);
-    if number != 0 {
-        return number as u32;
+    if edited.refusal != 0 {
+        return refusal(edited.refusal, edited.place);
     }
-    write_answer(replica, removed, answer);
+    let size = edited.size;
+    if buffer.len() < size {
+        return 25;
+    }
+    rows::put_run(&out[..size], buffer, 0);
+    let removed = edited.removed;
+    write_answer(count, size, removed, answer);
     0
 }

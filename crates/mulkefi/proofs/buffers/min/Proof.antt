@@ -1,4 +1,4 @@
--- `mulkefi::lent::min` meets its contract.
+-- `mulkefi::buffers::min` meets its contract.
 use Rattle.replication.proofs.Program.{least-first, least-second}
 use Rattle.mulkefi.proofs.buffers.min.Statement.{statement}
 use Rattle.mulkefi.proofs.buffers.min.Tie as tie
