@@ -24,7 +24,7 @@ use Rattle.edit_plan.specs.Tables.{okPosition, moved, movePoint, withRelation}
 use Rattle.edit_plan.specs.Steps.{pin}
 use Rattle.edit_plan.specs.ApplyPlan.{checkMet, moveEnd}
 use Rattle.edit_plan.proofs.Bridge.{unlessRefused}
-use Rattle.apply.specs.Moved.{pinnedBy, movedTo, pointIn, drawingMoved, moveRefusal}
+use Rattle.apply.specs.Moved.{pinnedBy, movedTo, pointAtPlace, drawingMoved, moveRefusal}
 
 -- ---- ids rise, so that the point at a place alone is moved
 
@@ -82,11 +82,11 @@ module _ (d : Drawing) (p : ℕ) (f : Drawing → Unit {0} → Outcome Drawing R
 
 module _ {d : Drawing} (valid : Valid limits d) (k : ℕ) (below : k < length (d .points)) (v : Vec2) (w : Pin) where
   abbrev p : ℕ
-  p = pointIn d k .id
+  p = pointAtPlace d k .id
 
-  points-are : set (d .points) k (movedTo v (pointIn d k)) ≡ map (moved p v) (d .points)
+  points-are : set (d .points) k (movedTo v (pointAtPlace d k)) ≡ map (moved p v) (d .points)
   points-are =
-      let u : moved p v (pointIn d k) ≡ movedTo v (pointIn d k) = rw (eq-eqb p p refl) in
+      let u : moved p v (pointAtPlace d k) ≡ movedTo v (pointAtPlace d k) = rw (eq-eqb p p refl) in
       ap (set (d .points) k) (sym u) ∙ one-moved v p (d .next) 0 (d .points) k (valid .points-rise) below refl
 
   pub drawing-moved : drawingMoved d k v w ≡ record { next = d .next; points = map (moved p v) (d .points); curves = d .curves; relations = d .relations ++ pinnedBy w p }

@@ -37,7 +37,7 @@ use Rattle.edit_plan.specs.Changes.{isCircle, isWhole, startOf, endOf, pieceOf,
 use Rattle.edit_plan.proofs.PinnedPoint as W
 use Rattle.edit_plan.proofs.Plan as P
 use Rattle.apply.specs.Applied.{targetIn, planExtent, planOrphans, planChange, changedBy, withoutCurve, drawingAfter}
-use Rattle.apply.specs.Moved.{pinnedBy, movedTo, pointIn, drawingMoved}
+use Rattle.apply.specs.Moved.{pinnedBy, movedTo, pointAtPlace, drawingMoved}
 use Rattle.apply.proofs.RowRuns.{each-append, each-take, each-drop, each-set, each-keep, each-all}
 use Rattle.apply.proofs.NewImages.{PointNumbers, KindNumber, CurveNumbers, RelationNumber, Numbers}
 
@@ -273,7 +273,7 @@ pinned-numbers (At e) p = go (eqb e p)
 pub move-numbers : (d : Drawing) (k : ℕ) (v : Vec2) (w : Pin) → Numbers d → Binary64 (v .x) → Binary64 (v .y) → Numbers (drawingMoved d k v w)
 move-numbers d k v w n x y =
     record {
-      points = each-set PointNumbers k (d .points) (movedTo v (pointIn d k)) (x, y) (n .points);
+      points = each-set PointNumbers k (d .points) (movedTo v (pointAtPlace d k)) (x, y) (n .points);
       curves = n .curves;
-      relations = each-append RelationNumber (d .relations) (pinnedBy w (pointIn d k .id)) (n .relations) (pinned-numbers w (pointIn d k .id));
+      relations = each-append RelationNumber (d .relations) (pinnedBy w (pointAtPlace d k .id)) (n .relations) (pinned-numbers w (pointAtPlace d k .id));
     }

@@ -28,17 +28,17 @@ pinnedBy (At e) p = ite (eqb e p) [] (Coincident p e ∷ [])
 abbrev pub movedTo : Vec2 → Point → Point
 movedTo v p = record { id = p .id; fixed = p .fixed; x = v .x; y = v .y }
 
-abbrev pub pointIn : Drawing → ℕ → Point
-pointIn d k = getD (d .points) k noPoint
+abbrev pub pointAtPlace : Drawing → ℕ → Point
+pointAtPlace d k = getD (d .points) k noPoint
 
 -- the point at place k is moved to v, and the pin's relation stands last
 abbrev pub drawingMoved : Drawing → ℕ → Vec2 → Pin → Drawing
 drawingMoved d k v w =
     record {
       next = d .next;
-      points = set (d .points) k (movedTo v (pointIn d k));
+      points = set (d .points) k (movedTo v (pointAtPlace d k));
       curves = d .curves;
-      relations = d .relations ++ pinnedBy w (pointIn d k .id);
+      relations = d .relations ++ pinnedBy w (pointAtPlace d k .id);
     }
 
 -- 8 where there is no such point, 24 where it would be out of range, 22 where there is no room for the relation

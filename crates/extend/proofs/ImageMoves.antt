@@ -51,7 +51,7 @@ use Rattle.edit_plan.proofs.Bridge.{unlessRefused}
 use Rattle.edit_plan.proofs.Loops.{look-at}
 use Rattle.apply.specs.declared.Applied.{Applied}
 use Rattle.apply.specs.Applied.{Answered}
-use Rattle.apply.specs.Moved.{pinnedBy, pointIn, drawingMoved, moveRefusal}
+use Rattle.apply.specs.Moved.{pinnedBy, pointAtPlace, drawingMoved, moveRefusal}
 use Rattle.apply.proofs.MovedRows.{pinned-few, pinned-one, pinned-none}
 use Rattle.apply.proofs.MoveDefinition.{drawing-moved, move-is}
 use Rattle.apply.proofs.NewImages.{Numbers, new-image, drawing-numbers}
@@ -129,7 +129,7 @@ module _ (d : Drawing) (k : ℕ) (v : Vec2) (w : Pin) where
   after-move = drawingMoved d k v w
 
   abbrev p : ℕ
-  p = pointIn d k .id
+  p = pointAtPlace d k .id
 
   pub move-refused-by : {n : ℕ} (l : List ℕ) → n ≡ number → (n ≡ 0 → ⊥) → MoveAnswer d k v w l l (refusedAt n 0)
   move-refused-by {n} l e h =
@@ -167,9 +167,9 @@ module _ (d : Drawing) (k : ℕ) (v : Vec2) (w : Pin) where
 -- ---- which relations are met then
 
 module _ {d : Drawing} (valid : Valid limits d) (k : ℕ) (below : k < length (d .points)) (v : Vec2) (w : Pin) (all : allMet d ≡ true) (id : ℕ)
-    (alone : among (pointIn d k .id) (uses (others id (d .curves))) ≡ false) where
+    (alone : among (pointAtPlace d k .id) (uses (others id (d .curves))) ≡ false) where
   abbrev q : ℕ
-  q = pointIn d k .id
+  q = pointAtPlace d k .id
 
   abbrev shifted : List Point
   shifted = map (moved q v) (d .points)
@@ -203,7 +203,7 @@ module _ (s : List ℕ) (e : imageFault s ≡ 0) where
   pub counted-relations : {t : List ℕ} {n : ℕ} → t ≡ relationTable s → n ≡ length (relationsIn t) → n ≡ length (drawingOf s .relations)
   counted-relations u h = h ∙ ap (λ x. length (relationsIn x)) u ∙ ap length (relations-in s e)
 
-  pub placed-point : (k : ℕ) {t : List ℕ} {p : Point} → k < length (drawingOf s .points) → t ≡ pointTable s → p ≡ readPoint (rowIn pointSize t k) → p ≡ pointIn (drawingOf s) k
+  pub placed-point : (k : ℕ) {t : List ℕ} {p : Point} → k < length (drawingOf s .points) → t ≡ pointTable s → p ≡ readPoint (rowIn pointSize t k) → p ≡ pointAtPlace (drawingOf s) k
   placed-point k h u g = let w = holds-points s e in g ∙ ap (λ x. readPoint (rowIn pointSize x k)) u ∙ held-point w k (omega (arith, held-points w))
 
   pub placed-curve : (k : ℕ) {t : List ℕ} {c : Curve} → k < length (drawingOf s .curves) → t ≡ curveTable s → c ≡ readCurve (rowIn curveSize t k) → c ≡ getD (drawingOf s .curves) k noCurve
@@ -215,23 +215,23 @@ module _ (s : List ℕ) (e : imageFault s ≡ 0) where
 -- ---- the move in an image
 
 module _ (s : List ℕ) (b : Bytes s) (id k : ℕ) (v : Vec2) (w : Pin) (e : imageFault s ≡ 0) (all : allMet (drawingOf s) ≡ true) (below : k < length (drawingOf s .points))
-    (alone : among (pointIn (drawingOf s) k .id) (uses (others id (drawingOf s .curves))) ≡ false) {number : ℕ} (u : number ≡ moveRefusal (drawingOf s .points) (drawingOf s .relations) k v w) (z : number ≡ 0)
+    (alone : among (pointAtPlace (drawingOf s) k .id) (uses (others id (drawingOf s .curves))) ≡ false) {number : ℕ} (u : number ≡ moveRefusal (drawingOf s .points) (drawingOf s .relations) k v w) (z : number ≡ 0)
     {t : List ℕ} {p : Point} (et : t ≡ pointTable s) (ep : p ≡ readPoint (rowIn pointSize t k)) {r : List ℕ} {n : ℕ} (er : r ≡ relationTable s) (en : n ≡ length (relationsIn r))
     {j : ℕ} (ej : j ≡ firstNamedUnmet (p .id) v id (drawingOf s)) where
-  point-so : p ≡ pointIn (drawingOf s) k
+  point-so : p ≡ pointAtPlace (drawingOf s) k
   point-so = placed-point s e k below et ep
 
   count-so : n ≡ length (drawingOf s .relations)
   count-so = counted-relations s e er en
 
-  first-so : j ≡ firstNamedUnmet (pointIn (drawingOf s) k .id) v id (drawingOf s)
+  first-so : j ≡ firstNamedUnmet (pointAtPlace (drawingOf s) k .id) v id (drawingOf s)
   first-so = ej ∙ ap (λ (x : Point). firstNamedUnmet (x .id) v id (drawingOf s)) point-so
 
   pub answer-unmet : (l : List ℕ) → j < n → MoveAnswer (drawingOf s) k v w l l (refusedAt 19 j)
   answer-unmet l h = move-unmet (drawingOf s) k v w (sym u ∙ z) l (named-unmet (image-valid s e b) k below v w all id alone first-so (omega (arith, count-so)))
 
   module _ (h : n ≤ j) {m : Bool} (em : m ≡ every (met (map (moved (p .id) v) (drawingOf s .points)) (drawingOf s .curves)) (pinnedBy w (p .id))) where
-    pin-so : m ≡ every (met (map (moved (pointIn (drawingOf s) k .id) v) (drawingOf s .points)) (drawingOf s .curves)) (pinnedBy w (pointIn (drawingOf s) k .id))
+    pin-so : m ≡ every (met (map (moved (pointAtPlace (drawingOf s) k .id) v) (drawingOf s .points)) (drawingOf s .curves)) (pinnedBy w (pointAtPlace (drawingOf s) k .id))
     pin-so = em ∙ ap (λ (x : Point). every (met (map (moved (x .id) v) (drawingOf s .points)) (drawingOf s .curves)) (pinnedBy w (x .id))) point-so
 
     pub answer-pin-unmet : (l : List ℕ) → not m ≡ true → MoveAnswer (drawingOf s) k v w l l (refusedAt 19 n)
@@ -277,7 +277,7 @@ module _ (d : Drawing) (k : ℕ) (at : Vec2) where
       pub moving-within : j < length (d .points)
       moving-within = ends .2 .within
 
-      pub moving-alone : among (pointIn d j .id) (uses (others (target .id) (d .curves))) ≡ false
+      pub moving-alone : among (pointAtPlace d j .id) (uses (others (target .id) (d .curves))) ≡ false
       moving-alone = ap (λ x. among x (uses (others (target .id) (d .curves)))) (ends .2 .is) ∙ ends .2 .unshared
 
       module _ (valid : Valid limits d) (below : k < length (d .curves)) where
@@ -356,5 +356,5 @@ module _ (s : List ℕ) (b : Bytes s) (k : ℕ) (at : Vec2) (e : imageFault s �
         pub image-moved : {atB : Bool} {j : ℕ} {v : Vec2} {w : Pin} → y ≡ N.Move atB j v w → (before after : List ℕ) (a : EditedImage) → MovesIfMet s (c .id) j v w before after a → ExtendWritten (drawingOf s) k at before after a
         image-moved {j = j} q before after a m =
             let x = moving-within (drawingOf s) k at all-so planned q in
-            let z : among (pointIn (drawingOf s) j .id) (uses (others (c .id) (drawingOf s .curves))) ≡ false = ap (λ (i : Curve). among (pointIn (drawingOf s) j .id) (uses (others (i .id) (drawingOf s .curves)))) curve-so ∙ moving-alone (drawingOf s) k at all-so planned q in
+            let z : among (pointAtPlace (drawingOf s) j .id) (uses (others (c .id) (drawingOf s .curves))) ≡ false = ap (λ (i : Curve). among (pointAtPlace (drawingOf s) j .id) (uses (others (i .id) (drawingOf s .curves)))) curve-so ∙ moving-alone (drawingOf s) k at all-so planned q in
             move-extends (drawingOf s) k at all-so planned q (image-valid s e b) below (drawing-numbers s) (m .0, m .1) before after a (m .2 e all-so x z)

@@ -21,7 +21,7 @@ use Rattle.edit_plan.specs.declared.Removed.{Removed}
 use Rattle.edit_plan.specs.Outcome.{Outcome, refused}
 use Rattle.edit_plan.specs.Steps.{endsOf}
 use Rattle.edit_plan.specs.ApplyPlan.{checkMet}
-use Rattle.apply.specs.Moved.{pinnedBy, pointIn, drawingMoved, moveRefusal}
+use Rattle.apply.specs.Moved.{pinnedBy, pointAtPlace, drawingMoved, moveRefusal}
 use Rattle.extend.specs.declared.EditedImage.{EditedImage}
 use Rattle.extend.specs.ExtendAnswer.{NoPlace}
 use Rattle.extend.specs.ImageExtend.{ifFits, OutcomeWritten}
@@ -92,5 +92,5 @@ pub record MoveAnswer (d : Drawing) (k : ℕ) (v : Vec2) (w : Pin) (before after
 abbrev pub MovesIfMet : List ℕ → ℕ → ℕ → Vec2 → Pin → List ℕ → List ℕ → EditedImage → Type 0
 MovesIfMet s id k v w before after r =
     Binary64 (v .x) × Binary64 (v .y)
-    × (imageFault s ≡ 0 → allMet (drawingOf s) ≡ true → k < length (drawingOf s .points) → among (pointIn (drawingOf s) k .id) (uses (others id (drawingOf s .curves))) ≡ false
+    × (imageFault s ≡ 0 → allMet (drawingOf s) ≡ true → k < length (drawingOf s .points) → among (pointAtPlace (drawingOf s) k .id) (uses (others id (drawingOf s .curves))) ≡ false
     → MoveAnswer (drawingOf s) k v w before after r)

@@ -28,7 +28,7 @@ use Rattle.modify.proofs.Untested.{untested-valid}
 use Rattle.probe.proofs.Places.{place-low}
 
 -- a place below 65536 fits above the number
-place-is : (p : ℕ) → p < 65536 → p % 65536 ≡ p
+pub place-is : (p : ℕ) → p < 65536 → p % 65536 ≡ p
 place-is p l = omega arith
 
 -- ---- no edit

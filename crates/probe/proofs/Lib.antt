@@ -2,7 +2,9 @@ pub mod Answers
 pub mod Crossed
 pub mod EditsMade
 pub mod EditsWritten
+pub mod ImageEditsMade
 pub mod Places
 pub mod ReplicaSums
+pub mod ReportedImages
 pub mod Sums
 pub mod RootsAnswer

@@ -1,4 +1,5 @@
 pub mod Edits
+pub mod EditContracts
 pub mod Polynomials
 pub mod Probe
 pub mod Relations

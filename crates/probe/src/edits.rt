@@ -6,45 +6,50 @@ use message::Operation;
 use message::is_operation;
 use message::operation_of;
 use sketch::Id;
-use sketch::Sketch;
 ghost use mathlib.Core.Path.{_≡_};
 ghost use Prim.Native.Nat.{_+_, _*_, _%_};
 ghost use Rattle.geom.specs.Plane.{vec};
-ghost use Rattle.sketch.specs.Drawing.{view, limits};
-ghost use Rattle.sketch.specs.Valid.{sketchFault};
-ghost use Rattle.edit_plan.specs.Outcome.{accepted};
-ghost use Rattle.modify.specs.Edits.{editOf};
-ghost use Rattle.probe.specs.Edits.{Wrote, EditMade, editAdds, repeated, editsSum};
+ghost use Rattle.image.specs.Image.{imageFault};
+ghost use Rattle.probe.specs.Edits.{EditMade, editsSum};
+ghost use Rattle.probe.specs.EditContracts.{ReportEnd, ReportPut, EditAdds, EditsSum};
 
 // A report's size in bytes.
 const REPORT: usize = 12;
 
 // A refusal's number, and above its 16 bits the place that comes with 13 and 19.
-fn with_place(refusal: u8, place: usize) -> u32
+pub fn with_place(refusal: u8, place: usize) -> u32
     ensures { λ r. ⌜ r ≡ refusal + place % 65536 * 65536 ⌝ }
 {
     refusal as u32 + (place % 65536) as u32 * 65536
 }
 
-// The report and then the image to the buffer's front; or 25, and the buffer is left.
-fn write_edited(sk: Sketch, removed: Removed, out: &mut [u8]) -> u32
-    requires { ⌜ sketchFault sk ≡ 0 ⌝ }
-    ensures { λ r. ⌜ Wrote (accepted (view sk) removed) (now (out .entry)) (now (out .exit)) r ⌝ }
+// Where the image begins in a buffer of so many bytes: behind the report, or at the end of a buffer that is too short for one.
+fn report_end(room: usize) -> usize
+    ensures { λ r. ⌜ ReportEnd room r ⌝ }
 {
-    if out.len() < REPORT {
-        return 25;
+    if room < REPORT {
+        return room;
     }
-    let number = sketch_image::write(sk, &mut out[REPORT..]);
-    if number != 0 {
-        return number as u32;
-    }
+    REPORT
+}
+
+fn put_report(removed: Removed, out: &mut [u8])
+    ensures { λ r. ⌜ ReportPut removed (now (out .entry)) (now (out .exit)) ⌝ }
+{
     put4(out, 0, removed.curve as u64);
     put4(out, 4, removed.from as u64);
     put4(out, 8, removed.to as u64);
-    0
 }
 
-// Reads an image and makes an edit by its operation's number.
+// The number that an image is refused by, or 0.
+fn number_of_image(bytes: &[u8]) -> u32
+    ensures { λ r. ⌜ r ≡ imageFault (now (bytes .entry)) ⌝ }
+{
+    let mut near = [0u16; 1024];
+    rows::image_fault(bytes, &mut near) as u32
+}
+
+// An edit of an image by its operation's number. Nothing is written by a refusal.
 #[no_mangle]
 pub extern "C" fn mulkefi_edit(
     operation: u32,
@@ -56,51 +61,54 @@ pub extern "C" fn mulkefi_edit(
 ) -> u32
     ensures { λ r. ⌜ EditMade operation (now (bytes .entry)) curve (vec x y) (now (out .entry)) (now (out .exit)) r ⌝ }
 {
-    let r = sketch_image::read(bytes);
-    if r.refusal != 0 {
-        return r.refusal as u32;
-    }
     if !is_operation(operation) {
+        let fault = number_of_image(bytes);
+        if fault != 0 {
+            return fault;
+        }
         return 6;
     }
-    let sk = r.sketch;
-    let e = modify::edit(operation_of(operation), sk, curve, Vec2 { x, y });
-    if e.refusal != 0 {
+    let start = report_end(out.len());
+    let e = modify::edit_image(
+        operation_of(operation),
+        bytes,
+        curve,
+        Vec2 { x, y },
+        &mut out[start..],
+    );
+    if e.size == 0 {
         return with_place(e.refusal, e.place);
     }
-    let after = e.sketch;
-    let removed = e.removed;
-    write_edited(after, removed, out)
+    put_report(e.removed, out);
+    0
 }
 
 // What one edit adds to a sum: a refusal's number, or the next id and the id of the removed curve.
-fn edit_adds(operation: Operation, sk: Sketch, curve: Id, at: Vec2) -> u32
-    requires { ⌜ sketchFault sk ≡ 0 ⌝ }
-    ensures { λ r. ⌜ r ≡ editAdds (editOf operation limits (view sk) curve at) ⌝ }
+fn edit_adds(operation: Operation, bytes: &[u8], curve: Id, at: Vec2, out: &mut [u8]) -> u32
+    ensures { λ r. ⌜ EditAdds operation (now (bytes .entry)) curve at (now (out .entry)) r ⌝ }
 {
-    let e = modify::edit(operation, sk, curve, at);
-    if e.refusal != 0 {
+    let e = modify::edit_image(operation, bytes, curve, at, out);
+    if e.size == 0 {
         return e.refusal as u32;
     }
-    let after = e.sketch;
     let removed = e.removed;
-    std::num::wrapping_add_u32(after.next, removed.curve)
+    std::num::wrapping_add_u32(rows::next_id(&out[..]), removed.curve)
 }
 
-fn edits_sum(operation: Operation, sk: Sketch, curve: Id, at: Vec2, times: u32) -> u32
-    requires { ⌜ sketchFault sk ≡ 0 ⌝ }
-    ensures { λ r. ⌜ r ≡ repeated times (editAdds (editOf operation limits (view sk) curve at)) ⌝ }
+fn edits_sum(operation: Operation, bytes: &[u8], curve: Id, at: Vec2, times: u32) -> u32
+    ensures { λ r. ⌜ EditsSum operation (now (bytes .entry)) curve at times r ⌝ }
 {
+    let mut out = [0u8; image::MAX_IMAGE_SIZE];
     let mut sum = 0u32;
     let mut i = 0u32;
     while i < times {
-        sum = std::num::wrapping_add_u32(sum, edit_adds(operation, sk, curve, at));
+        sum = std::num::wrapping_add_u32(sum, edit_adds(operation, bytes, curve, at, &mut out));
         i += 1;
     }
     sum
 }
 
-// Reads an image and makes an edit of its sketch so many times, each on what was read.
+// Makes an edit of an image so many times, each of the same bytes.
 #[no_mangle]
 pub extern "C" fn mulkefi_edit_repeated(
     operation: u32,
@@ -112,13 +120,12 @@ pub extern "C" fn mulkefi_edit_repeated(
 ) -> u32
     ensures { λ r. ⌜ r ≡ editsSum operation (now (bytes .entry)) curve (vec x y) times ⌝ }
 {
-    let r = sketch_image::read(bytes);
-    if r.refusal != 0 {
-        return r.refusal as u32;
+    let fault = number_of_image(bytes);
+    if fault != 0 {
+        return fault;
     }
     if !is_operation(operation) {
         return 6;
     }
-    let sk = r.sketch;
-    edits_sum(operation_of(operation), sk, curve, Vec2 { x, y }, times)
+    edits_sum(operation_of(operation), bytes, curve, Vec2 { x, y }, times)
 }

@@ -4,6 +4,7 @@ mod numbers;
 mod polynomials;
 mod replicas;
 mod shapes;
+mod typed_edits;
 mod verdicts;
 
 use message::MessageRead;

@@ -6,7 +6,7 @@ use crate::hex::Hex;
 use crate::number::Number;
 use crate::shrink;
 use crate::simpler;
-use crate::subject::Subject;
+use crate::subject::{self, Subject};
 use oracle::bytes::{f64_at, put};
 use oracle::call::{self, Call};
 use oracle::generate::fields::{Role, Tables};
@@ -15,11 +15,23 @@ use oracle::image;
 use std::fmt;
 use std::marker::PhantomData;
 
-/// What is compared with the oracle.
+/// A side of the comparison.
 pub trait Implementation {
+    /// Whether it is the typed call, which is named apart.
+    const TYPED: bool = false;
     fn edit(call: &Call, out: &mut [u8]) -> u32;
 }
 
+/// Upstream's Rust behind the tests of images and edits.
+pub struct Oracle;
+
+impl Implementation for Oracle {
+    fn edit(call: &Call, out: &mut [u8]) -> u32 {
+        call.make(out)
+    }
+}
+
+/// The engine's call from image to image.
 struct Engine;
 
 impl Implementation for Engine {
@@ -28,9 +40,20 @@ impl Implementation for Engine {
     }
 }
 
+/// The engine's typed call, over a sketch by value.
+struct TypedEngine;
+
+impl Implementation for TypedEngine {
+    const TYPED: bool = true;
+    fn edit(call: &Call, out: &mut [u8]) -> u32 {
+        engine::edits::typed_edit(call.operation, &call.image, call.curve, call.x, call.y, out)
+    }
+}
+
 /// Which edits are generated.
 pub trait Edits {
     const NAME: &'static str;
+    const TYPED_NAME: &'static str;
     fn call(random: &mut Random) -> Call;
 }
 
@@ -38,6 +61,7 @@ pub struct TrimsAndSplits;
 
 impl Edits for TrimsAndSplits {
     const NAME: &'static str = "trims and splits";
+    const TYPED_NAME: &'static str = "trims and splits by the typed call, against the image call";
     fn call(random: &mut Random) -> Call {
         calls::cut(random)
     }
@@ -47,17 +71,22 @@ pub struct Extends;
 
 impl Edits for Extends {
     const NAME: &'static str = "extends";
+    const TYPED_NAME: &'static str = "extends by the typed call, against the image call";
     fn call(random: &mut Random) -> Call {
         calls::extension(random)
     }
 }
 
-pub struct Compared<E, I>(PhantomData<(E, I)>);
+/// The edits E by the side I, held against the side R.
+pub struct Compared<E, I, R = Oracle>(PhantomData<(E, I, R)>);
 
-/// Compares so many trims and splits, then as many extends.
+/// Compares so many trims and splits, then as many extends; then on the same cases the typed call,
+/// whose every answer and byte must be the image call's.
 pub fn run(cases: usize, seed: u64) -> Result<(), String> {
-    crate::subject::run::<Compared<TrimsAndSplits, Engine>>(cases, seed)?;
-    crate::subject::run::<Compared<Extends, Engine>>(cases, seed)
+    subject::run::<Compared<TrimsAndSplits, Engine>>(cases, seed)?;
+    subject::run::<Compared<Extends, Engine>>(cases, seed)?;
+    subject::run::<Compared<TrimsAndSplits, TypedEngine, Engine>>(cases, seed)?;
+    subject::run::<Compared<Extends, TypedEngine, Engine>>(cases, seed)
 }
 
 /// A call and how many bytes it may write.
@@ -131,8 +160,8 @@ impl fmt::Debug for Answer {
     }
 }
 
-impl<E: Edits, I: Implementation> Subject for Compared<E, I> {
-    const NAME: &'static str = E::NAME;
+impl<E: Edits, I: Implementation, R: Implementation> Subject for Compared<E, I, R> {
+    const NAME: &'static str = if I::TYPED { E::TYPED_NAME } else { E::NAME };
     type Case = Case;
     type Answer = Answer;
     type Coverage = Counts;
@@ -143,7 +172,7 @@ impl<E: Edits, I: Implementation> Subject for Compared<E, I> {
     }
 
     fn oracle(case: &Case, counts: &mut Counts) -> Answer {
-        let answer = case.answer(Call::make);
+        let answer = case.answer(R::edit);
         edit_rows::count(&case.call, answer.number, &answer.out.0, counts);
         answer
     }
@@ -192,7 +221,6 @@ fn plainer_floats(mut image: Vec<u8>, differs: impl Fn(&[u8]) -> bool) -> Vec<u8
 #[cfg(test)]
 mod tests {
     use super::*;
-    use crate::subject;
     use oracle::upstream;
 
     /// The oracle with a fault: a trim reports the ends of what it removed the wrong way round.
@@ -206,14 +234,6 @@ mod tests {
                 from.swap_with_slice(to);
             }
             answer
-        }
-    }
-
-    struct Oracle;
-
-    impl Implementation for Oracle {
-        fn edit(call: &Call, out: &mut [u8]) -> u32 {
-            call.make(out)
         }
     }
 

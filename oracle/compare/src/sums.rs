@@ -5,6 +5,7 @@ use crate::hex::Hex;
 use crate::outcomes;
 use crate::shrink;
 use crate::subject::Subject;
+use engine::edits;
 use engine::replication::{self, ACCEPTED};
 use oracle::bytes::put;
 use oracle::call::Call;
@@ -21,6 +22,7 @@ pub struct Sums;
 #[derive(Clone, Debug)]
 enum Asked {
     Edit,
+    TypedEdit,
     Desk,
     Wall(Hex),
 }
@@ -41,6 +43,7 @@ impl Case {
     fn row(&self) -> &'static str {
         match self.asked {
             Asked::Edit => "edit",
+            Asked::TypedEdit => "typed edit",
             Asked::Desk => "desk",
             Asked::Wall(_) => "wall",
         }
@@ -116,9 +119,10 @@ impl Subject for Sums {
         let call = if random.one_in(2) { calls::cut(random) } else { calls::extension(random) };
         let count = random.pick(&[0, 0, 1, 7, 255, 65_536, u32::MAX - 1, u32::MAX]);
         let times = random.pick(&[0, 1, 1, 2, 3]);
-        let asked = match random.below(4) {
+        let asked = match random.below(8) {
             0 => Asked::Edit,
-            1 => Asked::Desk,
+            1 => Asked::TypedEdit,
+            2 | 3 => Asked::Desk,
             _ => Asked::Wall(Hex(message_near(&call, count, random))),
         };
         Case { asked, call, count, times }
@@ -136,7 +140,8 @@ impl Subject for Sums {
     fn engine(case: &Case) -> u32 {
         let Case { asked, call: Call { operation, image, curve, x, y }, count, times } = case;
         match asked {
-            Asked::Edit => engine::edits::repeated(*operation, image, *curve, *x, *y, *times),
+            Asked::Edit => edits::repeated(*operation, image, *curve, *x, *y, *times),
+            Asked::TypedEdit => edits::typed_repeated(*operation, image, *curve, *x, *y, *times),
             Asked::Desk => {
                 replication::desk_repeated(image, *count, *operation, *curve, [*x, *y], *times)
             }

@@ -1,26 +1,31 @@
 use mathlib.Core.Path.{_≡_}
 use Prim.Native.Nat.{_≤_, _-_}
 use native.Mathlib.Omega.{arith}
+use lib.ListN.{length}
 use borrow.Author.Needs.{needs}
-use Rattle.sketch.specs.Drawing.{view, limits}
+use Rattle.sketch.specs.Drawing.{limits}
+use Rattle.image.specs.Image.{imageFault, drawingOf}
 use Rattle.modify.specs.Edits.{editOf}
-use Rattle.probe.specs.Edits.{editAdds}
-use Rattle.probe.specs.Edits.{repeated}
+use Rattle.probe.specs.Edits.{editAdds, repeated}
 use Rattle.probe.proofs.Sums.{none-yet, once-more, all-done}
 use Rattle.probe.proofs.edits.edits_sum.Statement.{statement}
 use Rattle.probe.proofs.edits.edits_sum.Tie as tie
 
 abbrev Inv-loop : tie.InvT-loop
-Inv-loop operation sk curve at times sum₀ i₀ sum i = (i ≤ times) × (sum ≡ repeated i (editAdds (editOf operation limits (view sk) curve at)))
+Inv-loop operation bytes curve at times out₀ sum₀ i₀ out sum i =
+    (i ≤ times) × (length out ≡ 21135) × (imageFault bytes ≡ 0 → sum ≡ repeated i (editAdds (editOf operation limits (drawingOf bytes) curve at)))
 
 abbrev μ-loop : tie.MeasureT-loop
-μ-loop operation sk curve at times sum₀ i₀ sum i = times - i
+μ-loop operation bytes curve at times out₀ sum₀ i₀ out sum i = times - i
 
 loop-holds : tie.Need-loop-holds Inv-loop μ-loop
-loop-holds c = (omega arith, none-yet _)
+loop-holds c = (omega arith, search needs, λ e. none-yet _)
+
+slice-aggregate-edit-adds : tie.Need-slice-aggregate-edit-adds Inv-loop μ-loop
+slice-aggregate-edit-adds c = search needs
 
 edit-adds-requires : tie.Need-edit-adds-requires Inv-loop μ-loop
-edit-adds-requires c κs = c .before .before .pre
+edit-adds-requires c κs = search needs
 
 wrapping-add-u32-requires : tie.Need-wrapping-add-u32-requires Inv-loop μ-loop
 wrapping-add-u32-requires c κs = search needs
@@ -32,10 +37,10 @@ loop-less : tie.Need-loop-less Inv-loop μ-loop
 loop-less c = omega arith
 
 loop-again : tie.Need-loop-again Inv-loop μ-loop
-loop-again c = (omega arith, once-more _ _ (c .before .before .before .loop .inv .1) (c .before .edit-adds .ensures) (c .wrapping-add-u32 .ensures))
+loop-again c = (omega arith, search needs, λ e. once-more _ _ (c .before .before .before .before .before .loop .inv .2 e) (c .before .before .edit-adds .ensures e (omega arith)) (c .wrapping-add-u32 .ensures))
 
 returns : tie.Need-returns Inv-loop μ-loop
-returns c = all-done _ _ _ (c .before .loop .inv .0) (omega arith) (c .before .loop .inv .1)
+returns c = λ e. all-done _ _ _ (c .before .loop .inv .0) (omega arith) (c .before .loop .inv .2 e)
 
 pub edits-sum-spec : {M : Type 1} → statement M
 edits-sum-spec =
@@ -44,6 +49,7 @@ edits-sum-spec =
     Inv-loop
     μ-loop
     loop-holds
+    slice-aggregate-edit-adds
     edit-adds-requires
     wrapping-add-u32-requires
     add-i

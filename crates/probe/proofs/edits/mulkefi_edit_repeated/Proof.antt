@@ -1,32 +1,24 @@
-use mathlib.Core.Path.{sym, _∙_}
+use mathlib.Core.Path.{refl, sym, _∙_}
 use borrow.Author.Tests.{not-true, not-false}
 use borrow.Author.Needs.{needs}
 use Rattle.probe.proofs.EditsMade.{adds-read}
 use Rattle.probe.proofs.Sums.{image-refused, operation-refused, operation-passed}
-use Rattle.sketch_image.proofs.Answers.{read-number, read-drawing}
 use Rattle.probe.proofs.edits.mulkefi_edit_repeated.Statement.{statement}
 use Rattle.probe.proofs.edits.mulkefi_edit_repeated.Tie as tie
 
-read-requires : tie.Need-read-requires
-read-requires c κs = search needs
-
-cast-result : tie.Need-cast-result
-cast-result c = search needs
+number-of-image-requires : tie.Need-number-of-image-requires
+number-of-image-requires c κs = search needs
 
 returns : tie.Need-returns
-returns c =
-    let r = c .before .before .before .read in
-    let at = c .before .before .before .before .before .args in
-    image-refused (at .bytes .now) _ (read-number (r .result) (at .bytes .now) (r .ensures .result-is)) (c .before .if1 .taken)
+returns c = image-refused (c .before .before .before .args .bytes .now) _ (c .before .number-of-image .ensures) (c .if1 .taken)
 
 is-operation-requires : tie.Need-is-operation-requires
 is-operation-requires c κs = search needs
 
 returns-2 : tie.Need-returns-2
 returns-2 c =
-    let r = c .before .before .before .before .read in
-    let at = c .before .before .before .before .before .before .args in
-    let i = sym (read-number (r .result) (at .bytes .now) (r .ensures .result-is)) ∙ c .before .before .if1 .left in
+    let at = c .before .before .before .before .before .args in
+    let i = sym (c .before .before .before .number-of-image .ensures) ∙ c .before .before .if1 .left in
     operation-refused (at .bytes .now) (at .operation) _ i (sym (c .before .is-operation .ensures) ∙ not-true _ (c .if2 .taken))
 
 operation-of-requires : tie.Need-operation-of-requires
@@ -37,18 +29,16 @@ edits-sum-requires c κs = search needs
 
 returns-3 : tie.Need-returns-3
 returns-3 c =
-    let r = c .before .before .before .before .before .before .before .read in
-    let at = c .before .before .before .before .before .before .before .before .before .args in
-    let i = sym (read-number (r .result) (at .bytes .now) (r .ensures .result-is)) ∙ c .before .before .before .before .before .if1 .left in
-    operation-passed (at .bytes .now) (at .operation) _ i (sym (c .before .before .before .before .is-operation .ensures) ∙ not-false _ (c .before .before .before .if2 .left))
-    (adds-read (at .operation) (at .bytes .now) (at .curve) _ (at .times) (read-drawing (r .result) (at .bytes .now) (r .ensures .result-is) (c .before .before .before .before .before .if1 .left)) (c .before .operation-of .ensures) (c .edits-sum .ensures))
+    let at = c .before .before .before .before .before .before .before .args in
+    let i = sym (c .before .before .before .before .before .number-of-image .ensures) ∙ c .before .before .before .before .if1 .left in
+    operation-passed (at .bytes .now) (at .operation) _ i (sym (c .before .before .before .is-operation .ensures) ∙ not-false _ (c .before .before .if2 .left))
+    (adds-read (at .operation) (at .bytes .now) (at .curve) _ (at .times) refl (c .before .operation-of .ensures) (c .edits-sum .ensures i))
 
 pub mulkefi-edit-repeated-spec : {M : Type 1} → statement M
 mulkefi-edit-repeated-spec =
     tie.close
     (tie.spec
-    read-requires
-    cast-result
+    number-of-image-requires
     returns
     is-operation-requires
     returns-2

@@ -1,7 +1,7 @@
 use borrow.Author.Needs.{needs}
 use Rattle.probe.proofs.EditsWritten.{report-short, image-short, image-and-report-written}
-use Rattle.probe.proofs.edits.write_edited.Statement.{statement}
-use Rattle.probe.proofs.edits.write_edited.Tie as tie
+use Rattle.probe.proofs.typed_edits.write_edited.Statement.{statement}
+use Rattle.probe.proofs.typed_edits.write_edited.Tie as tie
 
 returns : tie.Need-returns
 returns c = let at = c .before .before in report-short (at .args .sk) (at .args .removed) (at .args .out .now) (c .if1 .taken)

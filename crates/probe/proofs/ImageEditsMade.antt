@@ -1,0 +1,152 @@
+-- An edit from image to image: one law for each way out, and what it adds to a sum.
+use mathlib.Core.Path.{_≡_, refl, sym, ap, _∙_, subst}
+use mathlib.Core.Bool.{Bool, true, false}
+use mathlib.Core.List.{List, _++_}
+use Prim.Native.Nat.{ℕ, zero, suc, _+_, _-_, _*_, _/_, _%_, _^_, _≤_, _<_}
+use native.Mathlib.Omega.{arith}
+use lib.ListN.{length, take, drop, getD, List·getD-append}
+use lib.Dec.{leb, eqb}
+use borrow.Author.Tests.{eq-eqb, leb-true, leb-false}
+use Rattle.big_endian.specs.Fields.{field, over}
+use Rattle.big_endian.specs.Laws.{Bytes}
+use Rattle.geom.specs.declared.Vec2.{Vec2}
+use Rattle.sketch.specs.Drawing.{Drawing, limits}
+use Rattle.image.specs.Image as I
+use Rattle.image.specs.Image.{imageFault, drawingOf, nextAt, maxImageSize}
+use Rattle.image.specs.Encode.{encode, drawingSize}
+use Rattle.image.proofs.Sizes.{image-size}
+use Rattle.message.specs.Message.{operationOf, isOperation}
+use Rattle.message.specs.declared.Operation.{Operation}
+use Rattle.message.specs.declared.Operation.the-variants.{Extend}
+use Rattle.relations.specs.Met.{unmetAt}
+use Rattle.edit_plan.specs.declared.Removed.{Removed}
+use Rattle.edit_plan.specs.Outcome.{Outcome, refused, accepted, guard}
+use Rattle.extend.specs.declared.EditedImage.{EditedImage}
+use Rattle.extend.specs.ImageExtend.{ifFits, OutcomeWritten}
+use Rattle.extend.proofs.ImageMoves.{image-valid}
+use Rattle.modify.specs.Edits.{editOf, editUntested}
+use Rattle.modify.specs.ImageEdits as M
+use Rattle.modify.specs.ImageEdits.{EditWritten}
+use Rattle.modify.proofs.ImageFaults.{image-fault-low}
+use Rattle.modify.proofs.Planned.{edit-valid}
+use Rattle.modify.proofs.Untested.{untested-valid}
+use Rattle.probe.specs.Edits.{editImage, numberOf, leftIn, fitting, Wrote, EditMade, editAdds}
+use Rattle.probe.specs.EditContracts.{ReportEnd, ReportPut}
+use Rattle.probe.proofs.EditsMade.{place-is}
+use Rattle.probe.proofs.Places.{place-low}
+use Rattle.probe.proofs.ReportedImages.{nothing-written, image-and-report}
+
+pub fault-low : (s : List ℕ) {r : ℕ} → r ≡ imageFault s → r < 256
+fault-low s e = omega (arith, image-fault-low s)
+
+-- ---- one edit
+
+module _ (op : ℕ) (s : List ℕ) (t : ℕ) (p : Vec2) (xs : List ℕ) (o : isOperation op ≡ true) (start : ℕ) (end : ReportEnd (length xs) start) {op′ : Operation} (named : op′ ≡ operationOf op)
+    {ys : List ℕ} {r : EditedImage} (a : EditWritten op′ s t p (take (length xs - start) (drop start xs)) ys r)
+  where
+    outcome-is : M.editImage op′ s t p ≡ editImage op s t p
+    unfolding guard
+    outcome-is = ap (λ (x : Operation). M.editImage x s t p) named ∙ rw o
+
+    extends : op ≡ 3 → op′ ≡ Extend
+    unfolding operationOf
+    extends e = named ∙ ap operationOf e
+
+    made-number : {later : List ℕ} {n : ℕ} → Wrote (M.editImage op′ s t p) xs later n → n ≡ numberOf (fitting (length xs) (editImage op s t p))
+    made-number {n = n} w = w .number ∙ ap (λ (x : Outcome Drawing Removed). numberOf (fitting (length xs) x)) outcome-is
+
+    made-buffer : {later : List ℕ} {n : ℕ} → Wrote (M.editImage op′ s t p) xs later n → later ≡ leftIn (fitting (length xs) (editImage op s t p)) xs
+    made-buffer w = w .buffer ∙ ap (λ (x : Outcome Drawing Removed). leftIn (fitting (length xs) x) xs) outcome-is
+
+    pub edit-refused : Bytes s → r .size ≡ 0 → r .refusal < 256 → {n : ℕ} → n ≡ r .refusal + r .place % 65536 * 65536 → EditMade op s t p xs (take start xs ++ (ys ++ drop (length xs - start) (drop start xs))) n
+    edit-refused b z low {n} is =
+        let w = nothing-written xs start end ys r (M.editImage op′ s t p) (λ d gone q. a .sound d gone q .0) (a .written) z in
+        let number-is : n % 65536 ≡ r .refusal = omega arith in
+        let place-above : n / 65536 ≡ r .place % 65536 = omega arith in
+        record {
+          number = number-is ∙ made-number w;
+          buffer = made-buffer w;
+          no-place = λ x y. let h = a .no-place (λ h. x (number-is ∙ h)) (λ h. y (number-is ∙ h)) in omega arith;
+          unmet-before = λ i e h.
+              let m = a .unmet-before (extends e) (sym number-is ∙ h) in
+              let l = place-low (drawingOf s) (r .place) (image-valid s i b) m in
+              subst (λ (j : ℕ). unmetAt (drawingOf s) j ≡ true) (sym (place-above ∙ place-is (r .place) (omega arith))) m;
+          unmet-after = λ i e h d′ removed g.
+              let g2 : editUntested op′ limits (drawingOf s) t p ≡ accepted d′ removed = ap (λ (x : Operation). editUntested x limits (drawingOf s) t p) (extends e) ∙ g in
+              let m = a .unmet-after (extends e) (sym number-is ∙ h) d′ removed g2 in
+              let l = place-low d′ (r .place) (untested-valid (drawingOf s) t p d′ removed (image-valid s i b) g) m in
+              subst (λ (j : ℕ). unmetAt d′ j ≡ true) (sym (place-above ∙ place-is (r .place) (omega arith))) m;
+        }
+
+    pub edit-written : (r .size ≡ 0 → ⊥) → {k : List ℕ} → ReportPut (r .removed) (take start xs ++ (ys ++ drop (length xs - start) (drop start xs))) k → EditMade op s t p xs k 0
+    edit-written z {k} put =
+        let w = image-and-report xs start end ys r k put (M.editImage op′ s t p) (λ d gone q. a .sound d gone q .0) (a .written) z in
+        record {
+          number = made-number w;
+          buffer = made-buffer w;
+          no-place = λ x y. refl;
+          unmet-before = λ i e h. absurd (omega arith);
+          unmet-after = λ i e h d′ removed g. absurd (omega arith);
+        }
+
+-- ---- what an edit adds to a sum
+
+-- a number does not hang on what stands behind its bytes
+field-front : (l post : List ℕ) (at n : ℕ) → at + n ≤ length l → field (l ++ post) at n ≡ field l at n
+unfolding field
+field-front l post at zero h = refl
+field-front l post at (suc n) h =
+    let k : at + n < length l = omega arith in
+    rw (field-front l post at n (omega arith), List·getD-append l post 0 (at + n) k)
+
+drawing-back : (s : List ℕ) (d : Drawing) → I.parse s ≡ I.accepted d → drawingOf s ≡ d
+unfolding I.resultOf
+drawing-back s d e = go (imageFault s) e
+  where
+    go : (n : ℕ) → I.resultOf n (drawingOf s) ≡ I.accepted d → drawingOf s ≡ d
+    go zero h = cc
+    go (suc n) h = let z : _≡_ {A = ℕ} 0 1 = cc in absurd (omega arith)
+
+module _ (op : Operation) (s : List ℕ) (t : ℕ) (p : Vec2) {before after : List ℕ} {r : EditedImage} (a : EditWritten op s t p before after r) (b : Bytes s) where
+  abbrev outcome : Outcome Drawing Removed
+  outcome = editOf op limits (drawingOf s) t p
+
+  module _ (i : imageFault s ≡ 0) where
+    made : M.editImage op s t p ≡ outcome
+    unfolding guard
+    made = rw (eq-eqb (imageFault s) 0 i)
+
+    written : OutcomeWritten (ifFits (length before) outcome) before after r
+    written = subst (λ (x : Outcome Drawing Removed). OutcomeWritten (ifFits (length before) x) before after r) made (a .written)
+
+    -- a new image always fits
+    fits : maxImageSize ≤ length before → (d : Drawing) (gone : Removed) → outcome ≡ accepted d gone → length (encode d) ≤ length before
+    fits room d gone e = omega (arith, a .sound d gone (made ∙ e) .0, image-size d (edit-valid op limits (drawingOf s) t p d gone (image-valid s i b) e))
+
+  pub adds-number : r .size ≡ 0 → imageFault s ≡ 0 → maxImageSize ≤ length before → r .refusal ≡ editAdds outcome
+  unfolding editAdds guard
+  adds-number z i room = go outcome refl (written i)
+    where
+      go : (o : Outcome Drawing Removed) → outcome ≡ o → OutcomeWritten (ifFits (length before) o) before after r → r .refusal ≡ editAdds o
+      go (refused n) e w = w .refusal
+      go (accepted d gone) e w = at (leb (length (encode d)) (length before)) refl w
+        where
+          at : (u : Bool) → leb (length (encode d)) (length before) ≡ u → OutcomeWritten (guard u 25 (accepted d gone)) before after r → r .refusal ≡ editAdds (accepted d gone)
+          at true q w = let l = a .sound d gone (made i ∙ e) .0 in let k = w .size in absurd (omega arith)
+          at false q w = let l = leb-false (length (encode d)) (length before) q in let k = fits i room d gone e in absurd (omega arith)
+
+  pub adds-sum : (r .size ≡ 0 → ⊥) → {next n : ℕ} → next ≡ nextAt after → n ≡ (next + r .removed .curve) % 2 ^ 32 → imageFault s ≡ 0 → maxImageSize ≤ length before → n ≡ editAdds outcome
+  unfolding editAdds guard over
+  adds-sum z {next} {n} f g i room = go outcome refl (written i)
+    where
+      go : (o : Outcome Drawing Removed) → outcome ≡ o → OutcomeWritten (ifFits (length before) o) before after r → n ≡ editAdds o
+      go (refused m) e w = absurd (z (w .size))
+      go (accepted d gone) e w = at (leb (length (encode d)) (length before)) refl w
+        where
+          at : (u : Bool) → leb (length (encode d)) (length before) ≡ u → OutcomeWritten (guard u 25 (accepted d gone)) before after r → n ≡ (d .next + gone .curve) % 2 ^ 32
+          at false q w = absurd (z (w .size))
+          at true q w =
+              let (l, q2) = a .sound d gone (made i ∙ e) in
+              let back : nextAt (encode d) ≡ d .next = ap (λ (x : Drawing). x .next) (drawing-back (encode d) d q2) in
+              let front : nextAt after ≡ nextAt (encode d) = ap nextAt (w .bytes) ∙ field-front (encode d) (drop (0 + length (encode d)) before) 5 4 (omega arith) in
+              g ∙ rw (f, front, back, w .removed)
