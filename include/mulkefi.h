@@ -2,7 +2,7 @@
  *
  * Link with libmulkefi.a, which `rt staticlib mulkefi` writes to target/staticlib/. It is built for x86-64 Linux and asks for memcpy and
  * memset alone. No call allocates, keeps a pointer, or touches anything but the memory lent to it and its stack, so that calls on
- * different memory may run at once. A call takes some 400 kB of stack: a thread of the host's needs 512 KiB.
+ * different memory may run at once. A call takes some 50 kB of stack: a thread of the host's needs 128 KiB.
  *
  * Memory. No pointer is null, even where a length is 0; a length is no more than the memory has; numbers are aligned. What a call
  * may write overlaps nothing else that is lent to it. All other things about the arguments are tested: whatever the bytes, lengths,

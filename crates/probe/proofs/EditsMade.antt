@@ -23,7 +23,7 @@ use Rattle.edit_plan.specs.declared.Edited.{Edited}
 use Rattle.edit_plan.specs.Outcome.{refused, accepted, guard}
 use Rattle.edit_plan.specs.Suited.{outcomeOf}
 use Rattle.modify.specs.Edits.{editOf, editUntested, EditAnswer}
-use Rattle.probe.specs.Edits.{editImage, numberOf, leftIn, Wrote, EditMade, editAdds, repeated}
+use Rattle.probe.specs.Edits.{imageEditBy, numberOf, leftIn, Wrote, EditMade, editAdds, repeated}
 use Rattle.modify.proofs.Untested.{untested-valid}
 use Rattle.probe.proofs.Places.{place-low}
 
@@ -63,7 +63,7 @@ module _ (op : ℕ) (s : List ℕ) (t : ℕ) (p : Vec2) (before : List ℕ) wher
     -- ---- an edit
 
     module _ (o : isOperation op ≡ true) (sk : Sketch) (v : view sk ≡ drawingOf s) (f : sketchFault sk ≡ 0) (r : Edited) (a : EditAnswer (operationOf op) sk t p r) where
-      outcome-is : editImage op s t p ≡ outcomeOf r
+      outcome-is : imageEditBy op s t p ≡ outcomeOf r
       unfolding guard
       outcome-is =
           let g : eqb (imageFault s) 0 ≡ true = eq-eqb (imageFault s) 0 i in
@@ -80,7 +80,7 @@ module _ (op : ℕ) (s : List ℕ) (t : ℕ) (p : Vec2) (before : List ℕ) wher
           let k = r .refusal in
           let number-is : n % 65536 ≡ k = omega arith in
           let place-above : n / 65536 ≡ r .place % 65536 = omega arith in
-          let q : editImage op s t p ≡ refused k = outcome-is ∙ rw (ne-eqb k 0 z) in
+          let q : imageEditBy op s t p ≡ refused k = outcome-is ∙ rw (ne-eqb k 0 z) in
           let u = sketch-valid sk f .1 in
           record {
             number = rw q number-is;
@@ -102,7 +102,7 @@ module _ (op : ℕ) (s : List ℕ) (t : ℕ) (p : Vec2) (before : List ℕ) wher
       pub edit-written : r .refusal ≡ 0 → (later : List ℕ) (n : ℕ) → Wrote (accepted (view (r .sketch)) (r .removed)) before later n → EditMade op s t p before later n
       unfolding guard numberOf
       edit-written z later n w =
-          let q : editImage op s t p ≡ accepted (view (r .sketch)) (r .removed) = outcome-is ∙ rw (eq-eqb (r .refusal) 0 z) in
+          let q : imageEditBy op s t p ≡ accepted (view (r .sketch)) (r .removed) = outcome-is ∙ rw (eq-eqb (r .refusal) 0 z) in
           let c = number-of (leb (12 + drawingSize (view (r .sketch))) (length before)) (w .number) in
           record {
             number = rw q (low c ∙ w .number);

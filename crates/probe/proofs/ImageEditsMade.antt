@@ -30,7 +30,7 @@ use Rattle.modify.specs.ImageEdits.{EditWritten}
 use Rattle.modify.proofs.ImageFaults.{image-fault-low}
 use Rattle.modify.proofs.Planned.{edit-valid}
 use Rattle.modify.proofs.Untested.{untested-valid}
-use Rattle.probe.specs.Edits.{editImage, numberOf, leftIn, fitting, Wrote, EditMade, editAdds}
+use Rattle.probe.specs.Edits.{imageEditBy, numberOf, leftIn, fitting, Wrote, EditMade, editAdds}
 use Rattle.probe.specs.EditContracts.{ReportEnd, ReportPut}
 use Rattle.probe.proofs.EditsMade.{place-is}
 use Rattle.probe.proofs.Places.{place-low}
@@ -44,7 +44,7 @@ fault-low s e = omega (arith, image-fault-low s)
 module _ (op : ℕ) (s : List ℕ) (t : ℕ) (p : Vec2) (xs : List ℕ) (o : isOperation op ≡ true) (start : ℕ) (end : ReportEnd (length xs) start) {op′ : Operation} (named : op′ ≡ operationOf op)
     {ys : List ℕ} {r : EditedImage} (a : EditWritten op′ s t p (take (length xs - start) (drop start xs)) ys r)
   where
-    outcome-is : M.editImage op′ s t p ≡ editImage op s t p
+    outcome-is : M.editImage op′ s t p ≡ imageEditBy op s t p
     unfolding guard
     outcome-is = ap (λ (x : Operation). M.editImage x s t p) named ∙ rw o
 
@@ -52,10 +52,10 @@ module _ (op : ℕ) (s : List ℕ) (t : ℕ) (p : Vec2) (xs : List ℕ) (o : isO
     unfolding operationOf
     extends e = named ∙ ap operationOf e
 
-    made-number : {later : List ℕ} {n : ℕ} → Wrote (M.editImage op′ s t p) xs later n → n ≡ numberOf (fitting (length xs) (editImage op s t p))
+    made-number : {later : List ℕ} {n : ℕ} → Wrote (M.editImage op′ s t p) xs later n → n ≡ numberOf (fitting (length xs) (imageEditBy op s t p))
     made-number {n = n} w = w .number ∙ ap (λ (x : Outcome Drawing Removed). numberOf (fitting (length xs) x)) outcome-is
 
-    made-buffer : {later : List ℕ} {n : ℕ} → Wrote (M.editImage op′ s t p) xs later n → later ≡ leftIn (fitting (length xs) (editImage op s t p)) xs
+    made-buffer : {later : List ℕ} {n : ℕ} → Wrote (M.editImage op′ s t p) xs later n → later ≡ leftIn (fitting (length xs) (imageEditBy op s t p)) xs
     made-buffer w = w .buffer ∙ ap (λ (x : Outcome Drawing Removed). leftIn (fitting (length xs) x) xs) outcome-is
 
     pub edit-refused : Bytes s → r .size ≡ 0 → r .refusal < 256 → {n : ℕ} → n ≡ r .refusal + r .place % 65536 * 65536 → EditMade op s t p xs (take start xs ++ (ys ++ drop (length xs - start) (drop start xs))) n

@@ -26,8 +26,8 @@ abbrev pub editBy : ℕ → Drawing → ℕ → Vec2 → Outcome Drawing Removed
 editBy op d t p = guard (isOperation op) 6 (editOf (operationOf op) limits d t p)
 
 -- the image's own refusal first
-abbrev pub editImage : ℕ → List ℕ → ℕ → Vec2 → Outcome Drawing Removed
-editImage op s t p = guard (eqb (imageFault s) 0) (imageFault s) (editBy op (drawingOf s) t p)
+abbrev pub imageEditBy : ℕ → List ℕ → ℕ → Vec2 → Outcome Drawing Removed
+imageEditBy op s t p = guard (eqb (imageFault s) 0) (imageFault s) (editBy op (drawingOf s) t p)
 
 -- last, a buffer that is too short for the report and the image (25)
 abbrev pub fitting : ℕ → Outcome Drawing Removed → Outcome Drawing Removed
@@ -54,8 +54,8 @@ pub record Wrote (o : Outcome Drawing Removed) (before later : List ℕ) (r : �
 
 -- the number in the low 16 bits; above them the place of a relation that is not met, with an extend's 13 before the edit and with its 19 after it
 pub record EditMade (op : ℕ) (s : List ℕ) (t : ℕ) (p : Vec2) (before later : List ℕ) (r : ℕ) : Type 0 where
-  pub number : r % 65536 ≡ numberOf (fitting (length before) (editImage op s t p))
-  pub buffer : later ≡ leftIn (fitting (length before) (editImage op s t p)) before
+  pub number : r % 65536 ≡ numberOf (fitting (length before) (imageEditBy op s t p))
+  pub buffer : later ≡ leftIn (fitting (length before) (imageEditBy op s t p)) before
   pub no-place : NoPlace (r % 65536) (r / 65536)
   pub unmet-before : imageFault s ≡ 0 → op ≡ 3 → r % 65536 ≡ 13 → unmetAt (drawingOf s) (r / 65536) ≡ true
   pub unmet-after : imageFault s ≡ 0 → op ≡ 3 → r % 65536 ≡ 19 → (d′ : Drawing) (removed : Removed) → editUntested Extend limits (drawingOf s) t p ≡ accepted d′ removed → unmetAt d′ (r / 65536) ≡ true

@@ -29,7 +29,7 @@ use tally::Tally;
 
 const SECONDS: u64 = 40;
 /// The stack that the header tells a host to give a thread, in bytes.
-const STACK: usize = 512 * 1024;
+const STACK: usize = 128 * 1024;
 /// How many seconds a single call may take.
 const TIME_LIMIT: u32 = 30;
 /// A planted fault is to be seen sooner.
