@@ -8,8 +8,7 @@ use lib.ListN.{length, take, drop, length-drop, length-append, drop-of-length-le
 use lib.Seq.{take-all, drop-drop, length-take-le, drop-at}
 use lib.Dec.{leb, eqb}
 use borrow.Author.Tests.{eq-eqb, le-leb, lt-leb, leb-true, leb-false}
-use Rattle.big_endian.specs.Fields.{bytes, over, overIfFits}
-use Rattle.big_endian.specs.Laws.{Run, run-starts, run-puts}
+use Rattle.big_endian.specs.Fields.{over}
 use Rattle.sketch.specs.declared.Sketch.{Sketch}
 use Rattle.sketch.specs.Lists.{ite, guardNumber}
 use Rattle.sketch.specs.Drawing.{view}
@@ -19,6 +18,8 @@ use Rattle.sketch_image.specs.SketchImage.{ImageWritten}
 use Rattle.edit_plan.specs.declared.Removed.{Removed}
 use Rattle.edit_plan.specs.Outcome.{accepted, guard}
 use Rattle.probe.specs.Edits.{numberOf, leftIn, report, Wrote}
+use Rattle.probe.specs.EditContracts.{ReportPut}
+use Rattle.probe.proofs.ReportedImages.{length-report}
 
 module _ (sk : Sketch) (gone : Removed) (xs : List ℕ) where
   abbrev size : ℕ
@@ -66,8 +67,7 @@ module _ (sk : Sketch) (gone : Removed) (xs : List ℕ) where
         go true e q r = absurd (z q)
         go false e q r = record { number = rw (fits false e) q; buffer = rw (fits false e) (back ∙ ap (λ l. take 12 xs ++ l) r ∙ take-append-drop 12 xs) }
 
-    -- the three numbers of the report, one after the other
-    module _ (z : n ≡ 0) (l m k : List ℕ) (a : l ≡ overIfFits (take 12 xs ++ (ys ++ drop (length xs - 12) rest)) 0 (bytes 4 (gone .curve))) (b : m ≡ overIfFits l 4 (bytes 4 (gone .from))) (c : k ≡ overIfFits m 8 (bytes 4 (gone .to))) where
+    module _ (z : n ≡ 0) (k : List ℕ) (put : ReportPut gone (take 12 xs ++ (ys ++ drop (length xs - 12) rest)) k) where
       pub image-and-report-written : Wrote (accepted (view sk) gone) xs k 0
       unfolding guardNumber guard numberOf leftIn over
       image-and-report-written = go (leb size (length rest)) refl number-is part-is
@@ -81,16 +81,8 @@ module _ (sk : Sketch) (gone : Removed) (xs : List ℕ) where
           enough : 12 ≤ length front
           enough = omega (arith, length-append (take 12 xs) (ys ++ drop (length xs - 12) rest), twelve)
 
-          report-written : Run front 0 12 ((bytes 4 (gone .curve) ++ bytes 4 (gone .from)) ++ bytes 4 (gone .to)) k
-          report-written =
-              run-puts front 0 8 4 (gone .to) (bytes 4 (gone .curve) ++ bytes 4 (gone .from)) m k (omega (arith, enough))
-              (run-puts front 0 4 4 (gone .from) (bytes 4 (gone .curve)) l m (omega (arith, enough)) (run-starts front 0 4 (gone .curve) (omega (arith, enough)) a) b) c
-
-          joined : (bytes 4 (gone .curve) ++ bytes 4 (gone .from)) ++ bytes 4 (gone .to) ≡ report gone
-          joined = append-assoc (bytes 4 (gone .curve)) (bytes 4 (gone .from)) (bytes 4 (gone .to))
-
           ends : length (report gone) ≡ 12
-          ends = rw (← joined) (report-written .long)
+          ends = length-report gone
 
           go : (b : Bool) → leb size (length rest) ≡ b → n ≡ guardNumber b 25 0 → ys ≡ ite (eqb (guardNumber b 25 0) 0) (over rest 0 (encode (view sk))) rest → Wrote (accepted (view sk) gone) xs k 0
           go false e q r = absurd (omega arith)
@@ -102,5 +94,5 @@ module _ (sk : Sketch) (gone : Removed) (xs : List ℕ) where
               let sizes : 0 + length (report gone ++ d) ≡ 12 + length d = omega (arith, length-append (report gone) d, ends) in
               record {
                 number = rw (fits true e);
-                buffer = rw (fits true e) (report-written .is ∙ rw (joined, ends, behind, rests, sizes) (sym (append-assoc (report gone) d (drop (12 + length d) xs))));
+                buffer = rw (fits true e) (put enough ∙ rw (ends, behind, rests, sizes) (sym (append-assoc (report gone) d (drop (12 + length d) xs))));
               }

@@ -4,16 +4,16 @@ use mathlib.Core.Bool.{Bool, true, false}
 use mathlib.Core.List.{List, _++_}
 use Prim.Native.Nat.{ℕ, zero, suc, _+_, _-_, _*_, _/_, _%_, _^_, _≤_, _<_}
 use native.Mathlib.Omega.{arith}
-use lib.ListN.{length, take, drop, getD, List·getD-append}
-use lib.Dec.{leb, eqb}
-use borrow.Author.Tests.{eq-eqb, leb-true, leb-false}
+use lib.ListN.{length, take, drop, List·getD-append}
+use lib.Dec.{leb}
+use borrow.Author.Tests.{eq-eqb, leb-false}
 use Rattle.big_endian.specs.Fields.{field, over}
 use Rattle.big_endian.specs.Laws.{Bytes}
 use Rattle.geom.specs.declared.Vec2.{Vec2}
 use Rattle.sketch.specs.Drawing.{Drawing, limits}
 use Rattle.image.specs.Image as I
 use Rattle.image.specs.Image.{imageFault, drawingOf, nextAt, maxImageSize}
-use Rattle.image.specs.Encode.{encode, drawingSize}
+use Rattle.image.specs.Encode.{encode}
 use Rattle.image.proofs.Sizes.{image-size}
 use Rattle.message.specs.Message.{operationOf, isOperation}
 use Rattle.message.specs.declared.Operation.{Operation}

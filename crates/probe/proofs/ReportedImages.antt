@@ -1,5 +1,5 @@
 -- An image that an edit wrote behind the report's place, and the report: one law for what is refused, one for what is written.
-use mathlib.Core.Path.{_≡_, refl, sym, ap, _∙_, subst}
+use mathlib.Core.Path.{_≡_, refl, sym, ap, _∙_}
 use mathlib.Core.Bool.{Bool, true, false}
 use mathlib.Core.List.{List, _++_, append-assoc, append-nil}
 use Prim.Native.Nat.{ℕ, _+_, _-_, _≤_, _<_}
@@ -24,7 +24,7 @@ use Rattle.probe.specs.EditContracts.{ReportEnd, ReportPut}
 joined : (gone : Removed) → (bytes 4 (gone .curve) ++ bytes 4 (gone .from)) ++ bytes 4 (gone .to) ≡ report gone
 joined gone = append-assoc (bytes 4 (gone .curve)) (bytes 4 (gone .from)) (bytes 4 (gone .to))
 
-length-report : (gone : Removed) → length (report gone) ≡ 12
+pub length-report : (gone : Removed) → length (report gone) ≡ 12
 length-report gone =
     simp (length-append, length-bytes)
 

@@ -14,7 +14,7 @@ ghost use Rattle.probe.specs.Edits.{EditMade, editsSum};
 ghost use Rattle.probe.specs.EditContracts.{ReportEnd, ReportPut, EditAdds, EditsSum};
 
 // A report's size in bytes.
-const REPORT: usize = 12;
+pub const REPORT: usize = 12;
 
 // A refusal's number, and above its 16 bits the place that comes with 13 and 19.
 pub fn with_place(refusal: u8, place: usize) -> u32
@@ -33,7 +33,8 @@ fn report_end(room: usize) -> usize
     REPORT
 }
 
-fn put_report(removed: Removed, out: &mut [u8])
+// The report to the front of a buffer that has room for it.
+pub fn put_report(removed: Removed, out: &mut [u8])
     ensures { λ r. ⌜ ReportPut removed (now (out .entry)) (now (out .exit)) ⌝ }
 {
     put4(out, 0, removed.curve as u64);
@@ -49,7 +50,7 @@ fn number_of_image(bytes: &[u8]) -> u32
     rows::image_fault(bytes, &mut near) as u32
 }
 
-// An edit of an image by its operation's number. Nothing is written by a refusal.
+// An edit of an image by its operation's number. A refusal writes nothing, so its size is 0.
 #[no_mangle]
 pub extern "C" fn mulkefi_edit(
     operation: u32,

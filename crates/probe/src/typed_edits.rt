@@ -1,6 +1,7 @@
 // Edits by the call over a sketch by value: one a call, and one many times over for timing.
+use crate::edits::REPORT;
+use crate::edits::put_report;
 use crate::edits::with_place;
-use big_endian::put4;
 use edit_plan::Removed;
 use geom::Vec2;
 use message::Operation;
@@ -16,9 +17,6 @@ ghost use Rattle.edit_plan.specs.Outcome.{accepted};
 ghost use Rattle.modify.specs.Edits.{editOf};
 ghost use Rattle.probe.specs.Edits.{Wrote, EditMade, editAdds, repeated, editsSum};
 
-// A report's size in bytes.
-const REPORT: usize = 12;
-
 // The report and then the image to the buffer's front; or 25, and the buffer is left.
 fn write_edited(sk: Sketch, removed: Removed, out: &mut [u8]) -> u32
     requires { ⌜ sketchFault sk ≡ 0 ⌝ }
@@ -31,9 +29,7 @@ fn write_edited(sk: Sketch, removed: Removed, out: &mut [u8]) -> u32
     if number != 0 {
         return number as u32;
     }
-    put4(out, 0, removed.curve as u64);
-    put4(out, 4, removed.from as u64);
-    put4(out, 8, removed.to as u64);
+    put_report(removed, out);
     0
 }
 

@@ -27,29 +27,16 @@ same-length c = search needs
 returns-2 : tie.Need-returns-2
 returns-2 c = let at = c .before .before .before .before .before .before .before in image-short (at .args .sk) (at .args .removed) (at .args .out .now) (at .pre) (c .before .before .before .before .before .if1 .left) _ _ (c .before .before .before .write .ensures) (c .if2 .taken)
 
-cast-put4 : tie.Need-cast-put4
-cast-put4 c = search needs
-
-put4-requires : tie.Need-put4-requires
-put4-requires c κs = search needs
-
-cast-put4-2 : tie.Need-cast-put4-2
-cast-put4-2 c = search needs
-
-put4-requires-2 : tie.Need-put4-requires-2
-put4-requires-2 c κs = search needs
-
-cast-put4-3 : tie.Need-cast-put4-3
-cast-put4-3 c = search needs
-
-put4-requires-3 : tie.Need-put4-requires-3
-put4-requires-3 c κs = search needs
+put-report-requires : tie.Need-put-report-requires
+put-report-requires c κs = search needs
 
 same-length-2 : tie.Need-same-length-2
 same-length-2 c = search needs
 
 returns-3 : tie.Need-returns-3
-returns-3 c = let at = c .before .before .before .before .before .before .before .before .before .before .before .before .before .before .before .before .before .before .before .before .before .before in image-and-report-written (at .args .sk) (at .args .removed) (at .args .out .now) (at .pre) (c .before .before .before .before .before .before .before .before .before .before .before .before .before .before .before .before .before .before .before .before .if1 .left) _ _ (c .before .before .before .before .before .before .before .before .before .before .before .before .before .before .before .before .before .before .write .ensures) (c .before .before .before .before .before .before .before .before .before .before .before .before .before .before .before .if2 .left) _ _ _ (c .before .before .before .before .before .before .before .before .before .before .before .before .put4 .ensures) (c .before .before .before .before .before .before .before .put42 .ensures) (c .before .before .put43 .ensures)
+returns-3 c =
+    let at = c .before .before .before .before .before .before .before .before .before .before .before in
+    image-and-report-written (at .args .sk) (at .args .removed) (at .args .out .now) (at .pre) (c .before .before .before .before .before .before .before .before .before .if1 .left) _ _ (c .before .before .before .before .before .before .before .write .ensures) (c .before .before .before .before .if2 .left) _ (c .before .before .put-report .ensures)
 
 pub write-edited-spec : {M : Type 1} → statement M
 write-edited-spec =
@@ -63,11 +50,6 @@ write-edited-spec =
     cast-result
     same-length
     returns-2
-    cast-put4
-    put4-requires
-    cast-put4-2
-    put4-requires-2
-    cast-put4-3
-    put4-requires-3
+    put-report-requires
     same-length-2
     returns-3)
