@@ -6,3 +6,4 @@ pub mod Extended
 pub mod ImageFaults
 pub mod ImageEdits
 pub mod Numbered
+pub mod InPlace

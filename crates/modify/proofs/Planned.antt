@@ -1,5 +1,6 @@
 -- An accepted edit applied a plan whose pins are held; so it leaves a valid drawing, and has the shape that chains need.
 use mathlib.Core.Path.{_≡_, refl, sym, subst}
+use mathlib.Core.Bool.{Bool, true, false}
 use mathlib.Core.Option.{Option, some, none}
 use Prim.Native.Nat.{ℕ}
 use native.Mathlib.Omega.{arith}
@@ -12,7 +13,7 @@ use Rattle.message.specs.declared.Operation.the-variants.{Trim, Split, Extend}
 use Rattle.relations.specs.Met.{allMet}
 use Rattle.edit_plan.specs.declared.Plan.{Plan}
 use Rattle.edit_plan.specs.declared.Removed.{Removed}
-use Rattle.edit_plan.specs.Outcome.{accepted}
+use Rattle.edit_plan.specs.Outcome.{Outcome, accepted, guard}
 use Rattle.edit_plan.specs.Tables.{okPosition}
 use Rattle.edit_plan.specs.ApplyPlan.{applyPlan}
 use Rattle.edit_plan.specs.Suited.{Pinned}
@@ -24,6 +25,12 @@ use Rattle.extend.specs.ExtendAnswer.{applyPlanned}
 use Rattle.modify.specs.Edits.{planOnCurve, planOnFound, planEdit, editOf}
 use Rattle.planning.proofs.Suits.{guard-plan-accepted, trim-curve-suited, split-curve-suited}
 use Rattle.extend.proofs.Moves.{extend-moves-end}
+
+-- what passes a guard and is accepted
+pub guard-accepted : {D A : Type 0} (b : Bool) (n : ℕ) (o : Outcome D A) (d : D) (a : A) → guard b n o ≡ accepted d a → (b ≡ true) × (o ≡ accepted d a)
+unfolding guard
+guard-accepted true n o d a e = (refl, e)
+guard-accepted false n o d a e = let z : _≡_ {A = ℕ} 0 1 = cc in absurd (omega arith)
 
 curve-pinned : (op : Operation) (d : Drawing) (p : Vec2) (c : Curve) (plan : Plan) → planOnCurve op d p c ≡ Accepted plan → Pinned d (c .id) plan
 unfolding planOnCurve

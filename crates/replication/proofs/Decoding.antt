@@ -17,16 +17,11 @@ use Rattle.relations.specs.Met.{allMet}
 use Rattle.edit_plan.specs.declared.Removed.{Removed}
 use Rattle.edit_plan.specs.Outcome.{Outcome, accepted, guard}
 use Rattle.modify.specs.Edits.{editOf}
-use Rattle.modify.proofs.Planned.{edit-planned}
+use Rattle.modify.proofs.Planned.{guard-accepted, edit-planned}
 use Rattle.chains.proofs.Edits.{Planned, plan-target}
 use Rattle.agreement.specs.Machines.{message, maxEditNumber}
 use Rattle.agreement.proofs.Wall.{Read}
 use Rattle.replication.specs.Protocol.{Edit, isPick, edit, messageFor, editIn, decodedOf, protocol, target}
-
-pub guard-accepted : {D A : Type 0} (b : Bool) (n : ℕ) (o : Outcome D A) (d : D) (a : A) → guard b n o ≡ accepted d a → (b ≡ true) × (o ≡ accepted d a)
-unfolding guard
-guard-accepted true n o d a e = (refl, e)
-guard-accepted false n o d a e = let z : _≡_ {A = ℕ} 0 1 = cc in absurd (omega arith)
 
 both-fit : (a b : Bool) → (a && b) ≡ true → T a × T b
 both-fit true true e = (tt, tt)

@@ -6,11 +6,9 @@ use native.Mathlib.Omega.{arith}
 use lib.ListN.{length, take}
 use lib.Seq.{take-all}
 use Rattle.big_endian.specs.Laws.{Bytes}
-use Rattle.sketch.specs.Drawing.{Drawing, view, limits}
-use Rattle.sketch.specs.Valid.{sketchFault}
+use Rattle.sketch.specs.Drawing.{Drawing, limits}
 use Rattle.sketch.specs.Facts.{Valid}
 use Rattle.sketch.proofs.Facts.{fault-valid}
-use Rattle.sketch.proofs.Sketches.{sketch-valid}
 use Rattle.image.specs.Image as I
 use Rattle.image.proofs.RoundTrips as T
 use Rattle.relations.specs.Met.{allMet}
@@ -21,13 +19,13 @@ use Rattle.agreement.specs.Agreement.{stateAt}
 use Rattle.agreement.specs.Families.{reports}
 use Rattle.agreement.proofs.Reference.{linked, last-entry}
 use Rattle.chains.proofs.Edits.{planned-demand-3}
-use Rattle.replication.specs.declared.Replica.{Replica}
-use Rattle.replication.specs.declared.Started.{Started}
 use Rattle.replication.specs.Protocol.{Edit, protocol, target}
-use Rattle.replication.specs.Transitions.{stateOf, Starts, DeskCall, deskStep, DeskCalls, WallCall, wallStep, WallCalls}
+use Rattle.replication.specs.Transitions.{Memory, stateIn, Ready, StartsWith, DeskCall, deskStep, DeskCalls, WallCall, wallStep, WallCalls}
 use Rattle.replication.specs.Replication.{ReplicationCorrect}
 use Rattle.replication.proofs.Decoding.{planned, read}
 use Rattle.replication.proofs.Folded.{folded}
+use Rattle.replication.proofs.StartCases.{held-at-start}
+use Rattle.replication.proofs.Steps.{desk-step, wall-step}
 
 -- from a valid drawing
 pub replication-correct :
@@ -58,28 +56,22 @@ demand-3 image b start e desk wall = replication-correct start desk wall (fault-
 
 -- ---- the same over what the functions ensure
 
-desk-run : (s : Replica) (cs : List DeskCall) → sketchFault (s .sketch) ≡ 0 → DeskCalls s cs → DeskRun protocol (stateOf s) (map deskStep cs)
-desk-run s [] v h = tt
-desk-run s (c ∷ cs) v h = (h .0 .step v, desk-run (c .answer .replica) cs (h .0 .valid v) (h .1))
+desk-run : (m : Memory) (cs : List DeskCall) → Ready m → DeskCalls m cs → DeskRun protocol (stateIn m) (map deskStep cs)
+desk-run m [] v h = tt
+desk-run m (c ∷ cs) v h = let x = desk-step m v c (h .0) in (x .0, desk-run (c .left) cs (x .1) (h .1))
 
-wall-run : (s : Replica) (cs : List WallCall) → sketchFault (s .sketch) ≡ 0 → WallCalls s cs → WallRun protocol (stateOf s) (map wallStep cs)
-wall-run s [] v h = tt
-wall-run s (c ∷ cs) v h = (h .0 .step v, wall-run (c .answer .replica) cs (h .0 .valid v) (h .1))
-
-pub started : (image : List ℕ) (r : Started) → Starts image r → (start : Drawing) → I.parse image ≡ I.accepted start → (stateOf (r .replica) ≡ initial start)
-started image r h start e =
-    let v = T.result-accepted (r .refusal) (view (r .replica .sketch)) start (h .reply ∙ e) .1 in
-    λ i. record { drawing = v i; count = h .zero-count i }
+wall-run : (m : Memory) (cs : List WallCall) → Ready m → WallCalls m cs → WallRun protocol (stateIn m) (map wallStep cs)
+wall-run m [] v h = tt
+wall-run m (c ∷ cs) v h = let x = wall-step m v c (h .0) in (x .0, wall-run (c .left) cs (x .1) (h .1))
 
 pub calls-demand-3 :
-    (image : List ℕ) (start : Drawing) → I.parse image ≡ I.accepted start → (d w : Started) → Starts image d → Starts image w
-    → (desk : List DeskCall) (wall : List WallCall) → DeskCalls (d .replica) desk → WallCalls (w .replica) wall → Delivered (messages (map deskStep desk)) (map wallStep wall)
+    (image : List ℕ) → Bytes image → (start : Drawing) → I.parse image ≡ I.accepted start → (d w : Memory) → StartsWith image d → StartsWith image w
+    → (desk : List DeskCall) (wall : List WallCall) → DeskCalls d desk → WallCalls w wall → Delivered (messages (map deskStep desk)) (map wallStep wall)
     → ReplicationCorrect start (map deskStep desk) (map wallStep wall)
-calls-demand-3 image start e d w sd sw desk wall dc wc dv =
-    let a = started image d sd start e in
-    let b = started image w sw start e in
-    let v : Valid limits start = subst (λ (t : State Drawing). Valid limits (t .drawing)) a (sketch-valid (d .replica .sketch) (sd .valid) .1) in
-    replication-correct start (map deskStep desk) (map wallStep wall) v
-    (subst (λ (t : State Drawing). DeskRun protocol t (map deskStep desk)) a (desk-run (d .replica) desk (sd .valid) dc))
-    (subst (λ (t : State Drawing). WallRun protocol t (map wallStep wall)) b (wall-run (w .replica) wall (sw .valid) wc))
+calls-demand-3 image b start e d w sd sw desk wall dc wc dv =
+    let hd = held-at-start image b start e d sd in
+    let hw = held-at-start image b start e w sw in
+    demand-3 image b start e (map deskStep desk) (map wallStep wall)
+    (subst (λ (t : State Drawing). DeskRun protocol t (map deskStep desk)) (hd .state) (desk-run d desk (hd .ready) dc))
+    (subst (λ (t : State Drawing). WallRun protocol t (map wallStep wall)) (hw .state) (wall-run w wall (hw .ready) wc))
     dv

@@ -1,101 +1,124 @@
 -- The ways out of the desk's call.
-use mathlib.Core.Path.{_≡_, refl, sym, ap, _∙_}
-use mathlib.Core.Bool.{true}
+use mathlib.Core.Path.{_≡_, refl, sym, ap, _∙_, subst}
+use mathlib.Core.Bool.{true, not}
 use mathlib.Core.List.{List}
 use Prim.Native.Nat.{ℕ, _+_, _≤_, _<_}
 use native.Mathlib.Omega.{arith}
-use lib.ListN.{length, take}
-use lib.Seq.{take-at}
+use lib.ListN.{length}
+use lib.Dec.{T, eqb}
+use lib.Ieee.{isNan}
 use borrow.Author.Tests.{le-leb, lt-leb, lt-ltb, le-ltb}
 use Rattle.big_endian.specs.Fields.{over}
 use Rattle.sketch.specs.Lists.{guardNumber}
-use Rattle.sketch.specs.Valid.{sketchFault}
+use Rattle.sketch.specs.Drawing.{Drawing, limits, curveIn}
+use Rattle.sketch.specs.Valid.{okCoordinate}
+use Rattle.sketch.proofs.Bools.{and-both}
+use Rattle.image.specs.Image as I
 use Rattle.message.specs.Message.{encode, MessageWritten, messageSize}
-use Rattle.message.proofs.MessageRoundTrips.{length-message}
-use Rattle.edit_plan.specs.declared.Edited.{Edited}
-use Rattle.edit_plan.specs.Outcome.{refused, guard}
-use Rattle.edit_plan.specs.Suited.{outcomeOf}
-use Rattle.modify.specs.Edits.{EditAnswer}
-use Rattle.agreement.specs.Machines as M
-use Rattle.agreement.specs.Machines.{maxEditNumber, Call, callOutcome, withCount, stateAfter}
+use Rattle.edit_plan.specs.declared.Removed.{Removed}
+use Rattle.edit_plan.specs.Outcome as O
+use Rattle.edit_plan.specs.Outcome.{guard}
+use Rattle.edit_plan.specs.Tables.{okPosition}
+use Rattle.extend.specs.declared.EditedImage.{EditedImage}
+use Rattle.extend.specs.ExtendAnswer.{NoPlace}
+use Rattle.modify.specs.Edits.{planOnFound, editOf}
+use Rattle.modify.specs.ImageEdits.{editImage, EditWritten}
+use Rattle.modify.proofs.Planned.{guard-accepted}
+use Rattle.agreement.specs.Machines.{maxEditNumber, Call, withCount}
 use Rattle.replication.specs.declared.Replica.{Replica}
 use Rattle.replication.specs.declared.DeskReply.the-variants as Desk
-use Rattle.replication.specs.Protocol.{Edit, isPick, messageFor, protocol}
-use Rattle.replication.specs.Transitions.{stateOf, firstFault, DeskEdits}
-use Rattle.replication.proofs.Outcomes.{first-refused, first-sound, first-above, out-refused, out-accepted, refusal-fault, accepted-sound, edit-is, unmet}
+use Rattle.replication.specs.declared.DeskTransition.{DeskTransition}
+use Rattle.replication.specs.Protocol.{Edit, isPick, messageFor}
+use Rattle.replication.specs.Outcomes.{CallOutcome, refused, updated, deskOutcome, deskOn, numberOf, OutcomeSound, messageAfter}
+use Rattle.replication.specs.Transitions.{Memory, memory, imageIn, UnmetPlace, firstFault, memoryAfter, deskReplyTo, deskCallOutcome, DeskEdits}
+use Rattle.replication.specs.Contracts.{deskRefusing}
+use Rattle.replication.proofs.Picks.{is-number, decided-place}
+use Rattle.replication.proofs.CallOutcomes.{Early, first-early, on-first, unmet-none, applied, on-image, EditOutcome, edit-outcome, edit-unmet}
 
-module _ (s : Replica) (e : Edit) (b : List ℕ) where
+module _ (s : Replica) (b : List ℕ) (e : Edit) (l : List ℕ) where
+  abbrev m : Memory
+  m = memory s b
+
   abbrev call : Call Edit
-  call = record { edit = e; room = length b }
+  call = record { edit = e; room = length l }
 
-  -- refused before the edit is looked at
-  desk-refused :
-      (k n : ℕ) → n ≡ firstFault (s .sketch) k → callOutcome protocol (stateOf s) call ≡ refused k → (k ≡ 13 → ⊥) → (k ≡ 19 → ⊥) → (k ≡ 0 → ⊥)
-      → DeskEdits s (record { edit = e; before = b; after = b; answer = record { replica = s; reply = Desk.Refused n 0 } })
-  desk-refused k n f q t u o =
+  abbrev outcome : CallOutcome
+  outcome = deskCallOutcome m e (length l)
+
+  -- an answer, with what is left of buffer and message
+  abbrev Answers : List ℕ → List ℕ → DeskTransition → Type 0
+  Answers b′ l′ r = DeskEdits m (record { edit = e; before = l; after = l′; left = memory (r .replica) b′; reply = r .reply })
+
+  -- a refusal leaves all
+  refusing : (n place : ℕ) → outcome ≡ refused n → (n ≡ 0 → ⊥) → NoPlace n place → ((d : Drawing) → I.parse (imageIn m) ≡ I.accepted d → UnmetPlace e d n place) → Answers b l (deskRefusing s n place)
+  refusing n place g z p u =
       record {
-        when-refused = λ h. ap M.deskRefused (first-refused (s .sketch) k f h);
-        step = λ h. record { state = sym (ap (stateAfter (stateOf s)) q); reply = ap M.deskRefused (first-sound (s .sketch) k f h) ∙ sym (ap (M.replyTo protocol e) q) };
-        valid = λ h. h;
-        place = λ h. record { before = λ x z. absurd (t (sym (first-sound (s .sketch) k f h) ∙ z)); after = λ x z d′ reply q. absurd (u (sym (first-sound (s .sketch) k f h) ∙ z)) };
-        no-place = λ x y. refl;
-        numbered = first-above (s .sketch) k f o;
-        kept = refl;
-        buffer = refl;
+        place = place;
+        reply-is = sym (ap (λ (v : CallOutcome). deskReplyTo v place) g);
+        left-is = sym (ap (λ (v : CallOutcome). memoryAfter v m) g);
+        message-is = sym (ap (λ (v : CallOutcome). messageAfter v e l) g);
+        sound = subst OutcomeSound (sym g) z;
+        no-place = subst (λ (v : CallOutcome). NoPlace (numberOf v) place) (sym g) p;
+        unmet = λ d q. subst (λ (v : CallOutcome). UnmetPlace e d (numberOf v) place) (sym g) (u d q);
       }
 
-  pub desk-short : length b < messageSize → (n : ℕ) → n ≡ firstFault (s .sketch) 25 → DeskEdits s (record { edit = e; before = b; after = b; answer = record { replica = s; reply = Desk.Refused n 0 } })
+  -- refused before the edit is looked at
+  first : (k : ℕ) → Early k → deskOn (length b) call (record { drawing = I.drawingOf (imageIn m); count = s .count }) ≡ refused k → {n : ℕ} → n ≡ firstFault (imageIn m) k → {r : DeskTransition} → r ≡ deskRefusing s n 0 → Answers b l r
+  first k h g {n} f q =
+      let i = first-early (imageIn m) k n h f in
+      subst (Answers b l) (sym q) (refusing n 0 (on-first (imageIn m) (s .count) (deskOn (length b) call) k n f g) (i .not-0) (λ x y. refl) (λ d p. unmet-none e d n 0 (i .not-13) (i .not-19)))
+
+  pub desk-short : length l < messageSize → {n : ℕ} → n ≡ firstFault (imageIn m) 25 → {r : DeskTransition} → r ≡ deskRefusing s n 0 → Answers b l r
   unfolding guard
-  desk-short h n f = desk-refused 25 n f (rw (lt-leb messageSize (length b) h)) (λ z. omega arith) (λ z. omega arith) (λ z. omega arith)
+  desk-short h = first 25 (record { not-0 = λ z. omega arith; not-13 = λ z. omega arith; not-19 = λ z. omega arith }) (rw (lt-leb messageSize (length l) h))
 
-  module _ (room : messageSize ≤ length b) where
-    pub desk-full : maxEditNumber ≤ s .count → (n : ℕ) → n ≡ firstFault (s .sketch) 23 → DeskEdits s (record { edit = e; before = b; after = b; answer = record { replica = s; reply = Desk.Refused n 0 } })
+  module _ (room : messageSize ≤ length l) where
+    pub desk-full : maxEditNumber ≤ s .count → {n : ℕ} → n ≡ firstFault (imageIn m) 23 → {r : DeskTransition} → r ≡ deskRefusing s n 0 → Answers b l r
     unfolding guard
-    desk-full h n f = desk-refused 23 n f (rw (le-leb messageSize (length b) room, le-ltb (s .count) maxEditNumber h)) (λ z. omega arith) (λ z. omega arith) (λ z. omega arith)
+    desk-full h = first 23 (record { not-0 = λ z. omega arith; not-13 = λ z. omega arith; not-19 = λ z. omega arith }) (rw (le-leb messageSize (length l) room, le-ltb (s .count) maxEditNumber h))
 
-    module _ (low : s .count < maxEditNumber) (r : Edited) (a : EditAnswer (e .operation) (s .sketch) (e .curve) (e .at) r) (f : isPick (e .at) ≡ true) where
-      came : sketchFault (s .sketch) ≡ 0 → callOutcome protocol (stateOf s) call ≡ withCount (s .count + 1) (outcomeOf r)
+    module _ (low : s .count < maxEditNumber) (pick : isPick (e .at) ≡ true) (b′ : List ℕ) (x : EditedImage) (w : EditWritten (e .operation) (imageIn m) (e .curve) (e .at) b b′ x) where
+      counted : (n : ℕ) (o : O.Outcome Drawing Removed) → deskOutcome (length b) (withCount n o) ≡ applied (length b) n o
+      counted n (O.refused k) = refl
+      counted n (O.accepted d q) = refl
+
+      came : EditOutcome (imageIn m) e b b′ x w (s .count + 1) outcome
       unfolding guard
-      came h = rw (le-leb messageSize (length b) room, lt-ltb (s .count) maxEditNumber low) (ap (withCount (s .count + 1)) (edit-is (s .sketch) e r a f h))
+      came =
+          edit-outcome (imageIn m) e b b′ x w (s .count + 1) outcome
+          (on-image (imageIn m) (s .count) (deskOn (length b) call) (length b) (s .count + 1) e
+          (rw (le-leb messageSize (length l) room, lt-ltb (s .count) maxEditNumber low, pick) (counted (s .count + 1) (editOf (e .operation) limits (I.drawingOf (imageIn m)) (e .curve) (e .at)))))
 
-      pub desk-declined :
-          (r .refusal ≡ 0 → ⊥) → DeskEdits s (record { edit = e; before = b; after = b; answer = record { replica = s; reply = Desk.Refused (r .refusal) (r .place) } })
-      desk-declined z =
-          record {
-            when-refused = λ h. ap M.deskRefused (refusal-fault (s .sketch) e r a h z);
-            step = λ h.
-                let q = came h ∙ ap (withCount (s .count + 1)) (out-refused (s .sketch) e r a z) in
-                record { state = sym (ap (stateAfter (stateOf s)) q); reply = sym (ap (M.replyTo protocol e) q) };
-            valid = λ h. h;
-            place = λ h. unmet (s .sketch) e r a;
-            no-place = a .no-place;
-            numbered = z;
-            kept = refl;
-            buffer = refl;
-          }
+      pub desk-declined : (x .refusal ≡ 0 → ⊥) → {r : DeskTransition} → r ≡ deskRefusing s (x .refusal) (x .place) → Answers b′ l r
+      desk-declined z q =
+          let (g, same) = came .when-refused z in
+          let a = refusing (x .refusal) (x .place) g z (w .no-place) (edit-unmet (imageIn m) e b b′ x w (s .count + 1) outcome) in
+          subst (Answers b′ l) (sym q) (subst (λ (t : List ℕ). Answers t l (deskRefusing s (x .refusal) (x .place))) (sym same) a)
 
-      buffer-is : (now : List ℕ) (w : ℕ) → MessageWritten (messageFor (s .count + 1) e) b now w → now ≡ over b 0 (encode (messageFor (s .count + 1) e))
-      unfolding guardNumber
-      buffer-is now w h = h .buffer ∙ rw (le-leb 1 (s .count + 1) (omega arith), le-leb messageSize (length b) room)
-
-      front : take messageSize (over b 0 (encode (messageFor (s .count + 1) e))) ≡ encode (messageFor (s .count + 1) e)
-      unfolding over
-      front = take-at (encode (messageFor (s .count + 1) e)) _ messageSize (length-message (messageFor (s .count + 1) e))
+      -- a pick that was accepted is one of numbers
+      pub pick-numbers : x .refusal ≡ 0 → T (not (isNan (e .at .x))) × T (not (isNan (e .at .y)))
+      pick-numbers z =
+          let u = came .when-done z in
+          let d₀ = I.drawingOf (imageIn m) in
+          let (i, g) = guard-accepted (eqb (I.imageFault (imageIn m)) 0) (I.imageFault (imageIn m)) (editOf (e .operation) limits d₀ (e .curve) (e .at)) (u .drawing) (x .removed) (u .made-is) in
+          let p = decided-place (okPosition (e .at)) (planOnFound (e .operation) d₀ (e .at) (curveIn (d₀ .curves) (e .curve))) d₀ (e .curve) (u .drawing) (x .removed) g in
+          let (p, q) = and-both (okCoordinate (e .at .x)) (okCoordinate (e .at .y)) p in
+          (is-number (e .at .x) p, is-number (e .at .y) q)
 
       pub desk-done :
-          r .refusal ≡ 0 → (now : List ℕ) (w : ℕ) → MessageWritten (messageFor (s .count + 1) e) b now w
-          → DeskEdits s (record { edit = e; before = b; after = now; answer = record { replica = record { sketch = r .sketch; count = s .count + 1 }; reply = Desk.Accepted (r .removed) } })
-      desk-done z now w h =
-          let is = buffer-is now w h in
+          x .refusal ≡ 0 → (l′ : List ℕ) (k : ℕ) → MessageWritten (messageFor (s .count + 1) e) l l′ k
+          → Answers b′ l′ (record { replica = record { size = x .size; count = s .count + 1 }; reply = Desk.Accepted (x .removed) })
+      unfolding guardNumber
+      desk-done z l′ k u =
+          let t = came .when-done z in
+          let g = t .outcome in
+          let sent : l′ ≡ over l 0 (encode (messageFor (s .count + 1) e)) = u .buffer ∙ rw (le-leb 1 (s .count + 1) (omega arith), le-leb messageSize (length l) room) in
           record {
-            when-refused = λ g. absurd (accepted-sound (s .sketch) e r a g z);
-            step = λ g.
-                let q = came g ∙ ap (withCount (s .count + 1)) (out-accepted (s .sketch) e r a z) in
-                record { state = sym (ap (stateAfter (stateOf s)) q); reply = ap (M.deskAccepted (r .removed)) (ap (take messageSize) is ∙ front) ∙ sym (ap (M.replyTo protocol e) q) };
-            valid = λ g. a .valid z;
-            place = λ g. tt;
-            no-place = tt;
-            numbered = tt;
-            kept = tt;
-            buffer = is;
+            place = 0;
+            reply-is = sym (ap (λ (v : CallOutcome). deskReplyTo v 0) g);
+            left-is = (λ i. record { buffer = t .buffer-is i; size = t .size-is i; count = s .count + 1 }) ∙ sym (ap (λ (v : CallOutcome). memoryAfter v m) g);
+            message-is = sent ∙ sym (ap (λ (v : CallOutcome). messageAfter v e l) g);
+            sound = subst OutcomeSound (sym g) (t .sound);
+            no-place = λ i j. refl;
+            unmet = λ d q. subst (λ (v : CallOutcome). UnmetPlace e d (numberOf v) 0) (sym g) (unmet-none e d 0 0 (λ y. omega arith) (λ y. omega arith));
           }

@@ -1,32 +1,27 @@
 -- The wall's program: messages piece by piece, and the ways out.
-use mathlib.Core.Path.{_≡_, refl, sym, ap, _∙_, subst}
+use mathlib.Core.Path.{_≡_, refl, sym, ap, ap₂, _∙_, subst}
 use mathlib.Core.Bool.{Bool, true, false}
 use mathlib.Core.List.{List, [], _∷_}
-use Prim.Native.Nat.{ℕ, zero, suc, _+_, _*_, _-_, _≤_, _<_}
+use Prim.Native.Nat.{ℕ, zero, suc, _+_, _-_, _≤_, _<_}
 use native.Mathlib.Omega.{arith}
-use lib.ListN.{length, take, drop, set, length-drop, drop-of-length-le, length-map}
-use lib.Seq.{take-all, drop-drop, length-take-le}
-use lib.Dec.{leb, eqb}
-use borrow.Author.Tests.{le-leb, lt-leb, leb-true, leb-false, eq-eqb}
-use Rattle.big_endian.specs.Fields.{over}
-use Rattle.sketch.specs.declared.Sketch.{Sketch}
+use lib.ListN.{length, take, drop, set, length-drop, drop-of-length-le}
+use lib.Seq.{take-all, drop-drop}
+use lib.Dec.{leb}
+use borrow.Author.Tests.{le-leb, lt-leb, leb-false}
+use Rattle.big_endian.specs.Fields.{over, overIfFits}
+use Rattle.big_endian.specs.Laws.{Bytes, over-fits}
 use Rattle.sketch.specs.Lists.{ite, guardNumber}
-use Rattle.sketch.specs.Drawing.{Drawing, view}
-use Rattle.sketch.specs.Valid.{sketchFault}
-use Rattle.sketch.proofs.Sketches.{sketch-valid}
+use Rattle.sketch.specs.Drawing.{Drawing}
 use Rattle.image.specs.Image as I
-use Rattle.image.specs.Encode.{encode, drawingSize}
-use Rattle.sketch_image.specs.SketchImage.{ImageWritten}
-use Rattle.image.specs.Image.{headerSize}
+use Rattle.image.proofs.RoundTrips.{result-refused, result-none, encode-parse}
 use Rattle.message.specs.Message.{messageSize}
-use Rattle.image.specs.Records.{curveSize, pointSize, relationSize}
-use Rattle.image.proofs.RoundTrips.{result-refused, result-none}
-use Rattle.agreement.specs.Machines.{State, initial}
-use Rattle.replication.specs.declared.Replica.{Replica}
+use Rattle.agreement.specs.Machines.{State, initial, wallTransition}
 use Rattle.replication.specs.declared.Started.{Started}
-use Rattle.replication.specs.declared.WallTransition.{WallTransition}
-use Rattle.replication.specs.Transitions.{stateOf, Starts, wallCall, WallDelivers}
-use Rattle.replication.specs.Program.{imageEnd, chunksUpTo, chunks, wallAfterMessages, outcomeOn, programOutcome, WritesOutcome, DeliversAll}
+use Rattle.replication.specs.Protocol.{protocol}
+use Rattle.replication.specs.Transitions.{Memory, memory, imageIn, stateIn, Ready, firstNonzero, Starts, WallCall, WallDelivers}
+use Rattle.replication.specs.Program.{imageEnd, chunksUpTo, chunks, wallAfterMessages, outcomeOn, programOutcome, WritesOutcome, DeliversAll, WritesImage}
+use Rattle.replication.proofs.Steps.{length-parsed, Holding, wall-step}
+use Rattle.replication.proofs.StartCases.{start-image, starts-with, held-at-start}
 
 -- ---- the lesser of two sizes
 
@@ -80,37 +75,38 @@ pieces-more (b ∷ l) h =
     ap (λ (ps : List (List ℕ)). take messageSize (b ∷ l) ∷ ps) (fuel (length l) (length (drop messageSize (b ∷ l))) (drop messageSize (b ∷ l)) d (omega arith))
 
 -- one more message
-more : (s : Replica) (l : List ℕ) → 0 < length l → (a : WallTransition) → sketchFault (s .sketch) ≡ 0 → WallDelivers s (wallCall (take messageSize l) a)
-    → wallAfterMessages (stateOf (a .replica)) (chunks (drop messageSize l)) ≡ wallAfterMessages (stateOf s) (chunks l)
-more s l h a v w =
-    ap (λ (t : State Drawing). wallAfterMessages t (chunks (drop messageSize l))) (w .step v .state) ∙ sym (ap (wallAfterMessages (stateOf s)) (pieces-more l h))
+more : (s : Memory) (l : List ℕ) → 0 < length l → (c : WallCall) → Ready s → c .bytes ≡ take messageSize l → WallDelivers s c
+    → wallAfterMessages (stateIn (c .left)) (chunks (drop messageSize l)) ≡ wallAfterMessages (stateIn s) (chunks l)
+more s l h c v e w =
+    let x : stateIn (c .left) ≡ wallTransition protocol (stateIn s) (protocol .decode (take messageSize l)) .0 =
+    wall-step s v c w .0 .state ∙ ap (λ (m : List ℕ). wallTransition protocol (stateIn s) (protocol .decode m) .0) e in
+    ap (λ (t : State Drawing). wallAfterMessages t (chunks (drop messageSize l))) x ∙ sym (ap (wallAfterMessages (stateIn s)) (pieces-more l h))
 
 -- what the loop keeps
-pub record Follows (s₀ : Replica) (bytes : List ℕ) (s : Replica) (at : ℕ) : Type 0 where
+pub record Follows (s₀ : Memory) (bytes : List ℕ) (s : Memory) (at : ℕ) : Type 0 where
   pub within : at ≤ length bytes
-  pub valid : sketchFault (s .sketch) ≡ 0
-  pub on : wallAfterMessages (stateOf s) (chunks (drop at bytes)) ≡ wallAfterMessages (stateOf s₀) (chunks bytes)
+  pub ready : Ready s
+  pub on : wallAfterMessages (stateIn s) (chunks (drop at bytes)) ≡ wallAfterMessages (stateIn s₀) (chunks bytes)
 
 pub delivers-more :
-    (s₀ : Replica) (bytes : List ℕ) (s : Replica) (at r : ℕ) → Follows s₀ bytes s at → at < length bytes → r ≡ least messageSize (length bytes - at) → r ≤ length bytes - at
-    → (a : WallTransition) → WallDelivers s (wallCall (take (at + r - at) (drop at bytes)) a) → Follows s₀ bytes (a .replica) (at + r)
-delivers-more s₀ bytes s at r f h e le a w =
+    (s₀ : Memory) (bytes : List ℕ) (s : Memory) (at r : ℕ) → Follows s₀ bytes s at → at < length bytes → r ≡ least messageSize (length bytes - at) → r ≤ length bytes - at
+    → (c : WallCall) → c .bytes ≡ take (at + r - at) (drop at bytes) → WallDelivers s c → Follows s₀ bytes (c .left) (at + r)
+delivers-more s₀ bytes s at r f h e le c b w =
     let l = drop at bytes in
     let n : length l ≡ length bytes - at = length-drop at bytes in
     let q : at + r - at ≡ r = omega arith in
     let e2 : r ≡ least messageSize (length l) = e ∙ ap (least messageSize) (sym n) in
     let t : take (at + r - at) l ≡ take messageSize l = ap (λ (k : ℕ). take k l) (q ∙ e2) ∙ take-least messageSize l in
     let d : drop (at + r) bytes ≡ drop messageSize l = sym (drop-drop r at bytes) ∙ ap (λ (k : ℕ). drop k l) e2 ∙ drop-least messageSize l in
-    let w2 : WallDelivers s (wallCall (take messageSize l) a) = subst (λ (m : List ℕ). WallDelivers s (wallCall m a)) t w in
     record {
       within = omega arith;
-      valid = w .valid (f .valid);
-      on = ap (λ (m : List ℕ). wallAfterMessages (stateOf (a .replica)) (chunks m)) d ∙ more s l (omega arith) a (f .valid) w2 ∙ f .on;
+      ready = wall-step s (f .ready) c w .1;
+      on = ap (λ (m : List ℕ). wallAfterMessages (stateIn (c .left)) (chunks m)) d ∙ more s l (omega arith) c (f .ready) (b ∙ t) w ∙ f .on;
     }
 
-pub delivers-all : (s₀ : Replica) (bytes : List ℕ) (s : Replica) (at : ℕ) → Follows s₀ bytes s at → length bytes ≤ at → DeliversAll s₀ bytes s
+pub delivers-all : (s₀ : Memory) (bytes : List ℕ) (s : Memory) (at : ℕ) → Follows s₀ bytes s at → length bytes ≤ at → DeliversAll s₀ bytes s
 delivers-all s₀ bytes s at f h =
-    record { is = ap (λ (l : List ℕ). wallAfterMessages (stateOf s) (chunks l)) (sym (drop-of-length-le bytes h)) ∙ f .on; valid = f .valid }
+    record { is = ap (λ (l : List ℕ). wallAfterMessages (stateIn s) (chunks l)) (sym (drop-of-length-le bytes h)) ∙ f .on; ready = f .ready }
 
 -- ---- what is written
 
@@ -130,49 +126,29 @@ refusal-written k b h = record { size = rw (le-leb 6 (length b) h); buffer = rw 
     go (a ∷ b ∷ c ∷ d ∷ []) h = absurd (omega arith)
     go (a ∷ b ∷ c ∷ d ∷ e ∷ []) h = absurd (omega arith)
 
-module _ (sk : Sketch) (v : sketchFault sk ≡ 0) (b now : List ℕ) (r : ℕ) (w : ImageWritten sk b now r) where
-  number-is : r ≡ guardNumber (leb (drawingSize (view sk)) (length b)) 25 0
-  unfolding guardNumber
-  number-is = w .number ∙ rw (eq-eqb (sketchFault sk) 0 v)
+module _ (image b : List ℕ) (are : Bytes image) where
+  by-image : (d : Drawing) → I.parse image ≡ I.accepted d → {now : List ℕ} {r : ℕ} → r ≡ ite (leb (length image) (length b)) (length image) 0 → now ≡ ite (leb (length image) (length b)) (over b 0 image) b → r ≤ length b → WritesOutcome (I.accepted d) b now r
+  by-image d e p q l =
+      let size = length-parsed image d e in
+      let same = encode-parse image d are e in
+      record {
+        size = p ∙ ap (λ (n : ℕ). ite (leb n (length b)) n 0) size;
+        buffer = q ∙ ap₂ (λ (n : ℕ) (s : List ℕ). ite (leb n (length b)) (over b 0 s) b) size (sym same);
+        within = l;
+      }
 
-  buffer-is : now ≡ ite (leb (drawingSize (view sk)) (length b)) (over b 0 (encode (view sk))) b
-  unfolding guardNumber
-  buffer-is = w .buffer ∙ rw (eq-eqb (sketchFault sk) 0 v) (go (leb (drawingSize (view sk)) (length b)))
-    where
-      go : (t : Bool) → ite (eqb (guardNumber t 25 0) 0) (over b 0 (encode (view sk))) b ≡ ite t (over b 0 (encode (view sk))) b
-      go true = refl
-      go false = refl
+  pub image-short : length b < length image → WritesImage image b b 0
+  image-short h d e = by-image d e (rw (lt-leb (length image) (length b) h)) (rw (lt-leb (length image) (length b) h)) (omega arith)
 
-  by-room : (t : Bool) → leb (drawingSize (view sk)) (length b) ≡ t → r ≡ guardNumber t 25 0 → now ≡ ite t (over b 0 (encode (view sk))) b → (r ≡ 0) → (t ≡ true)
-  unfolding guardNumber
-  by-room true e n m z = refl
-  by-room false e n m z = absurd (omega arith)
-
-  pub sketch-short : (r ≡ 0 → ⊥) → WritesOutcome (I.accepted (view sk)) b now 0
-  unfolding guardNumber
-  sketch-short z = go (leb (drawingSize (view sk)) (length b)) refl number-is
-    where
-      go : (t : Bool) → leb (drawingSize (view sk)) (length b) ≡ t → r ≡ guardNumber t 25 0 → WritesOutcome (I.accepted (view sk)) b now 0
-      go true e n = absurd (z n)
-      go false e n = record { size = rw e; buffer = buffer-is; within = omega arith }
-
-  pub sketch-written : (p : length (sk .points) ≡ 512) (c : length (sk .curves) ≡ 128) (l : length (sk .relations) ≡ 256) → r ≡ 0
-      → WritesOutcome (I.accepted (view sk)) b now (headerSize + sk .npoints * pointSize + sk .ncurves * curveSize + sk .nrelations * relationSize)
-  sketch-written p c l z =
-      let s = sketch-valid sk v .0 in
-      let lp = length-take-le (sk .npoints) (sk .points) (omega (arith, s .points)) in
-      let lc = length-take-le (sk .ncurves) (sk .curves) (omega (arith, s .curves)) in
-      let lr = length-take-le (sk .nrelations) (sk .relations) (omega (arith, s .relations)) in
-      let size : drawingSize (view sk) ≡ headerSize + sk .npoints * pointSize + sk .ncurves * curveSize + sk .nrelations * relationSize = rw (lp, lc, length-map, lr) in
-      let t = by-room (leb (drawingSize (view sk)) (length b)) refl number-is buffer-is z in
-      record { size = rw t (sym size); buffer = buffer-is; within = omega (arith, size, leb-true (drawingSize (view sk)) (length b) t) }
+  pub image-written : length image ≤ length b → {now : List ℕ} → now ≡ overIfFits b 0 image → WritesImage image b now (length image)
+  image-written h q d e = by-image d e (rw (le-leb (length image) (length b) h)) (rw (le-leb (length image) (length b) h) (q ∙ over-fits b 0 image (omega arith))) h
 
 -- ---- the whole
 
 pub end-is : (n : ℕ) {f k r : ℕ} → k ≡ f → r ≡ least (4 + k) n → r ≡ least (4 + f) n
 end-is n p q = q ∙ ap (λ (k : ℕ). least (4 + k) n) p
 
-module _ (s : List ℕ) (end : ℕ) (e : end ≡ least (imageEnd s) (length s)) (r : Started) (st : Starts (take end s) r) where
+module _ (s : List ℕ) (end : ℕ) (e : end ≡ least (imageEnd s) (length s)) (b b′ : List ℕ) (r : Started) (st : Starts (take end s) b b′ r) where
   image-is : take end s ≡ take (imageEnd s) s
   image-is = ap (λ (n : ℕ). take n s) e ∙ take-least (imageEnd s) s
 
@@ -181,24 +157,36 @@ module _ (s : List ℕ) (end : ℕ) (e : end ≡ least (imageEnd s) (length s)) 
       let n : length (drop end s) ≡ length s - end = length-drop end s in
       take-all (length s - end) (drop end s) (omega arith) ∙ ap (λ (n : ℕ). drop n s) e ∙ drop-least (imageEnd s) s
 
-  reply : I.parse (take (imageEnd s) s) ≡ I.resultOf (r .refusal) (view (r .replica .sketch))
-  reply = ap I.parse (sym image-is) ∙ sym (st .reply)
+  -- the buffer has room for any image, so that a refusal is the image's
+  pub outcome-refused : I.maxImageSize ≤ length b → (r .refusal ≡ 0 → ⊥) → (l now : List ℕ) (n : ℕ) → WritesOutcome (I.refused (r .refusal)) l now n → WritesOutcome (programOutcome s) l now n
+  unfolding guardNumber
+  outcome-refused room h l now n w =
+      let own : r .refusal ≡ I.imageFault (take end s) = st .number ∙ rw (le-leb I.maxImageSize (length b) room) (go (I.imageFault (take end s))) in
+      let z : I.imageFault (take end s) ≡ 0 → ⊥ = λ y. h (own ∙ y) in
+      let q : programOutcome s ≡ I.refused (r .refusal) =
+      ap (λ (o : I.ParseResult). outcomeOn o (chunks (drop (imageEnd s) s))) (ap I.parse (sym image-is) ∙ result-refused (I.imageFault (take end s)) _ z) ∙ ap I.refused (sym own) in
+      subst (λ (o : I.ParseResult). WritesOutcome o l now n) (sym q) w
+    where
+      go : (k : ℕ) → firstNonzero k 0 ≡ k
+      go zero = refl
+      go (suc k) = refl
 
-  pub outcome-refused : (r .refusal ≡ 0 → ⊥) → (b now : List ℕ) (n : ℕ) → WritesOutcome (I.refused (r .refusal)) b now n → WritesOutcome (programOutcome s) b now n
-  outcome-refused h b now n w =
-      let q : programOutcome s ≡ I.refused (r .refusal) = ap (λ (o : I.ParseResult). outcomeOn o (chunks (drop (imageEnd s) s))) (reply ∙ result-refused (r .refusal) _ h) in
-      subst (λ (o : I.ParseResult). WritesOutcome o b now n) (sym q) w
+  module _ (z : r .refusal ≡ 0) (are : Bytes (take end s)) where
+    start-drawing : I.parse (take end s) ≡ I.accepted (I.drawingOf (take end s))
+    start-drawing = result-none (I.imageFault (take end s)) (I.drawingOf (take end s)) (start-image (take end s) b b′ r st z)
 
-  pub program-outcome :
-      r .refusal ≡ 0 → (last : Replica) → DeliversAll (r .replica) (take (length s - end) (drop end s)) last → (b now : List ℕ) (n : ℕ)
-      → WritesOutcome (I.accepted (view (last .sketch))) b now n → WritesOutcome (programOutcome s) b now n
-  program-outcome h last f b now n w =
-      let d = view (r .replica .sketch) in
-      let z : stateOf (r .replica) ≡ initial d = λ i. record { drawing = d; count = st .zero-count i } in
-      let m : stateOf last ≡ wallAfterMessages (initial d) (chunks (drop (imageEnd s) s)) =
-      f .is ∙ ap (λ (l : List ℕ). wallAfterMessages (stateOf (r .replica)) (chunks l)) rest-is ∙ ap (λ (t : State Drawing). wallAfterMessages t (chunks (drop (imageEnd s) s))) z
-      in
-      let q : programOutcome s ≡ I.accepted (view (last .sketch)) =
-      ap (λ (o : I.ParseResult). outcomeOn o (chunks (drop (imageEnd s) s))) (reply ∙ result-none (r .refusal) d h) ∙ ap (λ (t : State Drawing). I.accepted (t .drawing)) (sym m)
-      in
-      subst (λ (o : I.ParseResult). WritesOutcome o b now n) (sym q) w
+    pub program-start : Holding (memory (r .replica) b′) (initial (I.drawingOf (take end s)))
+    program-start = held-at-start (take end s) are (I.drawingOf (take end s)) start-drawing (memory (r .replica) b′) (starts-with (take end s) b b′ r st z)
+
+    pub program-outcome :
+        (last : Memory) → DeliversAll (memory (r .replica) b′) (take (length s - end) (drop end s)) last → {image : List ℕ} → image ≡ imageIn last → (l now : List ℕ) (n : ℕ)
+        → WritesImage image l now n → WritesOutcome (programOutcome s) l now n
+    program-outcome last f {image} g l now n w =
+        let d = I.drawingOf (take end s) in
+        let m : stateIn last ≡ wallAfterMessages (initial d) (chunks (drop (imageEnd s) s)) =
+        f .is ∙ ap (λ (l : List ℕ). wallAfterMessages (stateIn (memory (r .replica) b′)) (chunks l)) rest-is ∙ ap (λ (t : State Drawing). wallAfterMessages t (chunks (drop (imageEnd s) s))) (program-start .state)
+        in
+        let q : programOutcome s ≡ I.accepted (stateIn last .drawing) =
+        ap (λ (o : I.ParseResult). outcomeOn o (chunks (drop (imageEnd s) s))) (ap I.parse (sym image-is) ∙ start-drawing) ∙ ap (λ (t : State Drawing). I.accepted (t .drawing)) (sym m)
+        in
+        subst (λ (o : I.ParseResult). WritesOutcome o l now n) (sym q) (w (stateIn last .drawing) (ap I.parse g ∙ f .ready .image-is))

@@ -7,20 +7,23 @@ use native.Mathlib.Omega.{arith}
 use lib.ListN.{length}
 use lib.Dec.{leb}
 use borrow.Author.Tests.{le-leb, lt-leb, leb-true}
+use Rattle.big_endian.specs.Laws.{Bytes}
 use Rattle.sketch.specs.Lists.{guardNumber}
-use Rattle.sketch.specs.Drawing.{Drawing, view}
-use Rattle.sketch.proofs.Sketches.{sketch-valid}
+use Rattle.sketch.specs.Drawing.{Drawing}
+use Rattle.sketch.proofs.Bools.{and-both}
 use Rattle.image.specs.Image as I
-use Rattle.sketch_image.specs.SketchImage.{drawingIn}
-use Rattle.image.proofs.RoundTrips.{result-none, result-number}
+use Rattle.image.proofs.RoundTrips.{result-none}
 use Rattle.message.specs.Message.{messageSize}
 use Rattle.agreement.specs.Machines.{State, initial, messages, WallRun, wallAfter}
 use Rattle.replication.specs.declared.Replica.{Replica}
 use Rattle.replication.specs.declared.Started.{Started}
+use Rattle.replication.specs.declared.RunResult.{RunResult}
 use Rattle.replication.specs.Protocol.{protocol}
-use Rattle.replication.specs.Transitions.{stateOf, Starts}
-use Rattle.replication.specs.RunBoth.{firstNonzero, callsIn, hasRoom, DeskRan, messagesInLog, WallRan, RunsBoth, callSize, maxRoom}
-use Rattle.replication.proofs.Demand3.{replication-correct}
+use Rattle.replication.specs.Transitions.{memory, stateIn, firstNonzero, Starts, firstFault}
+use Rattle.replication.specs.RunBoth.{callsIn, hasRoom, holdsAny, runBothFault, DeskRan, messagesInLog, WallRan, RunsBoth, callSize, maxRoom}
+use Rattle.replication.proofs.Steps.{Holding}
+use Rattle.replication.proofs.StartCases.{nonzero-first, nonzero-second, above-first, starts-with, held-at-start}
+use Rattle.replication.proofs.Demand3.{demand-3}
 use Rattle.replication.proofs.Runs.{deliver, log-holds, log-after}
 
 -- ---- room
@@ -31,7 +34,7 @@ room-short size room h = rw (lt-leb maxRoom room h)
 pub room-enough : (size room : ℕ) → maxRoom ≤ room → leb (size / callSize) ((room - maxRoom) / messageSize) ≡ hasRoom size room
 room-enough size room h = rw (le-leb maxRoom room h)
 
-pub room-is : (size room : ℕ) → hasRoom size room ≡ true → messageSize * (size / callSize) + maxRoom ≤ room
+room-is : (size room : ℕ) → hasRoom size room ≡ true → messageSize * (size / callSize) + maxRoom ≤ room
 room-is size room e = go (leb maxRoom room) refl (leb (size / callSize) ((room - maxRoom) / messageSize)) refl e
   where
     go : (a : Bool) → leb maxRoom room ≡ a → (b : Bool) → leb (size / callSize) ((room - maxRoom) / messageSize) ≡ b → (a && b) ≡ true → messageSize * (size / callSize) + maxRoom ≤ room
@@ -39,80 +42,94 @@ room-is size room e = go (leb maxRoom room) refl (leb (size / callSize) ((room -
     go true p false q e = let z : _≡_ {A = ℕ} 0 1 = cc in absurd (omega arith)
     go false p b q e = let z : _≡_ {A = ℕ} 0 1 = cc in absurd (omega arith)
 
--- ---- the start
+-- ---- the ways out
 
-or-first : (n m : ℕ) → (n ≡ 0 → ⊥) → firstNonzero n m ≡ n
-or-first zero m h = absurd (h refl)
-or-first (suc n) m h = refl
+abbrev refusedRun : ℕ → RunResult
+refusedRun k = record { desk = record { size = 0; count = 0 }; wall = record { size = 0; count = 0 }; refusal = k }
 
-or-second : (n m : ℕ) → n ≡ 0 → firstNonzero n m ≡ m
-or-second zero m h = refl
-or-second (suc n) m h = absurd (omega arith)
+module _ (image entries order before desk wall : List ℕ) where
+  abbrev hasAll : Bool
+  hasAll = hasRoom (length entries) (length before) && (holdsAny (length desk) && holdsAny (length wall))
 
-module _ (image entries order before : List ℕ) (s : Started) (st : Starts image s) where
-  abbrev start : Drawing
-  start = view (s .replica .sketch)
+  -- the tests of all three rooms
+  pub rooms-of : {a t : Bool} → a ≡ hasRoom (length entries) (length before) → (a && holdsAny (length desk) && holdsAny (length wall)) ≡ t → hasAll ≡ t
+  rooms-of e h =
+      and-assoc (hasRoom (length entries) (length before)) (holdsAny (length desk)) (holdsAny (length wall)) ∙ sym (ap (λ (x : Bool). x && holdsAny (length desk) && holdsAny (length wall)) e) ∙ h
+    where
+      and-assoc : (x y z : Bool) → (x && (y && z)) ≡ (x && y && z)
+      and-assoc true y z = refl
+      and-assoc false y z = refl
 
-  fault-is : s .refusal ≡ I.imageFault image
-  fault-is = result-number (s .refusal) (I.imageFault image) start (I.drawingOf image) (st .reply)
+  refusing : (k : ℕ) → k ≡ runBothFault image (length entries) (length before) (length desk) (length wall) → (k ≡ 0 → ⊥) → RunsBoth image entries order before before desk desk wall wall (refusedRun k)
+  refusing k e z = record { number = e; kept = λ y. (refl, refl, refl, refl, refl); held = λ y. absurd (z y) }
 
-  state-is : stateOf (s .replica) ≡ initial (drawingIn (I.parse image))
-  state-is i = record { drawing = st .drawing-is i; count = st .zero-count i }
+  pub run-short : hasAll ≡ false → {k : ℕ} → k ≡ firstFault image 25 → {r : RunResult} → r ≡ refusedRun k → RunsBoth image entries order before before desk desk wall wall r
+  unfolding guardNumber
+  run-short h {k} e q =
+      let f : k ≡ firstNonzero (I.imageFault image) 25 = e ∙ sym (nonzero-first (I.imageFault image) 25) in
+      rw q (refusing k (f ∙ sym (rw h)) (λ z. above-first (I.imageFault image) 25 (λ y. omega arith) (sym f ∙ z)))
 
-  pub not-started : (s .refusal ≡ 0 → ⊥) → RunsBoth image entries order before before (record { desk = s .replica; wall = s .replica; refusal = s .refusal })
-  not-started h =
-      record {
-        number = fault-is ∙ sym (or-first (I.imageFault image) _ (λ z. h (fault-is ∙ z)));
-        desk-start = λ z. state-is;
-        wall-start = λ z. state-is;
-        log-kept = λ z. refl;
-        held = λ z. absurd (h z);
-      }
+  module _ (enough : hasAll ≡ true) (d : Started) (desk₀ : List ℕ) (sd : Starts image desk desk₀ d) where
+    rooms : (holdsAny (length desk) ≡ true) × (holdsAny (length wall) ≡ true)
+    rooms = and-both (holdsAny (length desk)) (holdsAny (length wall)) (and-both (hasRoom (length entries) (length before)) (holdsAny (length desk) && holdsAny (length wall)) enough .1)
 
-  module _ (z : s .refusal ≡ 0) where
-    fault-none : I.imageFault image ≡ 0
-    fault-none = sym fault-is ∙ z
+    pub room-of-log : messageSize * (length entries / callSize) + maxRoom ≤ length before
+    room-of-log = room-is (length entries) (length before) (and-both (hasRoom (length entries) (length before)) (holdsAny (length desk) && holdsAny (length wall)) enough .0)
 
-    pub no-room : hasRoom (length entries) (length before) ≡ false → RunsBoth image entries order before before (record { desk = s .replica; wall = s .replica; refusal = 25 })
+    fault-is : d .refusal ≡ I.imageFault image
     unfolding guardNumber
-    no-room h =
-        record {
-          number = sym (or-second (I.imageFault image) _ fault-none ∙ rw h);
-          desk-start = λ z. state-is;
-          wall-start = λ z. state-is;
-          log-kept = λ z. refl;
-          held = λ z. absurd (omega arith);
-        }
+    fault-is = sd .number ∙ ap (λ (b : Bool). firstNonzero (I.imageFault image) (guardNumber b 25 0)) (rooms .0) ∙ go (I.imageFault image)
+      where
+        go : (n : ℕ) → firstNonzero n 0 ≡ n
+        go zero = refl
+        go (suc n) = refl
 
-    image-read : I.resultOf (s .refusal) start ≡ I.accepted start
-    image-read = result-none (s .refusal) start z
+    number-is : d .refusal ≡ runBothFault image (length entries) (length before) (length desk) (length wall)
+    unfolding guardNumber
+    number-is = sd .number ∙ ap (λ (b : Bool). firstNonzero (I.imageFault image) (guardNumber b 25 0)) (rooms .0 ∙ sym enough)
 
-    module _ (enough : hasRoom (length entries) (length before) ≡ true) (log : List ℕ) (w : Replica) (r : DeskRan start (callsIn entries) before log w) where
-      pub both-ran : (t : Replica) → WallRan (s .replica) (messagesInLog (w .count) log order) t → RunsBoth image entries order before log (record { desk = w; wall = t; refusal = 0 })
+    pub run-refused : (d .refusal ≡ 0 → ⊥) → {r : RunResult} → r ≡ refusedRun (d .refusal) → RunsBoth image entries order before before desk desk₀ wall wall r
+    run-refused z q = rw q (subst (λ (l : List ℕ). RunsBoth image entries order before before desk l wall wall (refusedRun (d .refusal))) (sym (sd .when-refused z .0)) (refusing (d .refusal) number-is z))
+
+    module _ (z : d .refusal ≡ 0) (are : Bytes image) (w : Started) (wall₀ : List ℕ) (sw : Starts image wall wall₀ w) where
+      abbrev start : Drawing
+      start = I.drawingOf image
+
+      wall-started : w .refusal ≡ 0
       unfolding guardNumber
-      both-ran t a =
-          let initial-is : stateOf (s .replica) ≡ initial start = λ i. record { drawing = start; count = st .zero-count i } in
-          let fed = a .fed ∙ log-holds start (callsIn entries) before log w r order in
-          let run : WallRun protocol (initial start) (a .steps) = subst (λ (u : State Drawing). WallRun protocol u (a .steps)) initial-is (a .run) in
-          record {
-            number = sym (or-second (I.imageFault image) _ fault-none ∙ rw enough);
-            desk-start = λ z. absurd (z refl);
-            wall-start = λ z. absurd (z refl);
-            log-kept = λ z. absurd (z refl);
-            held = λ z. record {
-              start = start;
-              image-is = sym (st .reply) ∙ image-read;
-              desk = r .steps;
-              wall = a .steps;
-              desk-run = r .run;
-              wall-run = run;
-              desk-fed = r .fed;
-              wall-fed = fed;
-              desk-ends = r .ends;
-              wall-ends = ap (λ (u : State Drawing). wallAfter u (a .steps)) (sym initial-is) ∙ a .ends;
-              log-is = log-after start (callsIn entries) before log w r;
-              correct =
-                  replication-correct start (r .steps) (a .steps) (sketch-valid (s .replica .sketch) (st .valid) .1) (r .run) run
-                  (deliver (messages (r .steps)) order (a .steps) fed);
-            };
-          }
+      wall-started = sw .number ∙ ap (λ (b : Bool). firstNonzero (I.imageFault image) (guardNumber b 25 0)) (rooms .1) ∙ nonzero-second (I.imageFault image) 0 (sym fault-is ∙ z)
+
+      image-read : I.parse image ≡ I.accepted start
+      image-read = result-none (I.imageFault image) start (sym fault-is ∙ z)
+
+      pub at-desk : Holding (memory (d .replica) desk₀) (initial start)
+      at-desk = held-at-start image are start image-read (memory (d .replica) desk₀) (starts-with image desk desk₀ d sd z)
+
+      pub at-wall : Holding (memory (w .replica) wall₀) (initial start)
+      at-wall = held-at-start image are start image-read (memory (w .replica) wall₀) (starts-with image wall wall₀ w sw wall-started)
+
+      module _ (log desk′ wall′ : List ℕ) (x y : Replica) (r : DeskRan (stateIn (memory (d .replica) desk₀) .drawing) (callsIn entries) before log (memory x desk′)) where
+        pub both-ran : WallRan (memory (w .replica) wall₀) (messagesInLog (x .count) log order) (memory y wall′) → RunsBoth image entries order before log desk desk′ wall wall′ (record { desk = x; wall = y; refusal = 0 })
+        both-ran a =
+            let same : stateIn (memory (d .replica) desk₀) .drawing ≡ start = ap (λ (t : State Drawing). t .drawing) (at-desk .state) in
+            let r2 : DeskRan start (callsIn entries) before log (memory x desk′) = subst (λ (d : Drawing). DeskRan d (callsIn entries) before log (memory x desk′)) same r in
+            let fed = a .fed ∙ log-holds start (callsIn entries) before log (memory x desk′) r2 order in
+            let run : WallRun protocol (initial start) (a .steps) = subst (λ (u : State Drawing). WallRun protocol u (a .steps)) (at-wall .state) (a .run) in
+            record {
+              number = sym z ∙ number-is;
+              kept = λ y. absurd (y refl);
+              held = λ y. record {
+                start = start;
+                image-is = image-read;
+                desk-steps = r2 .steps;
+                wall-steps = a .steps;
+                desk-run = r2 .run;
+                wall-run = run;
+                desk-fed = r2 .fed;
+                wall-fed = fed;
+                desk-ends = r2 .ends;
+                wall-ends = ap (λ (u : State Drawing). wallAfter u (a .steps)) (sym (at-wall .state)) ∙ a .ends;
+                log-is = log-after start (callsIn entries) before log (memory x desk′) r2;
+                correct = demand-3 image are start image-read (r2 .steps) (a .steps) (r2 .run) run (deliver (messages (r2 .steps)) order (a .steps) fed);
+              };
+            }

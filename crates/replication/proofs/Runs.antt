@@ -13,28 +13,27 @@ use borrow.Rule.Slice.PartMut.{midOf, putMid, put-same, same-len-mid, mid-len}
 use Rattle.big_endian.specs.Fields.{field, over}
 use Rattle.big_endian.specs.Laws.{length-over}
 use Rattle.sketch.specs.Lists.{ite, concatMap}
-use Rattle.sketch.specs.Drawing.{Drawing, view}
+use Rattle.sketch.specs.Drawing.{Drawing}
 use Rattle.sketch.proofs.Lists.{concat-map-append}
-use Rattle.sketch.specs.Valid.{sketchFault}
 use Rattle.message.specs.Message.{encode, messageSize}
 use Rattle.message.proofs.MessageRoundTrips.{length-message}
 use Rattle.cuts.specs.Columns.{rows}
 use Rattle.cuts.proofs.Rows.{rows-length}
 use Rattle.edit_plan.specs.declared.Removed.{Removed}
-use Rattle.edit_plan.specs.Outcome.{Outcome, refused, accepted}
+use Rattle.edit_plan.specs.Outcome.{Outcome, accepted}
+use Rattle.edit_plan.specs.Outcome as O
 use Rattle.edit_plan.proofs.Tables.{Holds}
 use Rattle.agreement.specs.Machines as M
 use Rattle.agreement.specs.Machines.{State, initial, Call, callOutcome, stateAfter, DeskStep, DeskStepValid, DeskRun, deskAfter, prependMessage, messages, WallStep, WallStepValid, WallRun, wallAfter, Delivered}
 use Rattle.agreement.proofs.Reference.{Step, called}
-use Rattle.replication.specs.declared.Replica.{Replica}
 use Rattle.replication.specs.declared.DeskReply.{DeskReply}
 use Rattle.replication.specs.declared.DeskReply.the-variants as Desk
-use Rattle.replication.specs.declared.DeskTransition.{DeskTransition}
-use Rattle.replication.specs.declared.WallTransition.{WallTransition}
 use Rattle.replication.specs.Protocol.{Edit, messageFor, protocol}
-use Rattle.replication.specs.Transitions.{stateOf, deskReply, deskStep, written, DeskCall, DeskEdits, wallStep, wallCall, WallDelivers}
+use Rattle.replication.specs.Outcomes.{CallOutcome, refused, updated, messageAfter}
+use Rattle.replication.specs.Transitions.{Memory, stateIn, Ready, memoryAfter, DeskCall, deskReply, deskStep, deskReplyTo, deskCallOutcome, DeskEdits, WallCall, wallStep, WallDelivers}
 use Rattle.replication.specs.RunBoth.{editAt, callAt, callsIn, concat, MessageSized, DeskRan, messagesInLog, WallRan, messagesAt, roomAt, callSize, maxRoom}
-use Rattle.replication.proofs.Decoding.{guard-accepted}
+use Rattle.modify.proofs.Planned.{guard-accepted}
+use Rattle.replication.proofs.Steps.{DeskCase, desk-refused, desk-updated, desk-case, desk-step, wall-step}
 
 -- ---- lists that grow at their end
 
@@ -67,11 +66,11 @@ wall-after-more : (s : State Drawing) (xs : List (WallStep Drawing Removed)) (x 
 wall-after-more s [] x = refl
 wall-after-more s (u ∷ xs) x = wall-after-more (u .state) xs x
 
-pub ran-none : (s : Replica) → sketchFault (s .sketch) ≡ 0 → WallRan s [] s
-ran-none s v = record { steps = []; run = tt; fed = refl; ends = refl; valid = v }
+pub ran-none : (s : Memory) → Ready s → WallRan s [] s
+ran-none s v = record { steps = []; run = tt; fed = refl; ends = refl; ready = v }
 
 -- one place more of the log's n
-module _ (s t : Replica) (n : ℕ) (log order : List ℕ) (j : ℕ) (h : j < length order) (r : WallRan s (messagesInLog n log (take j order)) t) where
+module _ (s t : Memory) (n : ℕ) (log order : List ℕ) (j : ℕ) (h : j < length order) (r : WallRan s (messagesInLog n log (take j order)) t) where
   abbrev o : ℕ
   o = getD order j 0
 
@@ -84,25 +83,24 @@ module _ (s t : Replica) (n : ℕ) (log order : List ℕ) (j : ℕ) (h : j < len
   pub ran-past : n ≤ o → WallRan s (messagesInLog n log (take (suc j) order)) t
   ran-past k = subst (λ (l : List (List ℕ)). WallRan s l t) (sym (grows ∙ rw (le-ltb o n k) (append-nil (messagesInLog n log (take j order))))) r
 
-  pub ran-more : o < n → (from : ℕ) (a : WallTransition) → from ≡ o * messageSize → WallDelivers t (wallCall (take (from + messageSize - from) (drop from log)) a) → WallRan s (messagesInLog n log (take (suc j) order)) (a .replica)
-  ran-more k from a f w =
+  pub ran-more : o < n → (from : ℕ) (c : WallCall) → from ≡ o * messageSize → c .bytes ≡ take (from + messageSize - from) (drop from log) → WallDelivers t c → WallRan s (messagesInLog n log (take (suc j) order)) (c .left)
+  ran-more k from c f b w =
       let e : from + messageSize - from ≡ messageSize = omega arith in
       let g : from ≡ messageSize * o = omega arith in
-      let m : take (from + messageSize - from) (drop from log) ≡ delivery = ap₂ (λ (k l : ℕ). take k (drop l log)) e g in
-      let w2 : WallDelivers t (wallCall delivery a) = subst (λ (m : List ℕ). WallDelivers t (wallCall m a)) m w in
-      let x = wallStep (wallCall delivery a) in
+      let m : c .bytes ≡ delivery = b ∙ ap₂ (λ (k l : ℕ). take k (drop l log)) e g in
+      let (valid, ready) = wall-step t (r .ready) c w in
       record {
-        steps = r .steps ++ (x ∷ []);
-        run = wall-more (stateOf s) (r .steps) x (r .run) (subst (λ (u : State Drawing). WallStepValid protocol u x) (sym (r .ends)) (w2 .step (r .valid)));
+        steps = r .steps ++ (wallStep c ∷ []);
+        run = wall-more (stateIn s) (r .steps) (wallStep c) (r .run) (subst (λ (u : State Drawing). WallStepValid protocol u (wallStep c)) (sym (r .ends)) valid);
         fed =
-            map-more (λ (x : WallStep Drawing Removed). x .bytes) (r .steps) x
-            ∙ ap (λ (l : List (List ℕ)). l ++ (delivery ∷ [])) (r .fed)
+            map-more (λ (x : WallStep Drawing Removed). x .bytes) (r .steps) (wallStep c)
+            ∙ ap₂ (λ (l : List (List ℕ)) (m : List ℕ). l ++ (m ∷ [])) (r .fed) m
             ∙ sym (grows ∙ rw (lt-ltb o n k));
-        ends = wall-after-more (stateOf s) (r .steps) x;
-        valid = w .valid (r .valid);
+        ends = wall-after-more (stateIn s) (r .steps) (wallStep c);
+        ready = ready;
       }
 
-pub ran-all : (s t : Replica) (n : ℕ) (log order : List ℕ) (j : ℕ) → length order ≤ j → WallRan s (messagesInLog n log (take j order)) t → WallRan s (messagesInLog n log order) t
+pub ran-all : (s t : Memory) (n : ℕ) (log order : List ℕ) (j : ℕ) → length order ≤ j → WallRan s (messagesInLog n log (take j order)) t → WallRan s (messagesInLog n log order) t
 ran-all s t n log order j h r = subst (λ (l : List ℕ). WallRan s (messagesInLog n log l) t) (take-all j order h) r
 
 -- ---- a run of the desk
@@ -131,38 +129,38 @@ message-sized-append : (xs ys : List (List ℕ)) → MessageSized xs → Message
 message-sized-append [] ys h k = k
 message-sized-append (m ∷ xs) ys h k = (h .0, message-sized-append xs ys (h .1) k)
 
-desk-ran-none : (s : Replica) (log : List ℕ) → sketchFault (s .sketch) ≡ 0 → s .count ≡ 0 → DeskRan (view (s .sketch)) [] log log s
+desk-ran-none : (s : Memory) (log : List ℕ) → Ready s → s .count ≡ 0 → DeskRan (stateIn s .drawing) [] log log s
 desk-ran-none s log v z =
     let n : messageSize * s .count ≡ 0 = omega arith in
     record {
       steps = [];
       run = tt;
       fed = refl;
-      ends = λ i. record { drawing = view (s .sketch); count = sym z i };
+      ends = λ i. record { drawing = stateIn s .drawing; count = sym z i };
       logged = sym (ap (λ (k : ℕ). take k log) n);
       rest = refl;
       fits = omega arith;
       many = sym z;
       few = omega arith;
       sizes = tt;
-      valid = v;
+      ready = v;
     }
 
 -- one more call: its step, and what it left in the log
-module _ (d : Drawing) (cs : List (Call Edit)) (before log : List ℕ) (w : Replica) (r : DeskRan d cs before log w) (c : DeskCall) (step : DeskEdits w c) where
+module _ (d : Drawing) (cs : List (Call Edit)) (before log : List ℕ) (w : Memory) (r : DeskRan d cs before log w) (c : DeskCall) (step : DeskEdits w c) where
   abbrev reply : List (List ℕ)
   reply = prependMessage (deskStep c .reply) []
 
   made :
-      (l : List ℕ) → concat (messages (r .steps)) ++ concat reply ≡ take (messageSize * c .answer .replica .count) l
-      → drop (messageSize * c .answer .replica .count) l ≡ drop (messageSize * c .answer .replica .count) before → messageSize * c .answer .replica .count ≤ length l
-      → length (messages (r .steps)) + length reply ≡ c .answer .replica .count → c .answer .replica .count ≤ length cs + 1 → MessageSized reply
-      → DeskRan d (cs ++ (deskStep c .call ∷ [])) before l (c .answer .replica)
+      (l : List ℕ) → concat (messages (r .steps)) ++ concat reply ≡ take (messageSize * c .left .count) l
+      → drop (messageSize * c .left .count) l ≡ drop (messageSize * c .left .count) before → messageSize * c .left .count ≤ length l
+      → length (messages (r .steps)) + length reply ≡ c .left .count → c .left .count ≤ length cs + 1 → MessageSized reply
+      → DeskRan d (cs ++ (deskStep c .call ∷ [])) before l (c .left)
   made l lg rs ft mn fw tw =
       let mm = messages-more (r .steps) (deskStep c) in
       record {
         steps = r .steps ++ (deskStep c ∷ []);
-        run = desk-more (initial d) (r .steps) (deskStep c) (r .run) (subst (λ (u : State Drawing). DeskStepValid protocol u (deskStep c)) (sym (r .ends)) (step .step (r .valid)));
+        run = desk-more (initial d) (r .steps) (deskStep c) (r .run) (subst (λ (u : State Drawing). DeskStepValid protocol u (deskStep c)) (sym (r .ends)) (desk-step w (r .ready) c step .0));
         fed = map-more (λ (x : DeskStep Drawing Edit Removed). x .call) (r .steps) (deskStep c) ∙ ap (λ (l : List (Call Edit)). l ++ (deskStep c .call ∷ [])) (r .fed);
         ends = desk-after-more (initial d) (r .steps) (deskStep c);
         logged = ap concat mm ∙ flat-append (messages (r .steps)) reply ∙ lg;
@@ -171,7 +169,7 @@ module _ (d : Drawing) (cs : List (Call Edit)) (before log : List ℕ) (w : Repl
         many = ap length mm ∙ length-append (messages (r .steps)) reply ∙ mn;
         few = omega (arith, length-append cs (deskStep c .call ∷ []));
         sizes = subst MessageSized (sym mm) (message-sized-append (messages (r .steps)) reply (r .sizes) tw);
-        valid = step .valid (r .valid);
+        ready = desk-step w (r .ready) c step .1;
       }
 
 -- a message written over the front of a part leaves what lies behind it
@@ -191,6 +189,24 @@ rest-after log msg from room p h k e =
     ∙ drop-append-seam msg (drop (length msg) part ++ behind) in
     front ∙ same ∙ sym (drop-append-le (length msg) part behind k) ∙ ap (drop (length msg)) (take-append-drop room (drop from log)) ∙ drop-drop (length msg) from log
 
+-- what is left in the message's buffer: the message at its front, or all as it was
+abbrev written : DeskReply → ℕ → Edit → List ℕ → List ℕ
+written (Desk.Refused k place) n e b = b
+written (Desk.Accepted r) n e b = over b 0 (encode (messageFor n e))
+
+written-is : (m : Memory) → Ready m → (c : DeskCall) → DeskEdits m c → c .after ≡ written (c .reply) (c .left .count) (c .edit) (c .before)
+written-is m h c w = go (desk-case m h (c .edit) (length (c .before)))
+  where
+    by : (v : CallOutcome) → deskCallOutcome m (c .edit) (length (c .before)) ≡ v → messageAfter v (c .edit) (c .before) ≡ written (deskReplyTo v (w .place)) (memoryAfter v m .count) (c .edit) (c .before)
+        → c .after ≡ written (c .reply) (c .left .count) (c .edit) (c .before)
+    by v g e =
+        w .message-is ∙ ap (λ (v : CallOutcome). messageAfter v (c .edit) (c .before)) g ∙ e
+        ∙ sym (ap₂ (λ (r : DeskReply) (t : Memory). written r (t .count) (c .edit) (c .before)) (w .reply-is ∙ ap (λ (v : CallOutcome). deskReplyTo v (w .place)) g) (w .left-is ∙ ap (λ (v : CallOutcome). memoryAfter v m) g))
+
+    go : DeskCase m h (c .edit) (length (c .before)) → c .after ≡ written (c .reply) (c .left .count) (c .edit) (c .before)
+    go (desk-refused k g o) = by (refused k) g refl
+    go (desk-updated t q g o v) = by (updated t q) g refl
+
 -- what an accepted call needed
 room-of : (s : State Drawing) (c : Call Edit) (t : State Drawing) (q : Removed) → callOutcome protocol s c ≡ accepted t q → (messageSize ≤ c .room) × (t .count ≡ s .count + 1)
 room-of s c t q e =
@@ -198,7 +214,7 @@ room-of s c t q e =
     (leb-true messageSize (c .room) (guard-accepted (leb messageSize (c .room)) 25 _ t q e .0), k .next)
 
 module _
-    (d : Drawing) (cs : List (Call Edit)) (before log : List ℕ) (w : Replica) (r : DeskRan d cs before log w)
+    (d : Drawing) (cs : List (Call Edit)) (before log : List ℕ) (w : Memory) (r : DeskRan d cs before log w)
     (e : Edit) (room : ℕ) (fits : messageSize * w .count + room ≤ length log)
   where
     abbrev from : ℕ
@@ -211,11 +227,11 @@ module _
     lent-long = let n : from + room - from ≡ room = omega arith in subst (λ (k : ℕ). length (midOf from k log) ≡ k) n (mid-len from (from + room) log fits)
 
     by-case :
-        (y : Replica) (t : DeskReply) (p : List ℕ) (step : DeskEdits w (record { edit = e; before = lent; after = p; answer = record { replica = y; reply = t } }))
-        → (o : Outcome (State Drawing) Removed) → callOutcome protocol (stateOf w) (record { edit = e; room = length lent }) ≡ o
-        → stateOf y ≡ stateAfter (stateOf w) o → deskReply t (take messageSize p) ≡ M.replyTo protocol e o → p ≡ written t (y .count) e lent
+        (y : Memory) (t : DeskReply) (p : List ℕ) (step : DeskEdits w (record { edit = e; before = lent; after = p; left = y; reply = t }))
+        → (o : Outcome (State Drawing) Removed) → callOutcome protocol (stateIn w) (record { edit = e; room = length lent }) ≡ o
+        → stateIn y ≡ stateAfter (stateIn w) o → deskReply t (take messageSize p) ≡ M.replyTo protocol e o → p ≡ written t (y .count) e lent
         → DeskRan d (cs ++ (record { edit = e; room = length lent } ∷ [])) before (putMid from room log p) y × (length (putMid from room log p) ≡ length log)
-    by-case y (Desk.Refused k place) p step (refused n) v sd td wr =
+    by-case y (Desk.Refused k place) p step (O.refused n) v sd td wr =
         let c : y .count ≡ w .count = ap (λ (u : State Drawing). u .count) sd in
         let l : putMid from room log p ≡ log = ap (putMid from room log) wr ∙ put-same from room log in (
           made d cs before log w r _ step (putMid from room log p)
@@ -225,9 +241,9 @@ module _
           ap length l,
         )
     by-case y (Desk.Refused k place) p step (accepted u q) v sd td wr = let z : _≡_ {A = ℕ} 0 1 = cc in absurd (omega arith)
-    by-case y (Desk.Accepted q) p step (refused n) v sd td wr = let z : _≡_ {A = ℕ} 0 1 = cc in absurd (omega arith)
+    by-case y (Desk.Accepted q) p step (O.refused n) v sd td wr = let z : _≡_ {A = ℕ} 0 1 = cc in absurd (omega arith)
     by-case y (Desk.Accepted q) p step (accepted u q′) v sd td wr =
-        let x = room-of (stateOf w) (record { edit = e; room = length lent }) u q′ v in
+        let x = room-of (stateIn w) (record { edit = e; room = length lent }) u q′ v in
         let c : y .count ≡ w .count + 1 = ap (λ (u : State Drawing). u .count) sd ∙ x .1 in
         let le : messageSize ≤ length lent = x .0 in
         let msg = encode (messageFor (y .count) e) in
@@ -250,46 +266,56 @@ module _
         )
 
     desk-ran-more :
-        (a : DeskTransition) (p : List ℕ) → DeskEdits w (record { edit = e; before = lent; after = p; answer = a })
-        → DeskRan d (cs ++ (record { edit = e; room = room } ∷ [])) before (putMid from room log p) (a .replica) × (length (putMid from room log p) ≡ length log)
-    desk-ran-more a p step =
-        let h = step .step (r .valid) in
-        subst (λ (n : ℕ). DeskRan d (cs ++ (record { edit = e; room = n } ∷ [])) before (putMid from room log p) (a .replica) × (length (putMid from room log p) ≡ length log)) lent-long
-        (by-case (a .replica) (a .reply) p step (callOutcome protocol (stateOf w) (record { edit = e; room = length lent })) refl (h .state) (h .reply) (step .buffer))
+        (y : Memory) (t : DeskReply) (p : List ℕ) → DeskEdits w (record { edit = e; before = lent; after = p; left = y; reply = t })
+        → DeskRan d (cs ++ (record { edit = e; room = room } ∷ [])) before (putMid from room log p) y × (length (putMid from room log p) ≡ length log)
+    desk-ran-more y t p step =
+        let h = desk-step w (r .ready) (record { edit = e; before = lent; after = p; left = y; reply = t }) step .0 in
+        subst (λ (n : ℕ). DeskRan d (cs ++ (record { edit = e; room = n } ∷ [])) before (putMid from room log p) y × (length (putMid from room log p) ≡ length log)) lent-long
+        (by-case y t p step (callOutcome protocol (stateIn w) (record { edit = e; room = length lent })) refl (h .state) (h .reply) (written-is w (r .ready) (record { edit = e; before = lent; after = p; left = y; reply = t }) step))
 
 -- the next call of a list
-pub desk-ran-next :
-    (d : Drawing) (entries before log : List ℕ) (i : ℕ) (w : Replica) → i < length entries / callSize → messageSize * (length entries / callSize) + maxRoom ≤ length log
+desk-ran-suc :
+    (d : Drawing) (entries before log : List ℕ) (i : ℕ) (w : Memory) → i < length entries / callSize → messageSize * (length entries / callSize) + maxRoom ≤ length log
     → DeskRan d (rows i (callAt entries)) before log w → (from k : ℕ) → from ≡ messageSize * w .count → k ≡ field entries (i * callSize + roomAt) 1 → k < 256
-    → (a : DeskTransition) (p : List ℕ) → DeskEdits w (record { edit = editAt entries (i * callSize); before = midOf from k log; after = p; answer = a })
-    → DeskRan d (rows (suc i) (callAt entries)) before (putMid from k log p) (a .replica) × (length (putMid from k log p) ≡ length log)
+    → (y : Memory) (t : DeskReply) (p : List ℕ) → DeskEdits w (record { edit = editAt entries (i * callSize); before = midOf from k log; after = p; left = y; reply = t })
+    → DeskRan d (rows (suc i) (callAt entries)) before (putMid from k log p) y × (length (putMid from k log p) ≡ length log)
 unfolding rows
-desk-ran-next d entries before log i w h room r from k f g small a p =
+desk-ran-suc d entries before log i w h room r from k f g small y t p =
     let few : w .count ≤ i = omega (arith, r .few, rows-length i (callAt entries)) in
     let fits : messageSize * w .count + field entries (i * callSize + roomAt) 1 ≤ length log = omega arith in
     subst
-    (λ (n : ℕ). DeskEdits w (record { edit = editAt entries (i * callSize); before = midOf n k log; after = p; answer = a })
-    → DeskRan d (rows i (callAt entries) ++ (callAt entries i ∷ [])) before (putMid n k log p) (a .replica) × (length (putMid n k log p) ≡ length log))
+    (λ (n : ℕ). DeskEdits w (record { edit = editAt entries (i * callSize); before = midOf n k log; after = p; left = y; reply = t })
+    → DeskRan d (rows i (callAt entries) ++ (callAt entries i ∷ [])) before (putMid n k log p) y × (length (putMid n k log p) ≡ length log))
     (sym f)
     (subst
-    (λ (m : ℕ). DeskEdits w (record { edit = editAt entries (i * callSize); before = midOf (messageSize * w .count) m log; after = p; answer = a })
-    → DeskRan d (rows i (callAt entries) ++ (callAt entries i ∷ [])) before (putMid (messageSize * w .count) m log p) (a .replica) × (length (putMid (messageSize * w .count) m log p) ≡ length log))
+    (λ (m : ℕ). DeskEdits w (record { edit = editAt entries (i * callSize); before = midOf (messageSize * w .count) m log; after = p; left = y; reply = t })
+    → DeskRan d (rows i (callAt entries) ++ (callAt entries i ∷ [])) before (putMid (messageSize * w .count) m log p) y × (length (putMid (messageSize * w .count) m log p) ≡ length log))
     (sym g)
-    (desk-ran-more d (rows i (callAt entries)) before log w r (editAt entries (i * callSize)) (field entries (i * callSize + roomAt) 1) fits a p))
+    (desk-ran-more d (rows i (callAt entries)) before log w r (editAt entries (i * callSize)) (field entries (i * callSize + roomAt) 1) fits y t p))
 
-pub desk-ran-all : (d : Drawing) (entries before log : List ℕ) (i : ℕ) (w : Replica) → i ≡ length entries / callSize → DeskRan d (rows i (callAt entries)) before log w → DeskRan d (callsIn entries) before log w
+pub desk-ran-next :
+    (d : Drawing) (entries before log : List ℕ) (i : ℕ) (w : Memory) → i < length entries / callSize → messageSize * (length entries / callSize) + maxRoom ≤ length log
+    → DeskRan d (rows i (callAt entries)) before log w → (from k : ℕ) → from ≡ messageSize * w .count → k ≡ field entries (i * callSize + roomAt) 1 → k < 256
+    → (y : Memory) (t : DeskReply) (p : List ℕ) → DeskEdits w (record { edit = editAt entries (i * callSize); before = midOf from k log; after = p; left = y; reply = t })
+    → DeskRan d (rows (i + 1) (callAt entries)) before (putMid from k log p) y × (length (putMid from k log p) ≡ length log)
+desk-ran-next d entries before log i w h room r from k f g small y t p e =
+    let next : suc i ≡ i + 1 = omega arith in
+    subst (λ (n : ℕ). DeskRan d (rows n (callAt entries)) before (putMid from k log p) y × (length (putMid from k log p) ≡ length log)) next
+    (desk-ran-suc d entries before log i w h room r from k f g small y t p e)
+
+pub desk-ran-all : (d : Drawing) (entries before log : List ℕ) (i : ℕ) (w : Memory) → i ≡ length entries / callSize → DeskRan d (rows i (callAt entries)) before log w → DeskRan d (callsIn entries) before log w
 desk-ran-all d entries before log i w h r = subst (λ (n : ℕ). DeskRan d (rows n (callAt entries)) before log w) h r
 
-pub desk-ran-start : (s : Replica) (entries log : List ℕ) → sketchFault (s .sketch) ≡ 0 → s .count ≡ 0 → DeskRan (view (s .sketch)) (rows 0 (callAt entries)) log log s
+pub desk-ran-start : (s : Memory) (entries log : List ℕ) → Ready s → s .count ≡ 0 → DeskRan (stateIn s .drawing) (rows 0 (callAt entries)) log log s
 unfolding rows
 desk-ran-start s entries log v z = desk-ran-none s log v z
 
 -- a call is by its parts
 pub same-edit :
-    (s : Replica) (b a : List ℕ) (r : DeskTransition) (e e′ : Edit) → e .operation ≡ e′ .operation → e .curve ≡ e′ .curve → e .at .x ≡ e′ .at .x → e .at .y ≡ e′ .at .y
-    → DeskEdits s (record { edit = e; before = b; after = a; answer = r }) → DeskEdits s (record { edit = e′; before = b; after = a; answer = r })
-same-edit s b a r e e′ o t x y =
-    subst (λ (e : Edit). DeskEdits s (record { edit = e; before = b; after = a; answer = r })) (λ i. record { operation = o i; curve = t i; at = record { x = x i; y = y i } })
+    (m : Memory) (b a : List ℕ) (y : Memory) (t : DeskReply) (e e′ : Edit) → e .operation ≡ e′ .operation → e .curve ≡ e′ .curve → e .at .x ≡ e′ .at .x → e .at .y ≡ e′ .at .y
+    → DeskEdits m (record { edit = e; before = b; after = a; left = y; reply = t }) → DeskEdits m (record { edit = e′; before = b; after = a; left = y; reply = t })
+same-edit m b a y t e e′ o c x z =
+    subst (λ (e : Edit). DeskEdits m (record { edit = e; before = b; after = a; left = y; reply = t })) (λ i. record { operation = o i; curve = c i; at = record { x = x i; y = z i } })
 
 -- ---- messages by their place in the log
 
@@ -340,7 +366,7 @@ places ms n log (o ∷ order) e h = ap₂ (λ (a b : List (List ℕ)). a ++ b) (
     go true q = rw (← e, q) (ap (λ (m : List ℕ). m ∷ []) (h o (ltb-true o (length ms) q)))
     go false q = rw (← e, q)
 
-module _ (d : Drawing) (cs : List (Call Edit)) (before log : List ℕ) (w : Replica) (r : DeskRan d cs before log w) where
+module _ (d : Drawing) (cs : List (Call Edit)) (before log : List ℕ) (w : Memory) (r : DeskRan d cs before log w) where
   abbrev ms : List (List ℕ)
   ms = messages (r .steps)
 

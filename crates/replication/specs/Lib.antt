@@ -1,6 +1,8 @@
 -- Desk, wall and reference machine on real drawings, and the claim over both whole lists.
 pub mod Protocol
+pub mod Outcomes
 pub mod Transitions
+pub mod Contracts
 pub mod Replication
 pub mod Program
 pub mod RunBoth

@@ -7,14 +7,12 @@ use lib.Dec.{leb}
 use Rattle.big_endian.specs.Fields.{field, over}
 use Rattle.sketch.specs.Lists.{ite}
 use Rattle.sketch.specs.Drawing.{Drawing}
-use Rattle.sketch.specs.Valid.{sketchFault}
 use Rattle.image.specs.Image as I
 use Rattle.image.specs.Encode.{encode, drawingSize}
 use Rattle.message.specs.Message.{messageSize}
 use Rattle.agreement.specs.Machines.{State, initial, wallTransition}
-use Rattle.replication.specs.declared.Replica.{Replica}
 use Rattle.replication.specs.Protocol.{protocol}
-use Rattle.replication.specs.Transitions.{stateOf}
+use Rattle.replication.specs.Transitions.{Memory, stateIn, Ready}
 
 -- where the image ends: four bytes, and as many as their value
 abbrev pub imageEnd : List ℕ → ℕ
@@ -57,6 +55,10 @@ pub record WritesOutcome (o : I.ParseResult) (before later : List ℕ) (r : ℕ)
   pub within : r ≤ length before
 
 -- a replica after the messages in some bytes
-pub record DeliversAll (s : Replica) (bytes : List ℕ) (r : Replica) : Type 0 where
-  pub is : stateOf r ≡ wallAfterMessages (stateOf s) (chunks bytes)
-  pub valid : sketchFault (r .sketch) ≡ 0
+pub record DeliversAll (s : Memory) (bytes : List ℕ) (r : Memory) : Type 0 where
+  pub is : stateIn r ≡ wallAfterMessages (stateIn s) (chunks bytes)
+  pub ready : Ready r
+
+-- an image's bytes, where it is one
+abbrev pub WritesImage : List ℕ → List ℕ → List ℕ → ℕ → Type 0
+WritesImage image before later r = (d : Drawing) → I.parse image ≡ I.accepted d → WritesOutcome (I.accepted d) before later r

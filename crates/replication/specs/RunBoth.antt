@@ -1,5 +1,5 @@
 -- Both whole lists in one run: edits to the desk, then the desk's messages to the wall, in any order. Definitions only.
-use Prim.Native.Nat.{ℕ, _+_, _*_, _-_, _/_, _≤_, zero, suc}
+use Prim.Native.Nat.{ℕ, _+_, _*_, _-_, _/_, _≤_}
 use mathlib.Core.Path.{_≡_}
 use mathlib.Core.Bool.{Bool, _&&_}
 use mathlib.Core.List.{List, [], _∷_, _++_, map}
@@ -9,23 +9,15 @@ use lib.Ieee.{ofBits, binary64}
 use Rattle.big_endian.specs.Fields.{field, over}
 use Rattle.sketch.specs.Lists.{ite, concatMap, guardNumber}
 use Rattle.sketch.specs.Drawing.{Drawing, idSize}
-use Rattle.sketch.specs.Valid.{sketchFault}
 use Rattle.message.specs.Message.{operationOf, messageSize}
 use Rattle.image.specs.Image as I
-use Rattle.sketch_image.specs.SketchImage.{drawingIn}
 use Rattle.cuts.specs.Columns.{rows}
 use Rattle.edit_plan.specs.declared.Removed.{Removed}
 use Rattle.agreement.specs.Machines.{initial, Call, DeskStep, calls, deskAfter, messages, DeskRun, WallStep, wallAfter, WallRun}
-use Rattle.replication.specs.declared.Replica.{Replica}
 use Rattle.replication.specs.declared.RunResult.{RunResult}
 use Rattle.replication.specs.Protocol.{Edit, protocol}
-use Rattle.replication.specs.Transitions.{stateOf}
+use Rattle.replication.specs.Transitions.{firstNonzero, Memory, memory, stateIn, Ready}
 use Rattle.replication.specs.Replication.{ReplicationCorrect}
-
--- the first number of two that is not 0
-abbrev pub firstNonzero : ℕ → ℕ → ℕ
-firstNonzero zero m = m
-firstNonzero (suc n) m = suc n
 
 -- ---- the desk's list, call by call: operation, curve id, the pick's bits 8 and 8, the room lent
 
@@ -59,13 +51,16 @@ callsIn s = rows (length s / callSize) (callAt s)
 abbrev pub messagesAt : List (List ℕ) → List ℕ → List (List ℕ)
 messagesAt ms order = concatMap (λ o. ite (ltb o (length ms)) (getD ms o [] ∷ []) []) order
 
--- ---- refusals, in order: the image's; a log that may not hold all messages and the room lent beside them (25)
+-- ---- refusals, in order: the image's; a log that may not hold all messages and the room lent beside them, or a buffer that may not hold any image (25)
 
 abbrev pub hasRoom : ℕ → ℕ → Bool
 hasRoom size room = leb maxRoom room && leb (size / callSize) ((room - maxRoom) / messageSize)
 
-abbrev pub runBothFault : List ℕ → ℕ → ℕ → ℕ
-runBothFault image size room = firstNonzero (I.imageFault image) (guardNumber (hasRoom size room) 25 0)
+abbrev pub holdsAny : ℕ → Bool
+holdsAny room = leb I.maxImageSize room
+
+abbrev pub runBothFault : List ℕ → ℕ → ℕ → ℕ → ℕ → ℕ
+runBothFault image size log desk wall = firstNonzero (I.imageFault image) (guardNumber (hasRoom size log && (holdsAny desk && holdsAny wall)) 25 0)
 
 -- ---- the run: the calls and deliveries as they happened, each list whole, and the claim over both
 
@@ -73,28 +68,27 @@ abbrev pub concat : List (List ℕ) → List ℕ
 concat [] = []
 concat (m ∷ ms) = m ++ concat ms
 
-pub record RunHolds (image entries order before log : List ℕ) (r : RunResult) : Type 0 where
+pub record RunHolds (image entries order before log desk wall : List ℕ) (r : RunResult) : Type 0 where
   pub start : Drawing
   pub image-is : I.parse image ≡ I.accepted start
-  pub desk : List (DeskStep Drawing Edit Removed)
-  pub wall : List (WallStep Drawing Removed)
-  pub desk-run : DeskRun protocol (initial start) desk
-  pub wall-run : WallRun protocol (initial start) wall
-  pub desk-fed : calls desk ≡ callsIn entries
-  pub wall-fed : map (λ (x : WallStep Drawing Removed). x .bytes) wall ≡ messagesAt (messages desk) order
-  pub desk-ends : deskAfter (initial start) desk ≡ stateOf (r .desk)
-  pub wall-ends : wallAfter (initial start) wall ≡ stateOf (r .wall)
+  pub desk-steps : List (DeskStep Drawing Edit Removed)
+  pub wall-steps : List (WallStep Drawing Removed)
+  pub desk-run : DeskRun protocol (initial start) desk-steps
+  pub wall-run : WallRun protocol (initial start) wall-steps
+  pub desk-fed : calls desk-steps ≡ callsIn entries
+  pub wall-fed : map (λ (x : WallStep Drawing Removed). x .bytes) wall-steps ≡ messagesAt (messages desk-steps) order
+  pub desk-ends : deskAfter (initial start) desk-steps ≡ stateIn (memory (r .desk) desk)
+  pub wall-ends : wallAfter (initial start) wall-steps ≡ stateIn (memory (r .wall) wall)
   -- the desk's messages stand at the log's front, one after the other, and the rest is as it was
-  pub log-is : log ≡ over before 0 (concat (messages desk))
-  pub correct : ReplicationCorrect start desk wall
+  pub log-is : log ≡ over before 0 (concat (messages desk-steps))
+  pub correct : ReplicationCorrect start desk-steps wall-steps
 
-pub record RunsBoth (image entries order before log : List ℕ) (r : RunResult) : Type 0 where
-  pub number : r .refusal ≡ runBothFault image (length entries) (length before)
-  -- a refusal leaves the log, and desk and wall at the start
-  pub desk-start : (r .refusal ≡ 0 → ⊥) → stateOf (r .desk) ≡ initial (drawingIn (I.parse image))
-  pub wall-start : (r .refusal ≡ 0 → ⊥) → stateOf (r .wall) ≡ initial (drawingIn (I.parse image))
-  pub log-kept : (r .refusal ≡ 0 → ⊥) → log ≡ before
-  pub held : r .refusal ≡ 0 → RunHolds image entries order before log r
+-- the log, and the two buffers, before and after
+pub record RunsBoth (image entries order before log desk desk′ wall wall′ : List ℕ) (r : RunResult) : Type 0 where
+  pub number : r .refusal ≡ runBothFault image (length entries) (length before) (length desk) (length wall)
+  -- a refusal leaves all
+  pub kept : (r .refusal ≡ 0 → ⊥) → (log ≡ before) × (desk′ ≡ desk) × (wall′ ≡ wall) × (r .desk ≡ record { size = 0; count = 0 }) × (r .wall ≡ record { size = 0; count = 0 })
+  pub held : r .refusal ≡ 0 → RunHolds image entries order before log desk′ wall′ r
 
 -- ---- the two halves
 
@@ -103,26 +97,26 @@ MessageSized [] = Unit {0}
 MessageSized (m ∷ ms) = (length m ≡ messageSize) × MessageSized ms
 
 -- a run of the desk over some calls, its messages one after the other at the front of the log, the rest of which is as it was
-pub record DeskRan (start : Drawing) (cs : List (Call Edit)) (before log : List ℕ) (t : Replica) : Type 0 where
+pub record DeskRan (start : Drawing) (cs : List (Call Edit)) (before log : List ℕ) (t : Memory) : Type 0 where
   pub steps : List (DeskStep Drawing Edit Removed)
   pub run : DeskRun protocol (initial start) steps
   pub fed : calls steps ≡ cs
-  pub ends : deskAfter (initial start) steps ≡ stateOf t
+  pub ends : deskAfter (initial start) steps ≡ stateIn t
   pub logged : concat (messages steps) ≡ take (messageSize * t .count) log
   pub rest : drop (messageSize * t .count) log ≡ drop (messageSize * t .count) before
   pub fits : messageSize * t .count ≤ length log
   pub many : length (messages steps) ≡ t .count
   pub few : t .count ≤ length cs
   pub sizes : MessageSized (messages steps)
-  pub valid : sketchFault (t .sketch) ≡ 0
+  pub ready : Ready t
 
 -- a run of the wall over the messages at some places of a log of n
 abbrev pub messagesInLog : ℕ → List ℕ → List ℕ → List (List ℕ)
 messagesInLog n log order = concatMap (λ o. ite (ltb o n) (take messageSize (drop (messageSize * o) log) ∷ []) []) order
 
-pub record WallRan (s : Replica) (ds : List (List ℕ)) (t : Replica) : Type 0 where
+pub record WallRan (s : Memory) (ds : List (List ℕ)) (t : Memory) : Type 0 where
   pub steps : List (WallStep Drawing Removed)
-  pub run : WallRun protocol (stateOf s) steps
+  pub run : WallRun protocol (stateIn s) steps
   pub fed : map (λ (x : WallStep Drawing Removed). x .bytes) steps ≡ ds
-  pub ends : wallAfter (stateOf s) steps ≡ stateOf t
-  pub valid : sketchFault (t .sketch) ≡ 0
+  pub ends : wallAfter (stateIn s) steps ≡ stateIn t
+  pub ready : Ready t

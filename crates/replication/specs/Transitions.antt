@@ -1,30 +1,30 @@
--- The contracts of desk and wall: each call is a step of the machines of `agreement`. Definitions only.
-use Prim.Native.Nat.{ℕ}
+-- The contracts of desk and wall: each call is told by its outcome on the memory that it found, and is so a step of the machines of `agreement`.
+-- Definitions only.
+use Prim.Native.Nat.{ℕ, zero, suc, _≤_}
 use mathlib.Core.Path.{_≡_}
 use mathlib.Core.Bool.{true}
 use mathlib.Core.List.{List, [], _∷_}
 use lib.ListN.{length, take}
-use lib.Dec.{eqb}
+use lib.Dec.{eqb, leb}
 use lib.Ieee.{Float}
 use Rattle.big_endian.specs.Fields.{over}
 use Rattle.sketch.specs.Lists.{guardNumber}
-use Rattle.sketch.specs.declared.Sketch.{Sketch}
-use Rattle.sketch.specs.Drawing.{Drawing, view, limits}
-use Rattle.sketch.specs.Valid.{sketchFault}
+use Rattle.sketch.specs.Drawing.{Drawing, limits}
+use Rattle.sketch.specs.Facts.{Valid}
 use Rattle.message.specs.declared.Operation.{Operation}
 use Rattle.message.specs.declared.Operation.the-variants.{Extend}
-use Rattle.message.specs.declared.Message.{Message}
-use Rattle.message.specs.declared.MessageRead.the-variants.{Accepted}
-use Rattle.message.specs.Message.{parse, encode, messageSize}
+use Rattle.message.specs.Message.{messageSize}
 use Rattle.image.specs.Image as I
+use Rattle.image.specs.Encode.{encode, drawingSize}
 use Rattle.sketch_image.specs.SketchImage.{drawingIn}
 use Rattle.relations.specs.Met.{unmetAt}
 use Rattle.edit_plan.specs.declared.Removed.{Removed}
 use Rattle.edit_plan.specs.Outcome.{accepted}
+use Rattle.edit_plan.specs.Steps.{nothing}
 use Rattle.extend.specs.ExtendAnswer.{NoPlace}
 use Rattle.modify.specs.Edits.{editUntested}
 use Rattle.agreement.specs.Machines as M
-use Rattle.agreement.specs.Machines.{State, message, DeskStep, DeskStepValid, WallStep, WallStepValid}
+use Rattle.agreement.specs.Machines.{State, message, DeskStep, WallStep}
 use Rattle.replication.specs.declared.Replica.{Replica}
 use Rattle.replication.specs.declared.Started.{Started}
 use Rattle.replication.specs.declared.DeskReply.{DeskReply}
@@ -33,18 +33,54 @@ use Rattle.replication.specs.declared.DeskTransition.{DeskTransition}
 use Rattle.replication.specs.declared.WallReply.{WallReply}
 use Rattle.replication.specs.declared.WallReply.the-variants as Wall
 use Rattle.replication.specs.declared.WallTransition.{WallTransition}
-use Rattle.replication.specs.Protocol.{Edit, messageFor, protocol}
+use Rattle.replication.specs.Protocol.{Edit, protocol}
+use Rattle.replication.specs.Outcomes.{CallOutcome, refused, old, updated, onImage, deskOn, wallOn, numberOf, OutcomeSound, messageAfter}
 
-abbrev pub stateOf : Replica → State Drawing
-stateOf s = record { drawing = view (s .sketch); count = s .count }
+-- ---- memory
 
--- ---- a start: the image's drawing at count 0, or its refusal; the sketch passes the test, refused or not
+-- what is kept for a replica: a buffer, the size of the image at its front, the count of edits
+pub record Memory : Type 0 where
+  pub buffer : List ℕ
+  pub size : ℕ
+  pub count : ℕ
 
-pub record Starts (image : List ℕ) (r : Started) : Type 0 where
-  pub reply : I.resultOf (r .refusal) (view (r .replica .sketch)) ≡ I.parse image
-  pub drawing-is : view (r .replica .sketch) ≡ drawingIn (I.parse image)
-  pub zero-count : r .replica .count ≡ 0
-  pub valid : sketchFault (r .replica .sketch) ≡ 0
+abbrev pub memory : Replica → List ℕ → Memory
+memory r b = record { buffer = b; size = r .size; count = r .count }
+
+-- the first bytes of the buffer, all of it where it is shorter
+abbrev pub imageIn : Memory → List ℕ
+imageIn m = take (m .size) (m .buffer)
+
+-- the state that is seen in it
+abbrev pub stateIn : Memory → State Drawing
+stateIn m = record { drawing = drawingIn (I.parse (imageIn m)); count = m .count }
+
+-- a replica goes on from a good image, in a buffer that has room for any
+pub record Ready (m : Memory) : Type 0 where
+  pub image-is : I.parse (imageIn m) ≡ I.accepted (stateIn m .drawing)
+  pub valid : Valid limits (stateIn m .drawing)
+  pub room : I.maxImageSize ≤ length (m .buffer)
+
+-- a replica's start: the image at the buffer's front, at count 0
+pub record StartsWith (image : List ℕ) (m : Memory) : Type 0 where
+  pub image-is : imageIn m ≡ image
+  pub room : I.maxImageSize ≤ length (m .buffer)
+  pub zero-count : m .count ≡ 0
+
+-- ---- a start: the image at the front of a buffer that has room for any image, at count 0; or the image's refusal, and then the room's (25)
+
+-- the first number of two that is not 0
+abbrev pub firstNonzero : ℕ → ℕ → ℕ
+firstNonzero zero m = m
+firstNonzero (suc n) m = suc n
+
+abbrev pub startFault : List ℕ → ℕ → ℕ
+startFault image room = firstNonzero (I.imageFault image) (guardNumber (leb I.maxImageSize room) 25 0)
+
+pub record Starts (image before after : List ℕ) (r : Started) : Type 0 where
+  pub number : r .refusal ≡ startFault image (length before)
+  pub when-refused : (r .refusal ≡ 0 → ⊥) → (after ≡ before) × (r .replica ≡ record { size = 0; count = 0 })
+  pub when-started : r .refusal ≡ 0 → (after ≡ over before 0 image) × (r .replica ≡ record { size = length image; count = 0 })
 
 -- ---- the place that comes with an extend's 13, of a relation that is not met, and with its 19, of one that would not be met
 
@@ -52,21 +88,31 @@ pub record UnmetPlace (e : Edit) (d : Drawing) (k place : ℕ) : Type 0 where
   pub before : e .operation ≡ Extend → k ≡ 13 → unmetAt d place ≡ true
   pub after : e .operation ≡ Extend → k ≡ 19 → (d′ : Drawing) (removed : Removed) → editUntested (e .operation) limits d (e .curve) (e .at) ≡ accepted d′ removed → unmetAt d′ place ≡ true
 
--- the sketch's own number before any other
-abbrev pub firstFault : Sketch → ℕ → ℕ
-firstFault s k = guardNumber (eqb (sketchFault s) 0) (sketchFault s) k
+-- the image's own number before any other
+abbrev pub firstFault : List ℕ → ℕ → ℕ
+firstFault s k = guardNumber (eqb (I.imageFault s) 0) (I.imageFault s) k
+
+-- ---- what desk and wall leave alike
+
+-- a refusal leaves all; an old message leaves the state that was found; else the new image stands at the buffer's front, the rest as it was
+abbrev pub memoryAfter : CallOutcome → Memory → Memory
+memoryAfter (refused k) m = m
+memoryAfter (old s) m = record { buffer = m .buffer; size = drawingSize (s .drawing); count = s .count }
+memoryAfter (updated s r) m = record { buffer = over (m .buffer) 0 (encode (s .drawing)); size = drawingSize (s .drawing); count = s .count }
 
 -- ---- the desk
 
--- a call as it happened: the edit, the buffer lent for the message before and after it, the answer
+-- a call as it happened: the edit, the buffer lent for the message before and after it, the memory after it, the reply
 pub record DeskCall : Type 0 where
   pub edit : Edit
   pub before : List ℕ
   pub after : List ℕ
-  pub answer : DeskTransition
+  pub left : Memory
+  pub reply : DeskReply
 
-abbrev pub deskCall : Operation → ℕ → Float → Float → List ℕ → List ℕ → DeskTransition → DeskCall
-deskCall op t x y b a r = record { edit = record { operation = op; curve = t; at = record { x = x; y = y } }; before = b; after = a; answer = r }
+abbrev pub deskCall : Operation → ℕ → Float → Float → List ℕ → List ℕ → List ℕ → DeskTransition → DeskCall
+deskCall op t x y b a buffer r =
+    record { edit = record { operation = op; curve = t; at = record { x = x; y = y } }; before = b; after = a; left = memory (r .replica) buffer; reply = r .reply }
 
 abbrev pub deskReply : DeskReply → List ℕ → M.DeskReply Removed
 deskReply (Desk.Refused k place) m = M.deskRefused k
@@ -76,57 +122,43 @@ abbrev pub deskStep : DeskCall → DeskStep Drawing Edit Removed
 deskStep c =
     record {
       call = record { edit = c .edit; room = length (c .before) };
-      state = stateOf (c .answer .replica);
-      reply = deskReply (c .answer .reply) (take messageSize (c .after));
+      state = stateIn (c .left);
+      reply = deskReply (c .reply) (take messageSize (c .after));
     }
 
--- what is left in the buffer: the message at its front, or all as it was
-abbrev pub written : DeskReply → ℕ → Edit → List ℕ → List ℕ
-written (Desk.Refused k place) n e b = b
-written (Desk.Accepted r) n e b = over b 0 (encode (messageFor n e))
+abbrev pub deskCallOutcome : Memory → Edit → ℕ → CallOutcome
+deskCallOutcome m e room = onImage (I.parse (imageIn m)) (m .count) (deskOn (length (m .buffer)) (record { edit = e; room = room }))
 
--- a refusal leaves the whole replica
-abbrev pub DeskKept : DeskReply → Replica → Replica → Type 0
-DeskKept (Desk.Refused k place) s t = t ≡ s
-DeskKept (Desk.Accepted r) s t = Unit {0}
+-- the reply to an outcome, with a place; no edit of the desk is old
+abbrev pub deskReplyTo : CallOutcome → ℕ → DeskReply
+deskReplyTo (refused k) place = Desk.Refused k place
+deskReplyTo (old s) place = Desk.Accepted nothing
+deskReplyTo (updated s r) place = Desk.Accepted r
 
-abbrev pub DeskPlace : DeskReply → Edit → Drawing → Type 0
-DeskPlace (Desk.Refused k place) e d = UnmetPlace e d k place
-DeskPlace (Desk.Accepted r) e d = Unit {0}
-
-abbrev pub DeskNoPlace : DeskReply → Type 0
-DeskNoPlace (Desk.Refused k place) = NoPlace k place
-DeskNoPlace (Desk.Accepted r) = Unit {0}
-
--- a refusal has a number above 0
-abbrev pub DeskNumbered : DeskReply → Type 0
-DeskNumbered (Desk.Refused k place) = k ≡ 0 → ⊥
-DeskNumbered (Desk.Accepted r) = Unit {0}
-
--- a sketch that no image gives is refused first; on any other the call is one of the machine's, and leaves another such sketch
-pub record DeskEdits (s : Replica) (c : DeskCall) : Type 0 where
-  pub when-refused : (sketchFault (s .sketch) ≡ 0 → ⊥) → deskStep c .reply ≡ M.deskRefused (sketchFault (s .sketch))
-  pub step : sketchFault (s .sketch) ≡ 0 → DeskStepValid protocol (stateOf s) (deskStep c)
-  pub valid : sketchFault (s .sketch) ≡ 0 → sketchFault (c .answer .replica .sketch) ≡ 0
-  pub place : sketchFault (s .sketch) ≡ 0 → DeskPlace (c .answer .reply) (c .edit) (view (s .sketch))
-  pub no-place : DeskNoPlace (c .answer .reply)
-  pub numbered : DeskNumbered (c .answer .reply)
-  pub kept : DeskKept (c .answer .reply) s (c .answer .replica)
-  pub buffer : c .after ≡ written (c .answer .reply) (c .answer .replica .count) (c .edit) (c .before)
+-- the outcome's reply, with the place of a relation where 13 or 19 come with one; the memory; the message
+pub record DeskEdits (m : Memory) (c : DeskCall) : Type 0 where
+  pub place : ℕ
+  pub reply-is : c .reply ≡ deskReplyTo (deskCallOutcome m (c .edit) (length (c .before))) place
+  pub left-is : c .left ≡ memoryAfter (deskCallOutcome m (c .edit) (length (c .before))) m
+  pub message-is : c .after ≡ messageAfter (deskCallOutcome m (c .edit) (length (c .before))) (c .edit) (c .before)
+  pub sound : OutcomeSound (deskCallOutcome m (c .edit) (length (c .before)))
+  pub no-place : NoPlace (numberOf (deskCallOutcome m (c .edit) (length (c .before)))) place
+  pub unmet : (d : Drawing) → I.parse (imageIn m) ≡ I.accepted d → UnmetPlace (c .edit) d (numberOf (deskCallOutcome m (c .edit) (length (c .before)))) place
 
 -- one call after the other, each on what the last one left
-abbrev pub DeskCalls : Replica → List DeskCall → Type 0
-DeskCalls s [] = Unit {0}
-DeskCalls s (c ∷ cs) = DeskEdits s c × DeskCalls (c .answer .replica) cs
+abbrev pub DeskCalls : Memory → List DeskCall → Type 0
+DeskCalls m [] = Unit {0}
+DeskCalls m (c ∷ cs) = DeskEdits m c × DeskCalls (c .left) cs
 
 -- ---- the wall
 
 pub record WallCall : Type 0 where
   pub bytes : List ℕ
-  pub answer : WallTransition
+  pub left : Memory
+  pub reply : WallReply
 
-abbrev pub wallCall : List ℕ → WallTransition → WallCall
-wallCall m r = record { bytes = m; answer = r }
+abbrev pub wallCall : List ℕ → List ℕ → WallTransition → WallCall
+wallCall bytes buffer r = record { bytes = bytes; left = memory (r .replica) buffer; reply = r .reply }
 
 abbrev pub wallReply : WallReply → M.WallReply Removed
 wallReply (Wall.Refused k place) = M.wallRefused k
@@ -134,42 +166,24 @@ wallReply Wall.Old = M.wallOld
 wallReply (Wall.Applied r) = M.wallApplied r
 
 abbrev pub wallStep : WallCall → WallStep Drawing Removed
-wallStep c = record { bytes = c .bytes; state = stateOf (c .answer .replica); reply = wallReply (c .answer .reply) }
+wallStep c = record { bytes = c .bytes; state = stateIn (c .left); reply = wallReply (c .reply) }
 
--- only an edit that is applied changes a replica
-abbrev pub WallKept : WallReply → Replica → Replica → Type 0
-WallKept (Wall.Refused k place) s t = t ≡ s
-WallKept Wall.Old s t = t ≡ s
-WallKept (Wall.Applied r) s t = Unit {0}
+abbrev pub wallCallOutcome : Memory → List ℕ → CallOutcome
+wallCallOutcome m bytes = onImage (I.parse (imageIn m)) (m .count) (wallOn (length (m .buffer)) bytes)
 
-abbrev pub WallPlace : WallReply → List ℕ → Drawing → Type 0
-WallPlace (Wall.Refused k place) m d = (n : ℕ) (e : Edit) → protocol .decode m ≡ message n e → UnmetPlace e d k place
-WallPlace Wall.Old m d = Unit {0}
-WallPlace (Wall.Applied r) m d = Unit {0}
+abbrev pub wallReplyTo : CallOutcome → ℕ → WallReply
+wallReplyTo (refused k) place = Wall.Refused k place
+wallReplyTo (old s) place = Wall.Old
+wallReplyTo (updated s r) place = Wall.Applied r
 
-abbrev pub WallNoPlace : WallReply → Type 0
-WallNoPlace (Wall.Refused k place) = NoPlace k place
-WallNoPlace Wall.Old = Unit {0}
-WallNoPlace (Wall.Applied r) = Unit {0}
+pub record WallDelivers (m : Memory) (c : WallCall) : Type 0 where
+  pub place : ℕ
+  pub reply-is : c .reply ≡ wallReplyTo (wallCallOutcome m (c .bytes)) place
+  pub left-is : c .left ≡ memoryAfter (wallCallOutcome m (c .bytes)) m
+  pub sound : OutcomeSound (wallCallOutcome m (c .bytes))
+  pub no-place : NoPlace (numberOf (wallCallOutcome m (c .bytes))) place
+  pub unmet : (d : Drawing) → I.parse (imageIn m) ≡ I.accepted d → (n : ℕ) (e : Edit) → protocol .decode (c .bytes) ≡ message n e → UnmetPlace e d (numberOf (wallCallOutcome m (c .bytes))) place
 
-abbrev pub WallNumbered : WallReply → Type 0
-WallNumbered (Wall.Refused k place) = k ≡ 0 → ⊥
-WallNumbered Wall.Old = Unit {0}
-WallNumbered (Wall.Applied r) = Unit {0}
-
-pub record WallDelivers (s : Replica) (c : WallCall) : Type 0 where
-  pub when-refused : (sketchFault (s .sketch) ≡ 0 → ⊥) → wallStep c .reply ≡ M.wallRefused (sketchFault (s .sketch))
-  pub step : sketchFault (s .sketch) ≡ 0 → WallStepValid protocol (stateOf s) (wallStep c)
-  pub valid : sketchFault (s .sketch) ≡ 0 → sketchFault (c .answer .replica .sketch) ≡ 0
-  pub place : sketchFault (s .sketch) ≡ 0 → WallPlace (c .answer .reply) (c .bytes) (view (s .sketch))
-  pub no-place : WallNoPlace (c .answer .reply)
-  pub numbered : WallNumbered (c .answer .reply)
-  pub kept : WallKept (c .answer .reply) s (c .answer .replica)
-
-abbrev pub WallCalls : Replica → List WallCall → Type 0
-WallCalls s [] = Unit {0}
-WallCalls s (c ∷ cs) = WallDelivers s c × WallCalls (c .answer .replica) cs
-
--- a message that bytes gave
-abbrev pub DeliversMessage : Replica → Message → WallTransition → Type 0
-DeliversMessage s m r = (bytes : List ℕ) → parse bytes ≡ Accepted m → WallDelivers s (wallCall bytes r)
+abbrev pub WallCalls : Memory → List WallCall → Type 0
+WallCalls m [] = Unit {0}
+WallCalls m (c ∷ cs) = WallDelivers m c × WallCalls (c .left) cs

@@ -8,54 +8,54 @@ use message::MAX_EDIT_NUMBER;
 use message::MESSAGE_SIZE;
 use message::Message;
 use message::Operation;
+use rows::front;
 use sketch::Id;
-ghost use Rattle.replication.specs.Transitions.{DeskEdits, deskCall};
+ghost use mathlib.Core.Path.{_≡_};
+ghost use Rattle.replication.specs.Transitions.{memory, DeskEdits, deskCall};
+ghost use Rattle.replication.specs.Contracts.{deskRefusing};
 
-// Makes an edit, counts it and writes its message to the buffer's front; or refuses it and leaves the replica and the buffer.
-pub fn desk_edit(
+fn refuse(replica: Replica, number: u8, place: usize) -> DeskTransition
+    ensures { λ r. ⌜ r ≡ deskRefusing replica number place ⌝ }
+{
+    let reply = DeskReply::Refused(number, place);
+    DeskTransition { replica, reply }
+}
+
+// Makes an edit of the replica's image, which stands at the front of `buffer`, counts it and writes its message to the front of `message`; or
+// refuses it and leaves replica, buffer and message.
+pub fn desk_edit<'a>(
     replica: Replica,
+    buffer: &'a mut [u8],
     operation: Operation,
     curve: Id,
     x: f64,
     y: f64,
-    out: &mut [u8],
+    message: &'a mut [u8],
 ) -> DeskTransition
-    ensures { λ r. ⌜ DeskEdits replica (deskCall operation curve x y (now (out .entry)) (now (out .exit)) r) ⌝ }
+    ensures { λ r. ⌜ DeskEdits (memory replica (now (buffer .entry))) (deskCall operation curve x y (now (message .entry)) (now (message .exit)) (now (buffer .exit)) r) ⌝ }
 {
-    let sk = replica.sketch;
-    let count = replica.count;
-    if out.len() < MESSAGE_SIZE {
-        return DeskTransition {
-            replica,
-            reply: DeskReply::Refused(first_fault(sk, 25), 0),
-        };
+    if message.len() < MESSAGE_SIZE {
+        return refuse(replica, first_fault(front(&buffer[..], replica.size), 25), 0);
     }
-    if MAX_EDIT_NUMBER <= count {
-        return DeskTransition {
-            replica,
-            reply: DeskReply::Refused(first_fault(sk, 23), 0),
-        };
+    if MAX_EDIT_NUMBER <= replica.count {
+        return refuse(replica, first_fault(front(&buffer[..], replica.size), 23), 0);
     }
-    let e = modify::edit(operation, sk, curve, Vec2 { x, y });
+    let e = modify::edit_in_place(operation, buffer, replica.size, curve, Vec2 { x, y });
     if e.refusal != 0 {
-        return DeskTransition {
-            replica,
-            reply: DeskReply::Refused(e.refusal, e.place),
-        };
+        return refuse(replica, e.refusal, e.place);
     }
-    let number = count + 1;
-    let message = Message {
+    let number = replica.count + 1;
+    let sent = Message {
         number,
         operation,
         curve,
         x: f64::to_bits(x),
         y: f64::to_bits(y),
     };
-    message::write_message(message, out);
-    let sketch = e.sketch;
+    message::write_message(sent, message);
     let removed = e.removed;
     let after = Replica {
-        sketch,
+        size: e.size,
         count: number,
     };
     DeskTransition {

@@ -1,5 +1,5 @@
 // State machine replication: the desk (01's term) is the primary, at which a person edits a sketch; the wall (01's term) is the replica, which
-// applies the desk's messages in the order of their numbers.
+// applies the desk's messages in the order of their numbers. Each keeps its sketch as an image at the front of a buffer that is lent for a call.
 mod desk;
 mod refusals;
 mod run_lists;
@@ -10,19 +10,19 @@ mod wall_program;
 pub use desk::desk_edit;
 use edit_plan::Removed;
 use message::EditNumber;
+pub use refusals::first_fault;
 pub use run_lists::run_both;
-use sketch::Sketch;
 pub use starting::start;
 pub use wall::wall_deliver;
 pub use wall_program::run_program;
 
-// A replica's state: a sketch, and how many edits were applied to it (01's count).
+// A replica's state, beside the buffer at whose front its image stands: the image's size, and how many edits were applied to it (01's count).
 pub struct Replica {
-    pub sketch: Sketch,
+    pub size: usize,
     pub count: EditNumber,
 }
 
-// What desk and wall start with: the image's sketch at count 0, or the number that the image is refused by and an empty sketch.
+// What desk and wall start with: a replica at count 0, or the number that the image or the buffer is refused by.
 pub struct Started {
     pub replica: Replica,
     pub refusal: u8,

@@ -1,13 +1,13 @@
-// Desk and wall refuse by the sketch's own number before any other.
-use sketch::Sketch;
+// Desk and wall refuse by the image's own number before any other.
 ghost use mathlib.Core.Path.{_≡_};
 ghost use Rattle.replication.specs.Transitions.{firstFault};
 
-// The number that a sketch is refused by, or else the number given.
-pub(crate) fn first_fault(sk: Sketch, number: u8) -> u8
-    ensures { λ r. ⌜ r ≡ firstFault sk number ⌝ }
+// The number that an image is refused by, or else the number given.
+pub fn first_fault(image: &[u8], number: u8) -> u8
+    ensures { λ r. ⌜ r ≡ firstFault (now (image .entry)) number ⌝ }
 {
-    let fault = sketch::fault(sk);
+    let mut near = [0u16; 1024];
+    let fault = rows::image_fault(image, &mut near);
     if fault != 0 {
         return fault;
     }

@@ -3,12 +3,14 @@ use crate::DeskTransition;
 use crate::Replica;
 use crate::RunResult;
 use crate::desk::desk_edit;
+use crate::refusals::first_fault;
 use crate::starting::start;
 use crate::wall::is_number;
 use crate::wall::wall_deliver;
 use big_endian::get1;
 use big_endian::get4;
 use big_endian::get8;
+use image::MAX_IMAGE_SIZE;
 use message::MESSAGE_SIZE;
 use message::operation_of;
 use sketch::ID_SIZE;
@@ -16,9 +18,7 @@ ghost use mathlib.Core.Path.{_≡_};
 ghost use Prim.Native.Nat.{_+_, _*_, _/_, _≤_};
 ghost use lib.ListN.{length};
 ghost use lib.Ieee.{ofBits, binary64};
-ghost use Rattle.sketch.specs.Drawing.{view};
-ghost use Rattle.sketch.specs.Valid.{sketchFault};
-ghost use Rattle.replication.specs.Transitions.{DeskEdits};
+ghost use Rattle.replication.specs.Transitions.{memory, stateIn, Ready, DeskEdits};
 ghost use Rattle.replication.specs.RunBoth.{editAt, callsIn, hasRoom, DeskRan, messagesInLog, WallRan, RunsBoth, callSize, maxRoom};
 ghost use Rattle.message.specs.Message.{messageSize};
 
@@ -46,27 +46,38 @@ fn coordinate(bits: u64) -> f64
 }
 
 // The call at a place of the desk's list.
-fn desk_edit_at(replica: Replica, entries: &[u8], at: usize, out: &mut [u8]) -> DeskTransition
+fn desk_edit_at<'a>(
+    replica: Replica,
+    buffer: &'a mut [u8],
+    entries: &[u8],
+    at: usize,
+    out: &'a mut [u8],
+) -> DeskTransition
     requires { ⌜ at + callSize ≤ length (now entries) ⌝ }
-    ensures { λ r. ⌜ DeskEdits replica (record { edit = editAt (now (entries .entry)) at; before = now (out .entry); after = now (out .exit); answer = r }) ⌝ }
+    ensures { λ r. ⌜ DeskEdits (memory replica (now (buffer .entry))) (record { edit = editAt (now (entries .entry)) at; before = now (out .entry); after = now (out .exit); left = memory (r .replica) (now (buffer .exit)); reply = r .reply }) ⌝ }
 {
     let operation = operation_of(get1(entries, at) as u32);
     let x = coordinate(get8(entries, at + X_AT));
     let y = coordinate(get8(entries, at + Y_AT));
-    desk_edit(replica, operation, get4(entries, at + CURVE_AT), x, y, out)
+    desk_edit(replica, buffer, operation, get4(entries, at + CURVE_AT), x, y, out)
 }
 
 // Runs each call on the replica that the one before left, and writes the messages one after the other to the log.
-fn run_desk(replica: Replica, entries: &[u8], log: &mut [u8]) -> Replica
-    requires { ⌜ (sketchFault (replica .sketch) ≡ 0) × (replica .count ≡ 0) × (messageSize * (length (now entries) / callSize) + maxRoom ≤ length (now log)) ⌝ }
-    ensures { λ r. ⌜ DeskRan (view (replica .sketch)) (callsIn (now (entries .entry))) (now (log .entry)) (now (log .exit)) r × (length (now (log .exit)) ≡ length (now (log .entry))) ⌝ }
+fn run_desk<'a>(
+    replica: Replica,
+    buffer: &'a mut [u8],
+    entries: &[u8],
+    log: &'a mut [u8],
+) -> Replica
+    requires { ⌜ Ready (memory replica (now buffer)) × (replica .count ≡ 0) × (messageSize * (length (now entries) / callSize) + maxRoom ≤ length (now log)) ⌝ }
+    ensures { λ r. ⌜ DeskRan (stateIn (memory replica (now (buffer .entry))) .drawing) (callsIn (now (entries .entry))) (now (log .entry)) (now (log .exit)) (memory r (now (buffer .exit))) × (length (now (log .exit)) ≡ length (now (log .entry))) ⌝ }
 {
     let mut last = replica;
     let mut i = 0usize;
     while i < entries.len() / CALL_SIZE {
         let from = last.count as usize * MESSAGE_SIZE;
         let to = from + get1(entries, i * CALL_SIZE + ROOM_AT) as usize;
-        let answer = desk_edit_at(last, entries, i * CALL_SIZE, &mut log[from..to]);
+        let answer = desk_edit_at(last, buffer, entries, i * CALL_SIZE, &mut log[from..to]);
         last = answer.replica;
         i += 1;
     }
@@ -75,9 +86,15 @@ fn run_desk(replica: Replica, entries: &[u8], log: &mut [u8]) -> Replica
 
 // Delivers each of the log's n messages that `order` names to the replica that the one before left. A place without a message is
 // passed over.
-fn run_wall(replica: Replica, log: &[u8], order: &[usize], n: usize) -> Replica
-    requires { ⌜ (sketchFault (replica .sketch) ≡ 0) × (messageSize * n ≤ length (now log)) ⌝ }
-    ensures { λ r. ⌜ WallRan replica (messagesInLog n (now (log .entry)) (now (order .entry))) r ⌝ }
+fn run_wall(
+    replica: Replica,
+    buffer: &mut [u8],
+    log: &[u8],
+    order: &[usize],
+    n: usize,
+) -> Replica
+    requires { ⌜ Ready (memory replica (now buffer)) × (messageSize * n ≤ length (now log)) ⌝ }
+    ensures { λ r. ⌜ WallRan (memory replica (now (buffer .entry))) (messagesInLog n (now (log .entry)) (now (order .entry))) (memory r (now (buffer .exit))) ⌝ }
 {
     let mut last = replica;
     let mut j = 0usize;
@@ -87,7 +104,7 @@ fn run_wall(replica: Replica, log: &[u8], order: &[usize], n: usize) -> Replica
         if o < n {
             let from = o * MESSAGE_SIZE;
             let to = from + MESSAGE_SIZE;
-            let answer = wall_deliver(last, &log[from..to]);
+            let answer = wall_deliver(last, buffer, &log[from..to]);
             last = answer.replica;
         }
     }
@@ -104,33 +121,45 @@ fn has_room(size: usize, room: usize) -> bool
     size / CALL_SIZE <= (room - MAX_ROOM) / MESSAGE_SIZE
 }
 
-// Both lists whole, from one image: the calls in `entries` to the desk, then to the wall the messages at the places in `order`.
-// The log takes the messages. Refused are an image, as ever, and a log that is too short (25): then neither list is run, and the
-// log is left.
-pub fn run_both(image: &[u8], entries: &[u8], order: &[usize], log: &mut [u8]) -> RunResult
-    ensures { λ r. ⌜ RunsBoth (now (image .entry)) (now (entries .entry)) (now (order .entry)) (now (log .entry)) (now (log .exit)) r ⌝ }
+fn not_run(refusal: u8) -> RunResult
+    ensures { λ r. ⌜ r ≡ record { desk = record { size = 0; count = 0 }; wall = record { size = 0; count = 0 }; refusal = refusal } ⌝ }
 {
-    let started = start(image);
-    let replica = started.replica;
-    if started.refusal != 0 {
-        return RunResult {
-            desk: replica,
-            wall: replica,
-            refusal: started.refusal,
-        };
+    let desk = Replica { size: 0, count: 0 };
+    let wall = Replica { size: 0, count: 0 };
+    RunResult { desk, wall, refusal }
+}
+
+// Both lists whole, from one image: the calls in `entries` to the desk, then to the wall the messages at the places in `order`. The log takes the
+// messages, and the two buffers the images. Refused are an image, as ever, and a log or a buffer that is too short (25): then neither list is
+// run, and log and buffers are left.
+pub fn run_both<'a>(
+    image: &[u8],
+    entries: &[u8],
+    order: &[usize],
+    log: &'a mut [u8],
+    desk: &'a mut [u8],
+    wall: &'a mut [u8],
+) -> RunResult
+    ensures { λ r. ⌜ RunsBoth (now (image .entry)) (now (entries .entry)) (now (order .entry)) (now (log .entry)) (now (log .exit)) (now (desk .entry)) (now (desk .exit)) (now (wall .entry)) (now (wall .exit)) r ⌝ }
+{
+    if !(has_room(entries.len(), log.len())
+        & (MAX_IMAGE_SIZE <= desk.len())
+        & (MAX_IMAGE_SIZE <= wall.len()))
+    {
+        return not_run(first_fault(image, 25));
     }
-    if !has_room(entries.len(), log.len()) {
-        return RunResult {
-            desk: replica,
-            wall: replica,
-            refusal: 25,
-        };
+    let at_desk = start(image, desk);
+    if at_desk.refusal != 0 {
+        return not_run(at_desk.refusal);
     }
-    let desk = run_desk(replica, entries, log);
-    let wall = run_wall(replica, log, order, desk.count as usize);
+    let at_wall = start(image, wall);
+    let first = at_desk.replica;
+    let second = at_wall.replica;
+    let desk_end = run_desk(first, desk, entries, log);
+    let wall_end = run_wall(second, wall, &log[..], order, desk_end.count as usize);
     RunResult {
-        desk,
-        wall,
+        desk: desk_end,
+        wall: wall_end,
         refusal: 0,
     }
 }

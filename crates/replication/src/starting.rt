@@ -1,17 +1,38 @@
 // The start, which is the same for desk and wall.
 use crate::Replica;
 use crate::Started;
+use crate::refusals::first_fault;
+use image::MAX_IMAGE_SIZE;
+ghost use mathlib.Core.Path.{_≡_};
 ghost use Rattle.replication.specs.Transitions.{Starts};
 
-// The image's sketch at count 0, or the number that the image is refused by.
-pub fn start(bytes: &[u8]) -> Started
-    ensures { λ r. ⌜ Starts (now (bytes .entry)) r ⌝ }
+// A start that is refused by a number.
+fn not_started(refusal: u8) -> Started
+    ensures { λ r. ⌜ r ≡ record { replica = record { size = 0; count = 0 }; refusal = refusal } ⌝ }
 {
-    let read = sketch_image::read(bytes);
-    let sketch = read.sketch;
-    let replica = Replica { sketch, count: 0 };
+    let replica = Replica { size: 0, count: 0 };
+    Started { replica, refusal }
+}
+
+// Puts an image at the front of a buffer, for a replica at count 0; or refuses the image, or a buffer without room for any image (25), and leaves
+// the buffer.
+pub fn start(image: &[u8], buffer: &mut [u8]) -> Started
+    ensures { λ r. ⌜ Starts (now (image .entry)) (now (buffer .entry)) (now (buffer .exit)) r ⌝ }
+{
+    if buffer.len() < MAX_IMAGE_SIZE {
+        return not_started(first_fault(image, 25));
+    }
+    let fault = first_fault(image, 0);
+    if fault != 0 {
+        return not_started(fault);
+    }
+    rows::put_run(image, buffer, 0);
+    let replica = Replica {
+        size: image.len(),
+        count: 0,
+    };
     Started {
         replica,
-        refusal: read.refusal,
+        refusal: 0,
     }
 }

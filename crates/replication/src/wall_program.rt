@@ -3,20 +3,18 @@ use crate::Replica;
 use crate::starting::start;
 use crate::wall::wall_deliver;
 use big_endian::get4;
-use image::CURVE_SIZE;
-use image::HEADER_SIZE;
-use image::POINT_SIZE;
-use image::RELATION_SIZE;
+use image::MAX_IMAGE_SIZE;
 use message::MESSAGE_SIZE;
-use sketch::Sketch;
+use rows::front;
+use rows::put_run;
 ghost use mathlib.Core.Path.{_≡_};
 ghost use Prim.Native.Nat.{_≤_};
 ghost use lib.Dec.{leb};
+ghost use lib.ListN.{length};
 ghost use Rattle.sketch.specs.Lists.{ite};
-ghost use Rattle.sketch.specs.Drawing.{view};
-ghost use Rattle.sketch.specs.Valid.{sketchFault};
-ghost use Rattle.image.specs.Image.{refused, accepted};
-ghost use Rattle.replication.specs.Program.{programOutcome, WritesOutcome, DeliversAll};
+ghost use Rattle.image.specs.Image.{refused, parse};
+ghost use Rattle.replication.specs.Transitions.{memory, Ready};
+ghost use Rattle.replication.specs.Program.{programOutcome, WritesOutcome, DeliversAll, WritesImage};
 
 fn min(a: usize, b: usize) -> usize
     ensures { λ r. ⌜ (r ≡ ite (leb a b) a b) × (r ≤ a) × (r ≤ b) ⌝ }
@@ -25,15 +23,15 @@ fn min(a: usize, b: usize) -> usize
 }
 
 // The replica after the messages in some bytes, of which the last may be cut short. What is refused is passed over.
-fn deliver_all(replica: Replica, bytes: &[u8]) -> Replica
-    requires { ⌜ sketchFault (replica .sketch) ≡ 0 ⌝ }
-    ensures { λ r. ⌜ DeliversAll replica (now (bytes .entry)) r ⌝ }
+fn deliver_all(replica: Replica, buffer: &mut [u8], bytes: &[u8]) -> Replica
+    requires { ⌜ Ready (memory replica (now buffer)) ⌝ }
+    ensures { λ r. ⌜ DeliversAll (memory replica (now (buffer .entry))) (now (bytes .entry)) (memory r (now (buffer .exit))) ⌝ }
 {
     let mut last = replica;
     let mut at = 0usize;
     while at < bytes.len() {
         let end = at + min(MESSAGE_SIZE, bytes.len() - at);
-        let answer = wall_deliver(last, &bytes[at..end]);
+        let answer = wall_deliver(last, buffer, &bytes[at..end]);
         last = answer.replica;
         at = end;
     }
@@ -56,17 +54,15 @@ fn write_refusal(number: u8, out: &mut [u8]) -> usize
     6
 }
 
-fn write_sketch(sk: Sketch, out: &mut [u8]) -> usize
-    requires { ⌜ sketchFault sk ≡ 0 ⌝ }
-    ensures { λ r. ⌜ WritesOutcome (accepted (view sk)) (now (out .entry)) (now (out .exit)) r ⌝ }
+fn write_image(image: &[u8], out: &mut [u8]) -> usize
+    ensures { λ r. ⌜ WritesImage (now (image .entry)) (now (out .entry)) (now (out .exit)) r ⌝ }
 {
-    if sketch_image::write(sk, out) != 0 {
+    let size = image.len();
+    if out.len() < size {
         return 0;
     }
-    let np = sk.npoints;
-    let nc = sk.ncurves;
-    let nr = sk.nrelations;
-    HEADER_SIZE + np * POINT_SIZE + nc * CURVE_SIZE + nr * RELATION_SIZE
+    put_run(image, out, 0);
+    size
 }
 
 // Reads an image and the messages after it, and writes the last image to the buffer's front, or the number that the image is
@@ -75,12 +71,12 @@ pub fn run_program(input: &[u8], out: &mut [u8]) -> usize
     ensures { λ r. ⌜ WritesOutcome (programOutcome (now (input .entry))) (now (out .entry)) (now (out .exit)) r ⌝ }
 {
     let end = min(4 + get4(input, 0) as usize, input.len());
-    let started = start(&input[..end]);
+    let mut buffer = [0u8; MAX_IMAGE_SIZE];
+    let started = start(&input[..end], &mut buffer);
     if started.refusal != 0 {
         return write_refusal(started.refusal, out);
     }
     let replica = started.replica;
-    let last = deliver_all(replica, &input[end..]);
-    let sketch = last.sketch;
-    write_sketch(sketch, out)
+    let last = deliver_all(replica, &mut buffer, &input[end..]);
+    write_image(front(&buffer, last.size), out)
 }

@@ -18,6 +18,7 @@ pub use records::relation_at;
 pub use records::relation_count;
 pub use runs::put_run;
 pub use tables::curves_of;
+pub use tables::front;
 pub use tables::next_id;
 pub use tables::points_of;
 pub use tables::relations_of;

@@ -11,6 +11,7 @@ use image::layout::RELATION_COUNT_AT;
 use image::layout::RELATION_SIZE;
 use sketch::Id;
 ghost use mathlib.Core.Path.{_≡_};
+ghost use lib.ListN.{take};
 ghost use Rattle.big_endian.specs.Fields.{part};
 ghost use Rattle.image.specs.Image.{nextAt};
 ghost use Rattle.rows.specs.Rows.{pointTable, curveTable, relationTable};
@@ -28,6 +29,13 @@ fn bytes_at(s: &[u8], at: usize, n: usize) -> &[u8]
     }
     let end = at + n;
     &s[at..end]
+}
+
+// The first n bytes, or as many of them as there are.
+pub fn front(s: &[u8], n: usize) -> &[u8]
+    ensures { λ r. ⌜ now r ≡ take n (now (s .entry)) ⌝ }
+{
+    bytes_at(s, 0, n)
 }
 
 // The next id.

@@ -1,4 +1,4 @@
-use Rattle.replication.proofs.Outcomes.{nan-computed}
+use Rattle.replication.proofs.Picks.{nan-computed}
 use lib.Dec.{T}
 use borrow.Author.Tests.{not-true, not-false}
 use mathlib.Core.Path.{sym, _∙_, subst}

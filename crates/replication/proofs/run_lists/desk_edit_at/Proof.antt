@@ -1,18 +1,12 @@
+-- `replication::run_lists::desk_edit_at` meets its contract.
 use Rattle.replication.proofs.Runs.{same-edit}
+use Rattle.replication.specs.Transitions.{memory}
 use Rattle.message.specs.Message.{operationOf}
 use lib.Ieee.{ofBits, binary64}
 use mathlib.Core.Path.{ap, _∙_}
 use borrow.Author.Needs.{needs}
 use Rattle.replication.proofs.run_lists.desk_edit_at.Statement.{statement}
 use Rattle.replication.proofs.run_lists.desk_edit_at.Tie as tie
-use Rattle.replication.proofs.run_lists.desk_edit_at.Reads as reads
-use Rattle.replication.proofs.run_lists.desk_edit_at.Lts as lts
-use Rattle.big_endian.proofs.get1.Reads as get1-reads
-use Rattle.big_endian.proofs.get4.Reads as get4-reads
-use Rattle.big_endian.proofs.get8.Reads as get8-reads
-use Rattle.replication.proofs.desk.desk_edit.Reads as desk-edit-reads
-use Rattle.replication.proofs.run_lists.coordinate.Reads as coordinate-reads
-use Rattle.message.proofs.operation_of.Reads as operation-of-reads
 
 get1-requires : tie.Need-get1-requires
 get1-requires c κs = search needs
@@ -53,14 +47,17 @@ desk-edit-requires c κs = search needs
 same-length : tie.Need-same-length
 same-length c = search needs
 
+same-length-2 : tie.Need-same-length-2
+same-length-2 c = search needs
+
 returns : tie.Need-returns
-returns c =
-    same-edit (c .before .before .before .before .before .before .before .before .before .before .before .before .before .args .replica) _ _ _ _ _
-    (c .before .before .before .before .before .before .before .before .before .operation-of .ensures ∙ ap operationOf (c .before .before .before .before .before .before .before .before .before .before .get1 .ensures))
-    (c .before .before .before .before .get4 .ensures)
-    (c .before .before .before .before .before .before .before .coordinate .ensures ∙ ap (ofBits binary64) (c .before .before .before .before .before .before .before .before .get8 .ensures))
-    (c .before .before .before .before .before .coordinate2 .ensures ∙ ap (ofBits binary64) (c .before .before .before .before .before .before .get82 .ensures))
-    (c .before .before .desk-edit .ensures)
+returns c = 
+    same-edit (memory (c .before .before .before .before .before .before .before .before .before .before .before .before .before .before .before .before .before .args .replica) (c .before .before .before .before .before .before .before .before .before .before .before .before .before .before .before .before .before .args .buffer .now)) _ _ _ _ _ _
+    (c .before .before .before .before .before .before .before .before .before .before .before .before .operation-of .ensures ∙ ap operationOf (c .before .before .before .before .before .before .before .before .before .before .before .before .before .get1 .ensures))
+    (c .before .before .before .before .before .before .get4 .ensures)
+    (c .before .before .before .before .before .before .before .before .before .before .coordinate .ensures ∙ ap (ofBits binary64) (c .before .before .before .before .before .before .before .before .before .before .before .get8 .ensures))
+    (c .before .before .before .before .before .before .before .before .coordinate2 .ensures ∙ ap (ofBits binary64) (c .before .before .before .before .before .before .before .before .before .get82 .ensures))
+    (c .before .before .before .before .desk-edit .ensures)
 
 pub desk-edit-at-spec : {M : Type 1} → statement M
 desk-edit-at-spec =
@@ -79,4 +76,5 @@ desk-edit-at-spec =
     get4-requires
     desk-edit-requires
     same-length
+    same-length-2
     returns)

@@ -1,37 +1,32 @@
-use Prim.Native.Nat.{_≤_, _+_, _-_, _/_, _*_}
-use Rattle.message.specs.Message.{messageSize}
+-- `replication::run_lists::run_desk` meets its contract. The invariant: the desk ran over the calls so far.
 use Rattle.replication.proofs.Runs.{desk-ran-start, desk-ran-next, desk-ran-all}
 use Rattle.replication.specs.RunBoth.{callAt, DeskRan, callSize}
+use Rattle.replication.specs.Transitions.{memory, stateIn}
+use Rattle.message.specs.Message.{messageSize}
 use Rattle.cuts.proofs.Rows.{rows-length}
 use Rattle.cuts.specs.Columns.{rows}
-use Rattle.sketch.specs.Drawing.{view}
-use native.Mathlib.Numerals.{add-one}
 use lib.ListN.{length}
-use Prim.Native.Nat.{_≤_, _-_, _/_, _*_}
 use mathlib.Core.Path.{_≡_, refl, _∙_}
+use Prim.Native.Nat.{_≤_, _+_, _-_, _/_, _*_}
 use borrow.Author.Needs.{needs}
 use native.Mathlib.Omega.{arith}
 use Rattle.replication.proofs.run_lists.run_desk.Statement.{statement}
 use Rattle.replication.proofs.run_lists.run_desk.Tie as tie
-use Rattle.replication.proofs.run_lists.run_desk.Reads as reads
-use Rattle.replication.proofs.run_lists.run_desk.Lts as lts
-use Rattle.big_endian.proofs.get1.Reads as get1-reads
-use Rattle.replication.proofs.run_lists.desk_edit_at.Reads as desk-edit-at-reads
 
 abbrev Inv-loop : tie.InvT-loop
-Inv-loop entries log₀ last₀ i₀ log last i = (i ≤ length entries / callSize) × (length log ≡ length log₀) × DeskRan (view (last₀ .sketch)) (rows i (callAt entries)) log₀ log last
+Inv-loop buffer₀ entries log₀ last₀ i₀ buffer log last i = (i ≤ length entries / callSize) × (length buffer ≡ length buffer₀) × (length log ≡ length log₀) × DeskRan (stateIn (memory last₀ buffer₀) .drawing) (rows i (callAt entries)) log₀ log (memory last buffer)
 
 abbrev μ-loop : tie.MeasureT-loop
-μ-loop entries log₀ last₀ i₀ log last i = length entries / callSize - i
+μ-loop buffer₀ entries log₀ last₀ i₀ buffer log last i = length entries / callSize - i
 
 loop-holds : tie.Need-loop-holds Inv-loop μ-loop
-loop-holds c = (omega arith, refl, desk-ran-start _ _ _ (c .before .before .pre .0) (c .before .before .pre .1))
+loop-holds c = (omega arith, refl, refl, desk-ran-start (memory (c .before .before .before .args .replica) (c .before .before .before .args .buffer .now)) _ _ (c .before .before .before .pre .0) (c .before .before .before .pre .1))
 
 cast-from : tie.Need-cast-from Inv-loop μ-loop
 cast-from c = search needs
 
 mul-from : tie.Need-mul-from Inv-loop μ-loop
-mul-from c = let few = c .before .before .loop .inv .2 .few in let many = rows-length (c .before .before .loop .i) (callAt (c .before .before .before .before .before .args .entries .now)) in let room = c .before .before .before .before .before .pre .2 in omega arith
+mul-from c = let few = c .before .before .loop .inv .3 .few in let many = rows-length (c .before .before .loop .i) (callAt (c .before .before .before .before .before .before .args .entries .now)) in let room = c .before .before .before .before .before .before .pre .2 in omega arith
 
 mul-get1 : tie.Need-mul-get1 Inv-loop μ-loop
 mul-get1 c = search needs
@@ -46,19 +41,19 @@ cast-to : tie.Need-cast-to Inv-loop μ-loop
 cast-to c = search needs
 
 add-to : tie.Need-add-to Inv-loop μ-loop
-add-to c = let few = c .before .before .before .loop .inv .2 .few in let many = rows-length (c .before .before .before .loop .i) (callAt (c .before .before .before .before .before .before .args .entries .now)) in let room = c .before .before .before .before .before .before .pre .2 in omega arith
+add-to c = let few = c .before .before .before .loop .inv .3 .few in let many = rows-length (c .before .before .before .loop .i) (callAt (c .before .before .before .before .before .before .before .args .entries .now)) in let room = c .before .before .before .before .before .before .before .pre .2 in omega arith
 
 mul-desk-edit-at : tie.Need-mul-desk-edit-at Inv-loop μ-loop
 mul-desk-edit-at c = search needs
 
 sub-desk-edit-at : tie.Need-sub-desk-edit-at Inv-loop μ-loop
-sub-desk-edit-at c = let few = c .before .before .before .loop .inv .2 .few in let many = rows-length (c .before .before .before .loop .i) (callAt (c .before .before .before .before .before .before .args .entries .now)) in let room = c .before .before .before .before .before .before .pre .2 in omega arith
+sub-desk-edit-at c = let few = c .before .before .before .before .loop .inv .3 .few in let many = rows-length (c .before .before .before .before .loop .i) (callAt (c .before .before .before .before .before .before .before .before .args .entries .now)) in let room = c .before .before .before .before .before .before .before .before .pre .2 in omega arith
 
 part-desk-edit-at-start : tie.Need-part-desk-edit-at-start Inv-loop μ-loop
-part-desk-edit-at-start c = let few = c .before .before .before .loop .inv .2 .few in let many = rows-length (c .before .before .before .loop .i) (callAt (c .before .before .before .before .before .before .args .entries .now)) in let room = c .before .before .before .before .before .before .pre .2 in omega arith
+part-desk-edit-at-start c = let few = c .before .before .before .before .loop .inv .3 .few in let many = rows-length (c .before .before .before .before .loop .i) (callAt (c .before .before .before .before .before .before .before .before .args .entries .now)) in let room = c .before .before .before .before .before .before .before .before .pre .2 in omega arith
 
 part-desk-edit-at-end : tie.Need-part-desk-edit-at-end Inv-loop μ-loop
-part-desk-edit-at-end c = let few = c .before .before .before .loop .inv .2 .few in let many = rows-length (c .before .before .before .loop .i) (callAt (c .before .before .before .before .before .before .args .entries .now)) in let room = c .before .before .before .before .before .before .pre .2 in omega arith
+part-desk-edit-at-end c = let few = c .before .before .before .before .loop .inv .3 .few in let many = rows-length (c .before .before .before .before .loop .i) (callAt (c .before .before .before .before .before .before .before .before .args .entries .now)) in let room = c .before .before .before .before .before .before .before .before .pre .2 in omega arith
 
 desk-edit-at-requires : tie.Need-desk-edit-at-requires Inv-loop μ-loop
 desk-edit-at-requires c κs = omega arith
@@ -70,21 +65,24 @@ loop-less : tie.Need-loop-less Inv-loop μ-loop
 loop-less c = omega arith
 
 loop-again : tie.Need-loop-again Inv-loop μ-loop
-loop-again c =
-    let at = c .before .before .before .before .before .before .before .before .loop in
-    let room = c .before .before .before .before .before .before .before .before .before .before .before .pre .2 in
+loop-again c = 
+    let at = c .before .before .before .before .before .before .before .before .before .before .before .loop in
+    let room = c .before .before .before .before .before .before .before .before .before .before .before .before .before .before .before .pre .2 in
     let m =
-    desk-ran-next _ (c .before .before .before .before .before .before .before .before .before .before .before .args .entries .now) _ (at .log) (at .i) (at .last) (omega arith) (omega arith) (at .inv .2)
-    (at .last .count * messageSize) (at .last .count * messageSize + c .before .before .before .before .before .get1 .result - at .last .count * messageSize) (omega arith) (omega (arith, c .before .before .before .before .before .get1 .ensures)) (omega arith)
-    _ _ (c .before .before .before .desk-edit-at .ensures)
+    desk-ran-next _ (c .before .before .before .before .before .before .before .before .before .before .before .before .before .before .before .args .entries .now) _ (at .log) (at .i) (memory (at .last) (at .buffer)) (omega arith) (omega arith) (at .inv .3)
+    (at .last .count * messageSize) (at .last .count * messageSize + c .before .before .before .before .before .before .before .before .get1 .result - at .last .count * messageSize) (omega arith) (omega (arith, c .before .before .before .before .before .before .before .before .get1 .ensures)) (omega arith)
+    _ _ _ (c .before .before .before .before .before .desk-edit-at .ensures)
     in
-    (omega arith, m .1 ∙ at .inv .1, rw add-one (m .0))
+    (omega arith, search needs, m .1 ∙ at .inv .2, m .0)
 
 same-length : tie.Need-same-length Inv-loop μ-loop
 same-length c = search needs
 
+same-length-2 : tie.Need-same-length-2 Inv-loop μ-loop
+same-length-2 c = search needs
+
 returns : tie.Need-returns Inv-loop μ-loop
-returns c = (desk-ran-all _ (c .before .before .before .before .args .entries .now) _ _ (c .before .loop .i) _ (omega arith) (c .before .loop .inv .2), c .before .loop .inv .1)
+returns c = (desk-ran-all _ (c .before .before .before .before .before .args .entries .now) _ _ (c .before .loop .i) _ (omega arith) (c .before .loop .inv .3), c .before .loop .inv .2)
 
 pub run-desk-spec : {M : Type 1} → statement M
 run-desk-spec =
@@ -109,4 +107,5 @@ run-desk-spec =
     loop-less
     loop-again
     same-length
+    same-length-2
     returns)

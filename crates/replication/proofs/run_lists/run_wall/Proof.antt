@@ -1,26 +1,24 @@
 -- `replication::run_lists::run_wall` meets its contract. The invariant: the wall ran over the messages at the places so far.
-use Prim.Native.Nat.{_≤_, _-_}
 use Rattle.replication.proofs.Runs.{ran-none, ran-past, ran-more, ran-all}
 use Rattle.replication.specs.RunBoth.{WallRan, messagesInLog}
+use Rattle.replication.specs.Transitions.{memory}
 use native.Mathlib.Numerals.{add-one}
 use lib.ListN.{length, take}
-use mathlib.Core.Path.{refl}
+use mathlib.Core.Path.{_≡_, refl}
+use Prim.Native.Nat.{_≤_, _-_}
 use borrow.Author.Needs.{needs}
 use native.Mathlib.Omega.{arith}
 use Rattle.replication.proofs.run_lists.run_wall.Statement.{statement}
 use Rattle.replication.proofs.run_lists.run_wall.Tie as tie
-use Rattle.replication.proofs.run_lists.run_wall.Reads as reads
-use Rattle.replication.proofs.run_lists.run_wall.Lts as lts
-use Rattle.replication.proofs.wall.wall_deliver.Reads as wall-deliver-reads
 
 abbrev Inv-loop : tie.InvT-loop
-Inv-loop log order n last₀ j₀ last j = (j ≤ length order) × WallRan last₀ (messagesInLog n log (take j order)) last
+Inv-loop buffer₀ log order n last₀ j₀ buffer last j = (j ≤ length order) × (length buffer ≡ length buffer₀) × WallRan (memory last₀ buffer₀) (messagesInLog n log (take j order)) (memory last buffer)
 
 abbrev μ-loop : tie.MeasureT-loop
-μ-loop log order n last₀ j₀ last j = length order - j
+μ-loop buffer₀ log order n last₀ j₀ buffer last j = length order - j
 
 loop-holds : tie.Need-loop-holds Inv-loop μ-loop
-loop-holds c = (omega arith, ran-none _ (c .before .before .pre .0))
+loop-holds c = (omega arith, refl, ran-none (memory (c .before .before .before .args .replica) (c .before .before .before .args .buffer .now)) (c .before .before .before .pre .0))
 
 mul-o : tie.Need-mul-o Inv-loop μ-loop
 mul-o c = search needs
@@ -32,10 +30,10 @@ add-j : tie.Need-add-j Inv-loop μ-loop
 add-j c = search needs
 
 mul-from : tie.Need-mul-from Inv-loop μ-loop
-mul-from c = let room = c .before .before .before .before .before .before .pre .1 in let low = c .if1 .taken in omega arith
+mul-from c = search needs
 
 add-to : tie.Need-add-to Inv-loop μ-loop
-add-to c = let room = c .before .before .before .before .before .before .pre .1 in let low = c .if1 .taken in omega arith
+add-to c = search needs
 
 sub-wall-deliver : tie.Need-sub-wall-deliver Inv-loop μ-loop
 sub-wall-deliver c = omega arith
@@ -44,7 +42,7 @@ part-wall-deliver-start : tie.Need-part-wall-deliver-start Inv-loop μ-loop
 part-wall-deliver-start c = omega arith
 
 part-wall-deliver-end : tie.Need-part-wall-deliver-end Inv-loop μ-loop
-part-wall-deliver-end c = let room = c .before .before .before .before .before .before .pre .1 in let low = c .if1 .taken in omega arith
+part-wall-deliver-end c = let room = c .before .before .before .before .before .before .before .before .pre .1 in let low = c .before .if1 .taken in omega arith
 
 wall-deliver-requires : tie.Need-wall-deliver-requires Inv-loop μ-loop
 wall-deliver-requires c κs = search needs
@@ -53,25 +51,19 @@ loop-less : tie.Need-loop-less Inv-loop μ-loop
 loop-less c = omega arith
 
 loop-again : tie.Need-loop-again Inv-loop μ-loop
-loop-again c =
-    let t = c .before .before .before in
-    let at = t .before .before .before .loop in
-    let s = t .before .before .before .before .before .before in
-    (omega arith, rw add-one (ran-more _ (at .last) (s .args .n) (s .args .log .now) (s .args .order .now) (at .j) (omega arith) (at .inv .1) (t .if1 .taken) _ _ refl (c .before .wall-deliver .ensures)))
+loop-again c = let at = c .before .before .before .before .before .before .before .before .before .loop in (omega arith, search needs, rw add-one (ran-more _ (memory (at .last) (at .buffer)) (c .before .before .before .before .before .before .before .before .before .before .before .before .before .args .n) (c .before .before .before .before .before .before .before .before .before .before .before .before .before .args .log .now) (c .before .before .before .before .before .before .before .before .before .before .before .before .before .args .order .now) (at .j) (omega arith) (at .inv .2) (c .before .before .before .before .before .before .if1 .taken) _ _ refl refl (c .before .before .before .wall-deliver .ensures)))
 
 loop-less-2 : tie.Need-loop-less-2 Inv-loop μ-loop
 loop-less-2 c = omega arith
 
 loop-again-2 : tie.Need-loop-again-2 Inv-loop μ-loop
-loop-again-2 c =
-    let at = c .before .before .before .loop in
-    let s = c .before .before .before .before .before .before in
-    (omega arith, rw add-one (ran-past _ (at .last) (s .args .n) (s .args .log .now) (s .args .order .now) (at .j) (omega arith) (at .inv .1) (c .if1 .left)))
+loop-again-2 c = let at = c .before .before .before .loop in (omega arith, at .inv .1, rw add-one (ran-past _ (memory (at .last) (at .buffer)) (c .before .before .before .before .before .before .before .args .n) (c .before .before .before .before .before .before .before .args .log .now) (c .before .before .before .before .before .before .before .args .order .now) (at .j) (omega arith) (at .inv .2) (c .if1 .left)))
+
+same-length : tie.Need-same-length Inv-loop μ-loop
+same-length c = search needs
 
 returns : tie.Need-returns Inv-loop μ-loop
-returns c =
-    let s = c .before .before .before .before in
-    ran-all _ _ (s .args .n) (s .args .log .now) (s .args .order .now) (c .before .loop .j) (omega arith) (c .before .loop .inv .1)
+returns c = ran-all _ _ (c .before .before .before .before .before .args .n) (c .before .before .before .before .before .args .log .now) (c .before .before .before .before .before .args .order .now) (c .before .loop .j) (omega arith) (c .before .loop .inv .2)
 
 pub run-wall-spec : {M : Type 1} → statement M
 run-wall-spec =
@@ -93,4 +85,5 @@ run-wall-spec =
     loop-again
     loop-less-2
     loop-again-2
+    same-length
     returns)

@@ -1,26 +1,23 @@
-use mathlib.Core.Path.{refl}
+-- `replication::wall_program::deliver_all` meets its contract. The invariant: what is left to deliver leads to what all leads to.
+use Rattle.replication.proofs.Program.{least-above, Follows, delivers-more, delivers-all}
+use Rattle.replication.specs.Transitions.{memory}
 use Rattle.message.specs.Message.{messageSize}
-use Rattle.replication.proofs.Program.{least-above}
 use lib.ListN.{length}
+use mathlib.Core.Path.{_≡_, refl}
 use Prim.Native.Nat.{_-_}
-use Rattle.replication.proofs.Program.{Follows, delivers-more, delivers-all}
 use borrow.Author.Needs.{needs}
 use native.Mathlib.Omega.{arith}
 use Rattle.replication.proofs.wall_program.deliver_all.Statement.{statement}
 use Rattle.replication.proofs.wall_program.deliver_all.Tie as tie
-use Rattle.replication.proofs.wall_program.deliver_all.Reads as reads
-use Rattle.replication.proofs.wall_program.deliver_all.Lts as lts
-use Rattle.replication.proofs.wall.wall_deliver.Reads as wall-deliver-reads
-use Rattle.replication.proofs.wall_program.min.Reads as min-reads
 
 abbrev Inv-loop : tie.InvT-loop
-Inv-loop bytes last₀ at₀ last at = Follows last₀ bytes last at
+Inv-loop buffer₀ bytes last₀ at₀ buffer last at = (length buffer ≡ length buffer₀) × Follows (memory last₀ buffer₀) bytes (memory last buffer) at
 
 abbrev μ-loop : tie.MeasureT-loop
-μ-loop bytes last₀ at₀ last at = length bytes - at
+μ-loop buffer₀ bytes last₀ at₀ buffer last at = length bytes - at
 
 loop-holds : tie.Need-loop-holds Inv-loop μ-loop
-loop-holds c = record { within = omega arith; valid = c .before .pre; on = refl }
+loop-holds c = (refl, record { within = omega arith; ready = c .before .before .pre; on = refl })
 
 sub-min : tie.Need-sub-min Inv-loop μ-loop
 sub-min c = search needs
@@ -44,13 +41,16 @@ wall-deliver-requires : tie.Need-wall-deliver-requires Inv-loop μ-loop
 wall-deliver-requires c κs = search needs
 
 loop-less : tie.Need-loop-less Inv-loop μ-loop
-loop-less c = let p = least-above messageSize (length (c .before .before .before .before .before .before .before .args .bytes .now) - c .before .before .before .before .before .loop .at) (c .before .before .before .min .ensures .0) (omega arith) (omega arith) in omega arith
+loop-less c = let p = least-above messageSize (length (c .before .before .before .before .before .before .before .before .before .before .before .args .bytes .now) - c .before .before .before .before .before .before .before .before .loop .at) (c .before .before .before .before .before .before .min .ensures .0) (omega arith) (omega arith) in omega arith
 
 loop-again : tie.Need-loop-again Inv-loop μ-loop
-loop-again c = delivers-more _ _ _ _ _ (c .before .before .before .before .before .loop .inv) (omega arith) (c .before .before .before .min .ensures .0) (c .before .before .before .min .ensures .2) _ (c .before .wall-deliver .ensures)
+loop-again c = (search needs, delivers-more _ _ (memory (c .before .before .before .before .before .before .before .before .loop .last) (c .before .before .before .before .before .before .before .before .loop .buffer)) _ _ (c .before .before .before .before .before .before .before .before .loop .inv .1) (omega arith) (c .before .before .before .before .before .before .min .ensures .0) (c .before .before .before .before .before .before .min .ensures .2) _ refl (c .before .before .before .wall-deliver .ensures))
+
+same-length : tie.Need-same-length Inv-loop μ-loop
+same-length c = search needs
 
 returns : tie.Need-returns Inv-loop μ-loop
-returns c = delivers-all _ _ _ _ (c .before .loop .inv) (omega arith)
+returns c = delivers-all _ _ _ _ (c .before .loop .inv .1) (omega arith)
 
 pub deliver-all-spec : {M : Type 1} → statement M
 deliver-all-spec =
@@ -68,4 +68,5 @@ deliver-all-spec =
     wall-deliver-requires
     loop-less
     loop-again
+    same-length
     returns)

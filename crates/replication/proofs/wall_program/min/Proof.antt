@@ -1,8 +1,7 @@
+-- `replication::wall_program::min` meets its contract.
 use Rattle.replication.proofs.Program.{least-first, least-second}
 use Rattle.replication.proofs.wall_program.min.Statement.{statement}
 use Rattle.replication.proofs.wall_program.min.Tie as tie
-use Rattle.replication.proofs.wall_program.min.Reads as reads
-use Rattle.replication.proofs.wall_program.min.Lts as lts
 
 returns : tie.Need-returns
 returns c = least-first _ _ (c .if1 .taken)

@@ -1,19 +1,13 @@
+-- `replication::run_program` meets its contract.
+use Rattle.replication.proofs.Program.{end-is, outcome-refused, program-start, program-outcome}
+use Rattle.image.proofs.Tables.{bytes-take}
 use lib.Seq.{length-take-le}
 use lib.ListN.{length}
-use Rattle.replication.proofs.Program.{end-is, outcome-refused, program-outcome}
 use mathlib.Core.Path.{sym}
 use native.Mathlib.Omega.{arith}
 use borrow.Author.Needs.{needs}
 use Rattle.replication.proofs.wall_program.run_program.Statement.{statement}
 use Rattle.replication.proofs.wall_program.run_program.Tie as tie
-use Rattle.replication.proofs.wall_program.run_program.Reads as reads
-use Rattle.replication.proofs.wall_program.run_program.Lts as lts
-use Rattle.big_endian.proofs.get4.Reads as get4-reads
-use Rattle.replication.proofs.wall_program.deliver_all.Reads as deliver-all-reads
-use Rattle.replication.proofs.wall_program.min.Reads as min-reads
-use Rattle.replication.proofs.wall_program.write_refusal.Reads as write-refusal-reads
-use Rattle.replication.proofs.wall_program.write_sketch.Reads as write-sketch-reads
-use Rattle.replication.proofs.starting.start.Reads as start-reads
 
 get4-requires : tie.Need-get4-requires
 get4-requires c κs = search needs
@@ -30,6 +24,9 @@ min-requires c κs = search needs
 slice-aggregate-start : tie.Need-slice-aggregate-start
 slice-aggregate-start c = sym (length-take-le _ (c .before .before .before .before .before .args .input .now) (c .before .min .ensures .2))
 
+slice-aggregate-start-2 : tie.Need-slice-aggregate-start-2
+slice-aggregate-start-2 c = search needs
+
 start-requires : tie.Need-start-requires
 start-requires c κs = search needs
 
@@ -40,7 +37,10 @@ same-length : tie.Need-same-length
 same-length c = search needs
 
 returns : tie.Need-returns
-returns c = outcome-refused (c .before .before .before .before .before .before .before .before .before .before .before .before .args .input .now) _ (end-is (length (c .before .before .before .before .before .before .before .before .before .before .before .before .args .input .now)) (c .before .before .before .before .before .before .before .before .before .get4 .ensures) (c .before .before .before .before .before .before .before .before .min .ensures .0)) _ (c .before .before .before .before .before .before .start .ensures) (c .before .before .before .before .if1 .taken) _ _ _ (c .before .before .write-refusal .ensures)
+returns c = outcome-refused (c .before .before .before .before .before .before .before .before .before .before .before .before .before .before .args .input .now) _ (end-is (length (c .before .before .before .before .before .before .before .before .before .before .before .before .before .before .args .input .now)) (c .before .before .before .before .before .before .before .before .before .before .before .get4 .ensures) (c .before .before .before .before .before .before .before .before .before .before .min .ensures .0)) _ _ _ (c .before .before .before .before .before .before .before .start .ensures) (search needs) (c .before .before .before .before .if1 .taken) _ _ _ (c .before .before .write-refusal .ensures)
+
+slice-aggregate-deliver-all : tie.Need-slice-aggregate-deliver-all
+slice-aggregate-deliver-all c = search needs
 
 sub-deliver-all : tie.Need-sub-deliver-all
 sub-deliver-all c = omega arith
@@ -52,16 +52,22 @@ part-deliver-all-end : tie.Need-part-deliver-all-end
 part-deliver-all-end c = search needs
 
 deliver-all-requires : tie.Need-deliver-all-requires
-deliver-all-requires c κs = c .before .before .before .before .start .ensures .valid
+deliver-all-requires c κs = program-start (c .before .before .before .before .before .before .before .before .before .before .before .before .before .args .input .now) _ (end-is (length (c .before .before .before .before .before .before .before .before .before .before .before .before .before .args .input .now)) (c .before .before .before .before .before .before .before .before .before .before .get4 .ensures) (c .before .before .before .before .before .before .before .before .before .min .ensures .0)) _ _ _ (c .before .before .before .before .before .before .start .ensures) (c .before .before .before .if1 .left) (bytes-take (c .before .before .before .before .before .before .before .before .before .min .result) (c .before .before .before .before .before .before .before .before .before .before .before .before .before .args .input .now) (λ k. c .before .before .before .before .before .before .before .before .before .before .before .before .shared-slice-known .given k .fits)) .ready
 
-write-sketch-requires : tie.Need-write-sketch-requires
-write-sketch-requires c κs = search needs
+slice-aggregate-front : tie.Need-slice-aggregate-front
+slice-aggregate-front c = search needs
+
+front-requires : tie.Need-front-requires
+front-requires c κs = search needs
+
+write-image-requires : tie.Need-write-image-requires
+write-image-requires c κs = search needs
 
 same-length-2 : tie.Need-same-length-2
 same-length-2 c = search needs
 
 returns-2 : tie.Need-returns-2
-returns-2 c = program-outcome (c .before .before .before .before .before .before .before .before .before .before .before .before .before .before .before .before .args .input .now) _ (end-is (length (c .before .before .before .before .before .before .before .before .before .before .before .before .before .before .before .before .args .input .now)) (c .before .before .before .before .before .before .before .before .before .before .before .before .before .get4 .ensures) (c .before .before .before .before .before .before .before .before .before .before .before .before .min .ensures .0)) _ (c .before .before .before .before .before .before .before .before .before .before .start .ensures) (c .before .before .before .before .before .before .before .before .if1 .left) _ (c .before .before .before .before .before .deliver-all .ensures) _ _ _ (c .before .before .write-sketch .ensures)
+returns-2 c = program-outcome (c .before .before .before .before .before .before .before .before .before .before .before .before .before .before .before .before .before .before .before .before .before .args .input .now) _ (end-is (length (c .before .before .before .before .before .before .before .before .before .before .before .before .before .before .before .before .before .before .before .before .before .args .input .now)) (c .before .before .before .before .before .before .before .before .before .before .before .before .before .before .before .before .before .before .get4 .ensures) (c .before .before .before .before .before .before .before .before .before .before .before .before .before .before .before .before .before .min .ensures .0)) _ _ _ (c .before .before .before .before .before .before .before .before .before .before .before .before .before .before .start .ensures) (c .before .before .before .before .before .before .before .before .before .before .before .if1 .left) (bytes-take (c .before .before .before .before .before .before .before .before .before .before .before .before .before .before .before .before .before .min .result) (c .before .before .before .before .before .before .before .before .before .before .before .before .before .before .before .before .before .before .before .before .before .args .input .now) (λ k. c .before .before .before .before .before .before .before .before .before .before .before .before .before .before .before .before .before .before .before .before .shared-slice-known .given k .fits)) _ (c .before .before .before .before .before .before .before .deliver-all .ensures) (c .before .before .before .before .front .ensures) _ _ _ (c .before .before .write-image .ensures)
 
 pub run-program-spec : {M : Type 1} → statement M
 run-program-spec =
@@ -72,14 +78,18 @@ run-program-spec =
     add-min
     min-requires
     slice-aggregate-start
+    slice-aggregate-start-2
     start-requires
     write-refusal-requires
     same-length
     returns
+    slice-aggregate-deliver-all
     sub-deliver-all
     part-deliver-all-start
     part-deliver-all-end
     deliver-all-requires
-    write-sketch-requires
+    slice-aggregate-front
+    front-requires
+    write-image-requires
     same-length-2
     returns-2)

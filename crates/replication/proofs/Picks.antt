@@ -1,59 +1,26 @@
--- What an edit's answer means for the machines: refusals in order, picks, places.
+-- Picks: which bits are numbers, and what an edit makes of the others. Assumes nothing.
 use mathlib.Core.Path.{_≡_, refl, sym, ap, _∙_, subst}
 use mathlib.Core.Bool.{Bool, true, false, not, _&&_}
 use Prim.Native.Nat.{ℕ}
 use native.Mathlib.Omega.{arith}
-use lib.Dec.{T, eqb}
-use borrow.Author.Tests.{eq-eqb, ne-eqb, eqb-false}
+use lib.Dec.{T}
+use borrow.Author.Tests.{not-true}
 use lib.Ieee.{Float, div, nan, inf, fin, ofBits, fits, isNan, nanBits, binary64}
 use lib.Ieee.Bits.{ofBits-fits, nanBits-is}
-use Rattle.sketch.specs.declared.Sketch.{Sketch}
-use Rattle.sketch.specs.Lists.{guardNumber}
-use Rattle.sketch.specs.Drawing.{Drawing, view, limits, curveIn}
-use Rattle.sketch.specs.Valid.{okCoordinate, sketchFault}
+use Rattle.sketch.specs.Drawing.{Drawing, limits}
+use Rattle.sketch.specs.Valid.{okCoordinate}
 use Rattle.sketch.proofs.Bools.{and-both}
 use Rattle.image.proofs.Floats.{coordinate-rejects, number-float, nan-fails}
 use Rattle.sketch_geometry.proofs.Found.{no-number}
 use Rattle.relations.specs.Met.{allMet}
-use Rattle.edit_plan.specs.declared.Edited.{Edited}
 use Rattle.edit_plan.specs.declared.Removed.{Removed}
-use Rattle.edit_plan.specs.Outcome.{Outcome, refused, accepted, guard}
+use Rattle.edit_plan.specs.Outcome.{refused, accepted, guard}
 use Rattle.edit_plan.specs.Tables.{okPosition}
-use Rattle.edit_plan.specs.Suited.{outcomeOf}
 use Rattle.planning.specs.declared.PlanResult.{PlanResult}
 use Rattle.planning.specs.Planning.{guardPlan}
 use Rattle.extend.specs.ExtendAnswer.{applyPlanned}
-use Rattle.modify.specs.Edits.{planOnFound, editOf, EditAnswer}
+use Rattle.modify.specs.Edits.{editOf}
 use Rattle.replication.specs.Protocol.{Edit, isPick, edit}
-use Rattle.replication.specs.Transitions.{UnmetPlace, firstFault}
-use Rattle.replication.proofs.Decoding.{guard-accepted}
-
--- ---- the sketch's own number first
-
-pub first-refused : (s : Sketch) (k : ℕ) {n : ℕ} → n ≡ firstFault s k → (sketchFault s ≡ 0 → ⊥) → n ≡ sketchFault s
-unfolding guardNumber
-first-refused s k e h = e ∙ rw (ne-eqb (sketchFault s) 0 h)
-
-pub first-sound : (s : Sketch) (k : ℕ) {n : ℕ} → n ≡ firstFault s k → sketchFault s ≡ 0 → n ≡ k
-unfolding guardNumber
-first-sound s k e h = e ∙ rw (eq-eqb (sketchFault s) 0 h)
-
-pub first-above : (s : Sketch) (k : ℕ) {n : ℕ} → n ≡ firstFault s k → (k ≡ 0 → ⊥) → n ≡ 0 → ⊥
-unfolding guardNumber
-first-above s k e h z = go (eqb (sketchFault s) 0) refl (sym e ∙ z)
-  where
-    go : (b : Bool) → eqb (sketchFault s) 0 ≡ b → guardNumber b (sketchFault s) k ≡ 0 → ⊥
-    go true q i = h i
-    go false q i = eqb-false (sketchFault s) 0 q i
-
--- a sketch's own number above 0 is the first fault
-pub first-if : (s : Sketch) (k : ℕ) {n : ℕ} → n ≡ sketchFault s → (n ≡ 0 → ⊥) → n ≡ firstFault s k
-unfolding guardNumber
-first-if s k {n} e h = e ∙ sym (rw (ne-eqb (sketchFault s) 0 (λ z. h (e ∙ z))))
-
-pub first-else : (s : Sketch) (k : ℕ) {n : ℕ} → n ≡ sketchFault s → n ≡ 0 → k ≡ firstFault s k
-unfolding guardNumber
-first-else s k {n} e h = sym (rw (eq-eqb (sketchFault s) 0 (sym e ∙ h)))
 
 -- ---- picks
 
@@ -83,8 +50,8 @@ pick-of x y p q = rw (p, q)
 pub both-numbers : (a b : ℕ) {p q t : Bool} → p ≡ not (nanBits binary64 a) → q ≡ not (nanBits binary64 b) → (p && q) ≡ t → (not (nanBits binary64 a) && not (nanBits binary64 b)) ≡ t
 both-numbers a b e f h = rw (← e, ← f) h
 
-pub may-float : (a b : ℕ) → (not (nanBits binary64 a) && not (nanBits binary64 b)) ≡ true → T (not (nanBits binary64 a)) × T (not (nanBits binary64 b))
-may-float a b h = let (p, q) = and-both (not (nanBits binary64 a)) (not (nanBits binary64 b)) h in (subst T (sym p) tt, subst T (sym q) tt)
+pub both-false : (a b : ℕ) → (not (nanBits binary64 a) && not (nanBits binary64 b)) ≡ true → (nanBits binary64 a ≡ false) × (nanBits binary64 b ≡ false)
+both-false a b h = let (p, q) = and-both (not (nanBits binary64 a)) (not (nanBits binary64 b)) h in (not-true (nanBits binary64 a) p, not-true (nanBits binary64 b) q)
 
 -- bits of a NaN are no pick (9)
 nan-place : (a b : ℕ) → (not (nanBits binary64 a) && not (nanBits binary64 b)) ≡ false → okPosition (record { x = ofBits binary64 a; y = ofBits binary64 b }) ≡ false
@@ -123,42 +90,3 @@ nan-refused d e a b q h = go (isPick (e .at)) (ap okPosition q ∙ nan-place a b
     go : (p : Bool) → okPosition (e .at) ≡ false → guard p 9 (editOf (e .operation) limits d (e .curve) (e .at)) ≡ refused 9
     go true h = rw h
     go false h = refl
-
--- ---- an edit's answer
-
-module _ (s : Sketch) (e : Edit) (r : Edited) (a : EditAnswer (e .operation) s (e .curve) (e .at) r) where
-  pub out-refused : (r .refusal ≡ 0 → ⊥) → outcomeOf r ≡ refused (r .refusal)
-  out-refused z = rw (ne-eqb (r .refusal) 0 z)
-
-  pub out-accepted : r .refusal ≡ 0 → outcomeOf r ≡ accepted (view (r .sketch)) (r .removed)
-  out-accepted z = rw (eq-eqb (r .refusal) 0 z)
-
-  -- on a sketch that no image gives it is that sketch's number
-  pub refusal-fault : (sketchFault s ≡ 0 → ⊥) → (r .refusal ≡ 0 → ⊥) → r .refusal ≡ sketchFault s
-  unfolding guard
-  refusal-fault h z =
-      let q : outcomeOf r ≡ refused (sketchFault s) = a .outcome ∙ rw (ne-eqb (sketchFault s) 0 h) in
-      let p = out-refused z in
-      let w : _≡_ {A = Outcome Drawing Removed} (refused (r .refusal)) (refused (sketchFault s)) = sym p ∙ q in
-      cc
-
-  pub accepted-sound : (sketchFault s ≡ 0 → ⊥) → r .refusal ≡ 0 → ⊥
-  unfolding guard
-  accepted-sound h z =
-      let q : outcomeOf r ≡ refused (sketchFault s) = a .outcome ∙ rw (ne-eqb (sketchFault s) 0 h) in
-      let w : _≡_ {A = Outcome Drawing Removed} (accepted (view (r .sketch)) (r .removed)) (refused (sketchFault s)) = sym (out-accepted z) ∙ q in
-      let z : _≡_ {A = ℕ} 0 1 = cc in
-      omega arith
-
-  -- on any other it is the edit's
-  pub edit-is : isPick (e .at) ≡ true → sketchFault s ≡ 0 → edit (view s) e ≡ outcomeOf r
-  unfolding guard
-  edit-is f h = rw f (sym (a .outcome ∙ rw (eq-eqb (sketchFault s) 0 h)))
-
-  pub accepted-place : r .refusal ≡ 0 → (okCoordinate (e .at .x) ≡ true) × (okCoordinate (e .at .y) ≡ true)
-  accepted-place z =
-      let q = guard-accepted (eqb (sketchFault s) 0) (sketchFault s) (editOf (e .operation) limits (view s) (e .curve) (e .at)) _ _ (sym (a .outcome) ∙ out-accepted z) .1 in
-      and-both _ _ (decided-place (okPosition (e .at)) (planOnFound (e .operation) (view s) (e .at) (curveIn (view s .curves) (e .curve))) (view s) (e .curve) _ _ q)
-
-  pub unmet : UnmetPlace e (view s) (r .refusal) (r .place)
-  unmet = record { before = a .unmet-before; after = a .unmet-after }

@@ -1,0 +1,174 @@
+-- The outcome of a call on an image, refused before the edit or by it or with a new image, for desk and wall alike. Assumes nothing.
+use mathlib.Core.Path.{_≡_, refl, sym, ap, _∙_, subst}
+use mathlib.Core.Bool.{Bool, true, false}
+use mathlib.Core.List.{List}
+use Prim.Native.Nat.{ℕ, zero, suc}
+use native.Mathlib.Omega.{arith}
+use lib.ListN.{length}
+use lib.Dec.{leb, eqb}
+use borrow.Author.Tests.{eq-eqb, ne-eqb}
+use Rattle.big_endian.specs.Fields.{over}
+use Rattle.sketch.specs.Lists.{ite, guardNumber}
+use Rattle.sketch.specs.Drawing.{Drawing, limits}
+use Rattle.image.specs.Image as I
+use Rattle.image.specs.Encode.{encode, drawingSize}
+use Rattle.image.proofs.RoundTrips.{result-accepted}
+use Rattle.edit_plan.specs.declared.Removed.{Removed}
+use Rattle.edit_plan.specs.Outcome as O
+use Rattle.edit_plan.specs.Outcome.{guard}
+use Rattle.extend.specs.declared.EditedImage.{EditedImage}
+use Rattle.extend.specs.ImageExtend.{ifFits, OutcomeWritten}
+use Rattle.modify.specs.Edits.{editOf}
+use Rattle.modify.specs.ImageEdits.{editImage, EditWritten}
+use Rattle.modify.proofs.ImageFaults.{image-fault-low}
+use Rattle.modify.proofs.Numbered.{image-edit-numbered}
+use Rattle.agreement.specs.Machines.{State}
+use Rattle.replication.specs.Protocol.{Edit}
+use Rattle.replication.specs.Outcomes.{CallOutcome, refused, updated, ifImageFits, onImage}
+use Rattle.replication.specs.Transitions.{UnmetPlace, firstFault}
+
+-- ---- the image's own number first
+
+module _ (s : List ℕ) {n : ℕ} (k : ℕ) where
+  pub first-own : n ≡ I.imageFault s → (n ≡ 0 → ⊥) → n ≡ firstFault s k
+  unfolding guardNumber
+  first-own e h = e ∙ sym (rw (ne-eqb (I.imageFault s) 0 (λ z. h (e ∙ z))))
+
+  pub first-given : n ≡ I.imageFault s → n ≡ 0 → k ≡ firstFault s k
+  unfolding guardNumber
+  first-given e h = sym (rw (eq-eqb (I.imageFault s) 0 (sym e ∙ h)))
+
+-- of an image that is read elsewhere
+pub first-of : (s : List ℕ) {image : List ℕ} (k : ℕ) {n : ℕ} → image ≡ s → n ≡ firstFault image k → n ≡ firstFault s k
+first-of s k e f = f ∙ ap (λ (t : List ℕ). firstFault t k) e
+
+-- with nothing given it is the image's
+pub first-fault-own : (s : List ℕ) {n : ℕ} → n ≡ firstFault s 0 → n ≡ I.imageFault s
+unfolding guardNumber
+first-fault-own s e = e ∙ go (I.imageFault s)
+  where
+    go : (k : ℕ) → guardNumber (eqb k 0) k 0 ≡ k
+    go zero = refl
+    go (suc k) = rw (ne-eqb (suc k) 0 (λ z. omega arith))
+
+-- ---- refusals before the edit's own
+
+-- a number that comes with no place
+pub record Early (k : ℕ) : Type 0 where
+  pub not-0 : k ≡ 0 → ⊥
+  pub not-13 : k ≡ 13 → ⊥
+  pub not-19 : k ≡ 19 → ⊥
+
+above : (n : ℕ) → eqb (suc n) 0 ≡ false
+above n = ne-eqb (suc n) 0 (λ z. omega arith)
+
+module _ (s : List ℕ) where
+  pub fault-early : (r : ℕ) → r ≡ I.imageFault s → (r ≡ 0 → ⊥) → Early r
+  fault-early r e z = record { not-0 = z; not-13 = λ y. omega (arith, image-fault-low s); not-19 = λ y. omega (arith, image-fault-low s) }
+
+  pub first-early : (k r : ℕ) → Early k → r ≡ firstFault s k → Early r
+  unfolding guardNumber
+  first-early k r h e = go (I.imageFault s) refl e
+    where
+      go : (n : ℕ) → I.imageFault s ≡ n → r ≡ guardNumber (eqb n 0) n k → Early r
+      go zero f e = subst Early (sym e) h
+      go (suc n) f e = let q : r ≡ suc n = e ∙ rw (above n) in fault-early r (q ∙ sym f) (λ z. omega arith)
+
+  -- an image's refusal comes before all else
+  pub on-fault : (count : ℕ) (f : State Drawing → CallOutcome) (r : ℕ) → r ≡ I.imageFault s → (r ≡ 0 → ⊥) → onImage (I.parse s) count f ≡ refused r
+  unfolding I.resultOf
+  on-fault count f r e z = go (I.imageFault s) e
+    where
+      go : (n : ℕ) → r ≡ n → onImage (I.resultOf n (I.drawingOf s)) count f ≡ refused r
+      go zero e = absurd (z e)
+      go (suc n) e = ap refused (sym e)
+
+  pub on-first : (count : ℕ) (f : State Drawing → CallOutcome) (k r : ℕ) → r ≡ firstFault s k → f (record { drawing = I.drawingOf s; count = count }) ≡ refused k → onImage (I.parse s) count f ≡ refused r
+  unfolding I.resultOf guardNumber
+  on-first count f k r e g = go (I.imageFault s) e
+    where
+      go : (n : ℕ) → r ≡ guardNumber (eqb n 0) n k → onImage (I.resultOf n (I.drawingOf s)) count f ≡ refused r
+      go zero e = g ∙ ap refused (sym e)
+      go (suc n) e = let q : r ≡ suc n = e ∙ rw (above n) in ap refused (sym q)
+
+-- numbers that come with no place say nothing of one
+pub unmet-none : (e : Edit) (d : Drawing) (k place : ℕ) → (k ≡ 13 → ⊥) → (k ≡ 19 → ⊥) → UnmetPlace e d k place
+unmet-none e d k place x y = record { before = λ o z. absurd (x z); after = λ o z. absurd (y z) }
+
+-- ---- an edit of the image at a buffer's front
+
+abbrev pub applied : ℕ → ℕ → O.Outcome Drawing Removed → CallOutcome
+applied room n (O.refused k) = refused k
+applied room n (O.accepted d q) = ifImageFits room (record { drawing = d; count = n }) q
+
+pub on-image :
+    (s : List ℕ) (count : ℕ) (f : State Drawing → CallOutcome) (room n : ℕ) (e : Edit)
+    → f (record { drawing = I.drawingOf s; count = count }) ≡ applied room n (editOf (e .operation) limits (I.drawingOf s) (e .curve) (e .at))
+    → onImage (I.parse s) count f ≡ applied room n (editImage (e .operation) s (e .curve) (e .at))
+unfolding I.resultOf guard
+on-image s count f room n e g = go (I.imageFault s)
+  where
+    go : (k : ℕ) → onImage (I.resultOf k (I.drawingOf s)) count f ≡ applied room n (guard (eqb k 0) k (editOf (e .operation) limits (I.drawingOf s) (e .curve) (e .at)))
+    go zero = g
+    go (suc k) = rw (above k)
+
+module _ (s : List ℕ) (e : Edit) (b b′ : List ℕ) (x : EditedImage) (w : EditWritten (e .operation) s (e .curve) (e .at) b b′ x) (n : ℕ) (v : CallOutcome) where
+  abbrev made : O.Outcome Drawing Removed
+  made = editImage (e .operation) s (e .curve) (e .at)
+
+  -- a new image, with the number n
+  pub record Updated : Type 0 where
+    pub drawing : Drawing
+    pub outcome : v ≡ updated (record { drawing = drawing; count = n }) (x .removed)
+    pub made-is : made ≡ O.accepted drawing (x .removed)
+    pub buffer-is : b′ ≡ over b 0 (encode drawing)
+    pub size-is : x .size ≡ drawingSize drawing
+    pub sound : (length (encode drawing) ≡ drawingSize drawing) × (I.parse (encode drawing) ≡ I.accepted drawing)
+
+  pub record EditOutcome : Type 0 where
+    pub when-refused : (x .refusal ≡ 0 → ⊥) → (v ≡ refused (x .refusal)) × (b′ ≡ b)
+    pub when-done : x .refusal ≡ 0 → Updated
+
+  by-refusal : (k : ℕ) → made ≡ O.refused k → v ≡ refused k → OutcomeWritten (O.refused k) b b′ x → EditOutcome
+  by-refusal k f g u =
+      record {
+        when-refused = λ z. (g ∙ ap refused (sym (u .refusal)), u .bytes);
+        when-done = λ z. absurd (image-edit-numbered (e .operation) s (e .curve) (e .at) (f ∙ ap O.refused (sym (u .refusal) ∙ z)));
+      }
+
+  by-room :
+      (d : Drawing) (q : Removed) → made ≡ O.accepted d q → (fits : Bool) → v ≡ ite fits (updated (record { drawing = d; count = n }) q) (refused 25)
+      → OutcomeWritten (guard fits 25 (O.accepted d q)) b b′ x → EditOutcome
+  unfolding guard
+  by-room d q f true g u =
+      let sound = w .sound d q f in
+      record {
+        when-refused = λ z. absurd (z (u .refusal));
+        when-done = λ z. record {
+          drawing = d;
+          outcome = g ∙ ap (updated (record { drawing = d; count = n })) (sym (u .removed));
+          made-is = f ∙ ap (O.accepted d) (sym (u .removed));
+          buffer-is = u .bytes;
+          size-is = u .size ∙ sound .0;
+          sound = sound;
+        };
+      }
+  by-room d q f false g u =
+      record {
+        when-refused = λ z. (g ∙ ap refused (sym (u .refusal)), u .bytes);
+        when-done = λ z. let y = u .refusal in absurd (omega arith);
+      }
+
+  pub edit-outcome : v ≡ applied (length b) n made → EditOutcome
+  edit-outcome g = go made refl g (w .written)
+    where
+      go : (o : O.Outcome Drawing Removed) → made ≡ o → v ≡ applied (length b) n o → OutcomeWritten (ifFits (length b) o) b b′ x → EditOutcome
+      go (O.refused k) f g u = by-refusal k f g u
+      go (O.accepted d q) f g u =
+          by-room d q f (leb (length (encode d)) (length b))
+          (g ∙ ap (λ (k : ℕ). ite (leb k (length b)) (updated (record { drawing = d; count = n }) q) (refused 25)) (sym (w .sound d q f .0))) u
+
+  pub edit-unmet : (d : Drawing) → I.parse s ≡ I.accepted d → UnmetPlace e d (x .refusal) (x .place)
+  edit-unmet d q =
+      let (z, same) = result-accepted (I.imageFault s) (I.drawingOf s) d q in
+      subst (λ (d : Drawing). UnmetPlace e d (x .refusal) (x .place)) same (record { before = w .unmet-before; after = w .unmet-after })

@@ -1,0 +1,72 @@
+-- The outcome of a call on lent memory: the image's refusal, then the desk's or the wall's own, then the room for the new image. Definitions only.
+use Prim.Native.Nat.{ℕ}
+use mathlib.Core.Path.{_≡_}
+use mathlib.Core.List.{List}
+use lib.ListN.{length}
+use lib.Dec.{leb}
+use Rattle.big_endian.specs.Fields.{over}
+use Rattle.sketch.specs.Lists.{ite}
+use Rattle.sketch.specs.Drawing.{Drawing}
+use Rattle.image.specs.Image as I
+use Rattle.image.specs.Encode.{encode, drawingSize}
+use Rattle.message.specs.Message as G
+use Rattle.edit_plan.specs.declared.Removed.{Removed}
+use Rattle.edit_plan.specs.Outcome as O
+use Rattle.agreement.specs.Machines as M
+use Rattle.agreement.specs.Machines.{State, Call, callOutcome, WallReply, wallTransition}
+use Rattle.replication.specs.Protocol.{Edit, messageFor, protocol}
+
+-- refused by a number; old, with the state unchanged; or updated to a state, with a report
+pub data CallOutcome : Type 0 where
+  refused : ℕ → CallOutcome
+  old : State Drawing → CallOutcome
+  updated : State Drawing → Removed → CallOutcome
+
+-- 25 where the new state's image does not fit into the buffer
+abbrev pub ifImageFits : ℕ → State Drawing → Removed → CallOutcome
+ifImageFits room s r = ite (leb (drawingSize (s .drawing)) room) (updated s r) (refused 25)
+
+-- a call on the image's drawing and the count that came with it; an image's refusal comes before all else
+abbrev pub onImage : I.ParseResult → ℕ → (State Drawing → CallOutcome) → CallOutcome
+onImage (I.refused k) count f = refused k
+onImage (I.accepted d) count f = f (record { drawing = d; count = count })
+
+-- ---- the desk: the outcome of its call, and then the room
+
+abbrev pub deskOutcome : ℕ → O.Outcome (State Drawing) Removed → CallOutcome
+deskOutcome room (O.refused k) = refused k
+deskOutcome room (O.accepted s r) = ifImageFits room s r
+
+abbrev pub deskOn : ℕ → Call Edit → State Drawing → CallOutcome
+deskOn room call s = deskOutcome room (callOutcome protocol s call)
+
+-- ---- the wall: its reply, and then the room
+
+abbrev pub wallOutcome : ℕ → State Drawing → WallReply Removed → CallOutcome
+wallOutcome room s (M.wallRefused k) = refused k
+wallOutcome room s M.wallOld = old s
+wallOutcome room s (M.wallApplied r) = ifImageFits room s r
+
+-- the message's refusals, old, ahead, and the edit's, as the wall has them
+abbrev pub wallOn : ℕ → List ℕ → State Drawing → CallOutcome
+wallOn room message s = wallOutcome room (wallTransition protocol s (protocol .decode message) .0) (wallTransition protocol s (protocol .decode message) .1)
+
+-- ---- what an outcome leaves
+
+-- the refusal's number, or 0
+abbrev pub numberOf : CallOutcome → ℕ
+numberOf (refused k) = k
+numberOf (old s) = 0
+numberOf (updated s r) = 0
+
+-- a refusal has a number above 0, and a new image is as long as it says and is read as the state's drawing
+abbrev pub OutcomeSound : CallOutcome → Type 0
+OutcomeSound (refused k) = k ≡ 0 → ⊥
+OutcomeSound (old s) = Unit {0}
+OutcomeSound (updated s r) = (length (encode (s .drawing)) ≡ drawingSize (s .drawing)) × (I.parse (encode (s .drawing)) ≡ I.accepted (s .drawing))
+
+-- the message of the edit and its number at the front, the rest as it was
+abbrev pub messageAfter : CallOutcome → Edit → List ℕ → List ℕ
+messageAfter (refused k) e m = m
+messageAfter (old s) e m = m
+messageAfter (updated s r) e m = over m 0 (G.encode (messageFor (s .count) e))
