@@ -27,7 +27,3 @@ unmet-whole e d k place v u =
           let valid = untested-valid d (e .curve) (e .at) d′ removed v (subst (λ (op : _). editUntested op limits d (e .curve) (e .at) ≡ accepted d′ removed) o q) in
           subst (λ (n : ℕ). unmetAt d′ n ≡ true) (whole d′ place valid h) h;
     }
-
--- other numbers come with none
-pub unmet-none : (e : Edit) (d : Drawing) (k place : ℕ) → (k ≡ 13 → ⊥) → (k ≡ 19 → ⊥) → UnmetPlace e d k place
-unmet-none e d k place x y = record { before = λ o z. absurd (x z); after = λ o z. absurd (y z) }

@@ -5,43 +5,25 @@ use mathlib.Core.List.{List}
 use lib.ListN.{length, take, set}
 use lib.Ieee.{Float}
 use Rattle.big_endian.specs.Fields.{over}
+use Rattle.sketch.specs.Lists.{ite}
 use Rattle.sketch.specs.Drawing.{Drawing}
-use Rattle.message.specs.declared.Operation.{Operation}
 use Rattle.image.specs.Image as I
 use Rattle.image.specs.Encode as E
-use Rattle.message.specs.Message as M
-use Rattle.message.specs.Message.{operationOf}
+use Rattle.message.specs.declared.Operation.{Operation}
+use Rattle.message.specs.Message.{operationOf, isOperation}
 use Rattle.edit_plan.specs.declared.Removed.{Removed}
 use Rattle.edit_plan.specs.Steps.{nothing}
 use Rattle.extend.specs.ExtendAnswer.{NoPlace}
-use Rattle.agreement.specs.Machines.{State, message}
-use Rattle.replication.specs.Protocol.{Edit, messageFor, protocol}
+use Rattle.agreement.specs.Machines.{State, Call, message}
+use Rattle.replication.specs.Protocol.{Edit, protocol}
+use Rattle.replication.specs.Outcomes.{CallOutcome, refused, old, updated, onImage, deskOn, wallOn, numberOf, OutcomeSound, messageAfter}
 use Rattle.replication.specs.Transitions.{UnmetPlace}
-use Rattle.mulkefi.specs.Outcomes.{CallOutcome, refused, old, updated, onImage, deskOn, wallOn}
-
--- the refusal's number, or 0
-abbrev pub numberOf : CallOutcome → ℕ
-numberOf (refused k) = k
-numberOf (old s) = 0
-numberOf (updated s r) = 0
 
 -- the new image at the buffer's front, the rest as it was
 abbrev pub bufferAfter : CallOutcome → List ℕ → List ℕ
 bufferAfter (refused k) b = b
 bufferAfter (old s) b = b
 bufferAfter (updated s r) b = over b 0 (E.encode (s .drawing))
-
--- a refusal has a number above 0, and a new image is as long as it says and is read as the state's drawing
-abbrev pub OutcomeSound : CallOutcome → Type 0
-OutcomeSound (refused k) = k ≡ 0 → ⊥
-OutcomeSound (old s) = Unit {0}
-OutcomeSound (updated s r) = (length (E.encode (s .drawing)) ≡ E.drawingSize (s .drawing)) × (I.parse (E.encode (s .drawing)) ≡ I.accepted (s .drawing))
-
--- the message of the edit and its number at the front, the rest as it was
-abbrev pub messageAfter : CallOutcome → Edit → List ℕ → List ℕ
-messageAfter (refused k) e m = m
-messageAfter (old s) e m = m
-messageAfter (updated s r) e m = over m 0 (M.encode (messageFor (s .count) e))
 
 -- a state's count, its image's size, and a report of a curve and its ends
 abbrev pub answerFor : List ℕ → State Drawing → Removed → List ℕ
@@ -71,10 +53,14 @@ mkEdit operation curve x y = record { operation = operation; curve = curve; at =
 abbrev pub mkEditByNumber : ℕ → ℕ → Float → Float → Edit
 mkEditByNumber operation curve x y = mkEdit (operationOf operation) curve x y
 
+-- 6 for an unknown operation, before what the desk refuses
+abbrev pub deskByNumber : ℕ → ℕ → Call Edit → State Drawing → CallOutcome
+deskByNumber room operation call s = ite (isOperation operation) (deskOn room call s) (refused 6)
+
 -- the image is the first `len` bytes of the buffer, all of it where it is shorter; `room` is lent for the message
 abbrev pub deskCallOutcome : List ℕ → ℕ → ℕ → ℕ → Edit → ℕ → CallOutcome
 deskCallOutcome buffer len count operation e room =
-    onImage (I.parse (take len buffer)) count (deskOn (length buffer) operation (record { edit = e; room = room }))
+    onImage (I.parse (take len buffer)) count (deskByNumber (length buffer) operation (record { edit = e; room = room }))
 
 -- the outcome's answer; the message; and the place that comes with 13 or 19
 pub record DeskCallWritten (len count operation : ℕ) (e : Edit) (buffer buffer′ message message′ answer answer′ : List ℕ) (r : ℕ) : Type 0 where

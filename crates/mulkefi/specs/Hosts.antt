@@ -1,5 +1,5 @@
 -- Lists of the calls that a host links, each on the memory that the device's last call left, and the steps that a host sees in them. Definitions only.
-use Prim.Native.Nat.{ℕ, zero, suc, _%_, _≤_}
+use Prim.Native.Nat.{ℕ, zero, suc, _%_}
 use mathlib.Core.Path.{_≡_}
 use mathlib.Core.List.{List, [], _∷_, _++_}
 use lib.ListN.{length, take, getD}
@@ -7,35 +7,18 @@ use lib.Dec.{eqb}
 use lib.Ieee.{Float}
 use Rattle.sketch.specs.Lists.{ite}
 use Rattle.sketch.specs.Drawing.{Drawing}
-use Rattle.image.specs.Image as I
-use Rattle.sketch_image.specs.SketchImage.{drawingIn}
 use Rattle.message.specs.Message.{messageSize, isOperation}
 use Rattle.edit_plan.specs.declared.Removed.{Removed}
 use Rattle.agreement.specs.Machines as M
-use Rattle.agreement.specs.Machines.{State, DeskStep, WallStep}
+use Rattle.agreement.specs.Machines.{DeskStep, WallStep}
 use Rattle.replication.specs.Protocol.{Edit}
+use Rattle.replication.specs.Transitions.{Memory, stateIn}
 use Rattle.mulkefi.specs.Calls.{mkEditByNumber, DeskCallWritten, WallCallWritten}
 
--- what a host keeps for a device: a buffer, the size of the image at its front, the count of edits
-pub record Memory : Type 0 where
-  pub buffer : List ℕ
-  pub size : ℕ
-  pub count : ℕ
-
--- the state that a host sees in it
-abbrev pub stateIn : Memory → State Drawing
-stateIn m = record { drawing = drawingIn (I.parse (take (m .size) (m .buffer))); count = m .count }
-
--- a device's start: the image at the front of a buffer that has room for any image, at count 0
-pub record StartsWith (image : List ℕ) (m : Memory) : Type 0 where
-  pub image-is : take (m .size) (m .buffer) ≡ image
-  pub room : I.maxImageSize ≤ length (m .buffer)
-  pub zero-count : m .count ≡ 0
-
 -- the memory as a call leaves it: a host takes over the size and count of an answer 0, and keeps them after any other
-abbrev pub memoryAfter : Memory → List ℕ → List ℕ → ℕ → Memory
-memoryAfter m buffer answer zero = record { buffer = buffer; size = getD answer 1 0; count = getD answer 0 0 }
-memoryAfter m buffer answer (suc r) = record { buffer = buffer; size = m .size; count = m .count }
+abbrev pub afterCall : Memory → List ℕ → List ℕ → ℕ → Memory
+afterCall m buffer answer zero = record { buffer = buffer; size = getD answer 1 0; count = getD answer 0 0 }
+afterCall m buffer answer (suc r) = record { buffer = buffer; size = m .size; count = m .count }
 
 -- the report in an answer
 abbrev pub reportIn : List ℕ → Removed
@@ -60,7 +43,7 @@ abbrev pub editOfUse : DeskUse → Edit
 editOfUse u = mkEditByNumber (u .operation) (u .curve) (u .x) (u .y)
 
 abbrev pub afterDesk : Memory → DeskUse → Memory
-afterDesk m u = memoryAfter m (u .buffer) (u .answer) (u .result)
+afterDesk m u = afterCall m (u .buffer) (u .answer) (u .result)
 
 -- the reply that a host sees: a refusal's number in the low 16 bits, or the report and the message
 abbrev pub deskReplyIn : DeskUse → M.DeskReply Removed
@@ -91,7 +74,7 @@ pub record WallUse : Type 0 where
   pub result : ℕ
 
 abbrev pub afterWall : Memory → WallUse → Memory
-afterWall m u = memoryAfter m (u .buffer) (u .answer) (u .result)
+afterWall m u = afterCall m (u .buffer) (u .answer) (u .result)
 
 -- a call that answers 0 and the count as it was had an old message
 abbrev pub wallReplyIn : Memory → WallUse → M.WallReply Removed

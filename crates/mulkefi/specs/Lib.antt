@@ -1,4 +1,3 @@
-pub mod Outcomes
 pub mod Calls
 pub mod Polynomials
 pub mod Hosts

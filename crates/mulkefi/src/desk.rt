@@ -1,14 +1,13 @@
 // The desk on lent memory: a person's edit of an image, and the message of it.
 use crate::AnswerField;
-use crate::buffers::first_fault;
-use crate::buffers::min;
-use crate::buffers::write_result;
-use geom::Vec2;
-use image::MAX_IMAGE_SIZE;
+use crate::buffers::refusal;
+use crate::buffers::write_answer;
 use message::EditNumber;
-use message::MAX_EDIT_NUMBER;
-use message::MESSAGE_SIZE;
-use message::Message;
+use replication::DeskReply;
+use replication::Replica;
+use replication::desk_edit;
+use replication::first_fault;
+use rows::front;
 use sketch::Id;
 ghost use Rattle.mulkefi.specs.Calls.{mkEditByNumber, DeskCallWritten};
 
@@ -29,30 +28,16 @@ pub extern "C" fn mulkefi_desk_edit(
 ) -> u32
     ensures { λ r. ⌜ DeskCallWritten len count operation (mkEditByNumber operation curve x y) (now (buffer .entry)) (now (buffer .exit)) (now (message .entry)) (now (message .exit)) (now (answer .entry)) (now (answer .exit)) r ⌝ }
 {
-    let size = min(len, buffer.len());
     if !message::is_operation(operation) {
-        return first_fault(&buffer[..size], 6);
+        return first_fault(front(&buffer[..], len), 6) as u32;
     }
-    if message.len() < MESSAGE_SIZE {
-        return first_fault(&buffer[..size], 25);
-    }
-    if MAX_EDIT_NUMBER <= count {
-        return first_fault(&buffer[..size], 23);
-    }
+    let replica = Replica { size: len, count };
     let operation = message::operation_of(operation);
-    let mut out = [0u8; MAX_IMAGE_SIZE];
-    let edited = modify::edit_image(operation, &buffer[..size], curve, Vec2 { x, y }, &mut out);
-    let result = write_result(edited, count + 1, &out, buffer, answer);
-    if result != 0 {
-        return result;
+    let edited = desk_edit(replica, buffer, operation, curve, x, y, message);
+    let after = edited.replica;
+    let reply = edited.reply;
+    match reply {
+        DeskReply::Refused(number, place) => refusal(number, place),
+        DeskReply::Accepted(removed) => write_answer(after, removed, answer),
     }
-    let sent = Message {
-        number: count + 1,
-        operation,
-        curve,
-        x: f64::to_bits(x),
-        y: f64::to_bits(y),
-    };
-    message::write_message(sent, message);
-    0
 }
