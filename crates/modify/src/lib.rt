@@ -1,6 +1,5 @@
-// Trim, split and extend of a sketch: the tests, the plan, and applying it.
+// Trim, split and extend, of an image and of a sketch by value: the tests, the plan, and applying it.
 mod edits;
-mod find_target;
 mod image_edits;
 
 pub use edits::edit;
@@ -8,9 +7,3 @@ pub use edits::extend;
 pub use edits::split;
 pub use edits::trim;
 pub use image_edits::edit_image;
-
-// The place of the curve that was picked, or the number of a refusal.
-struct Target {
-    refusal: u8,
-    place: usize,
-}
