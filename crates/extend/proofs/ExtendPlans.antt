@@ -40,7 +40,7 @@ use Rattle.hit_search.specs.declared.SearchResult.the-variants as R
 use Rattle.planning.specs.Planning.{guardPlan, pinTo}
 use Rattle.hit_search.specs.NearestHit.{Support, Search, finished, nearestHit}
 use Rattle.extend.specs.Extend.{planMove, isFixed, extendEnd, extendCurve}
-use Rattle.hit_search.specs.Columns.{support, bestIn, searchIn}
+use Rattle.hit_search.specs.Values.{support, bestIn, searchIn}
 
 -- ---- the place that the end moves to
 

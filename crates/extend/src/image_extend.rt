@@ -22,7 +22,7 @@ ghost use mathlib.Core.Bool.{cond};
 ghost use Rattle.sketch.specs.Lookup.{among};
 ghost use Rattle.edit_plan.specs.Tables.{uses, others};
 ghost use Rattle.rows.specs.Rows.{curvesIn};
-ghost use Rattle.hit_search.specs.Columns.{support};
+ghost use Rattle.hit_search.specs.Values.{support};
 ghost use Rattle.extend.specs.ImageExtendContracts.{PlansMoveIn, PlansEndIn, PlansExtendIn};
 
 // Whether a curve of the table, but for the one with an id, uses the point p.

@@ -1,9 +1,9 @@
 use Rattle.hit_search.proofs.CurveHits.{bound-endless, bound-line, bound-round}
 use borrow.Author.Needs.{needs}
-use Rattle.hit_search.proofs.curve_hits.boundary.Statement.{statement}
-use Rattle.hit_search.proofs.curve_hits.boundary.Tie as tie
-use Rattle.hit_search.proofs.curve_hits.boundary.Reads as reads
-use Rattle.hit_search.proofs.curve_hits.boundary.Lts as lts
+use Rattle.hit_search.proofs.boundaries.boundary.Statement.{statement}
+use Rattle.hit_search.proofs.boundaries.boundary.Tie as tie
+use Rattle.hit_search.proofs.boundaries.boundary.Reads as reads
+use Rattle.hit_search.proofs.boundaries.boundary.Lts as lts
 use Rattle.support.proofs.endless.Reads as endless-reads
 
 enum-known-sh : tie.Need-enum-known-sh
