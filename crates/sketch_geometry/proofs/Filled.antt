@@ -2,20 +2,17 @@
 use mathlib.Core.Path.{_≡_, refl}
 use mathlib.Core.Bool.{Bool, true, false}
 use mathlib.Core.List.{List}
-use Prim.Native.Nat.{ℕ, _+_, _≤_, _<_, min}
+use Prim.Native.Nat.{ℕ, _+_, _≤_, _<_}
 use native.Mathlib.Omega.{arith}
-use lib.ListN.{length, take, getD, set, length-set, length-take}
-use lib.Seq.{getD-set-same, getD-set-other, getD-take}
+use lib.ListN.{length, getD, set, length-set}
+use lib.Seq.{getD-set-same, getD-set-other}
 use lib.Dec.{eqb}
 use lib.Ieee.{Float, nan}
 use borrow.Author.Tests.{eqb-true, eqb-false}
-use Rattle.geom.specs.Plane.{vec}
-use Rattle.sketch.specs.Lookup.{Ascends}
-use Rattle.sketch.specs.Drawing.{pointIds}
 use Rattle.sketch.specs.Blanks.{noPoint}
 use Rattle.sketch.specs.declared.Point.{Point}
 use Rattle.sketch.proofs.Walks.{column-on}
-use Rattle.sketch_geometry.specs.Columns.{position, PointColumns, PointsFilled}
+use Rattle.sketch_geometry.specs.Columns.{PointsFilled}
 
 -- ---- a turn
 
@@ -49,22 +46,3 @@ module _ {points : List Point} {i : ℕ} {ids₀ ids : List ℕ} {xs₀ ys₀ xs
 
 pub points-done : {points : List Point} {i n : ℕ} {ids₀ ids : List ℕ} {xs₀ ys₀ xs ys : List Float} → PointsFilled points i ids₀ xs₀ ys₀ ids xs ys → i ≤ n → n ≤ i → PointsFilled points n ids₀ xs₀ ys₀ ids xs ys
 points-done {i = i} {n = n} w h k = let z : n ≡ i = omega arith in rw z w
-
--- ---- the columns in the end
-
-module _ {points : List Point} {n : ℕ} {ids₀ ids : List ℕ} {xs₀ ys₀ xs ys : List Float} (w : PointsFilled points n ids₀ xs₀ ys₀ ids xs ys)
-    (a : n ≤ length ids) (b : n ≤ length xs) (c : n ≤ length ys) where
-  pub point-columns : Ascends (pointIds (take n points)) → PointColumns (take n points) (take n ids) (take n xs) (take n ys)
-  point-columns h =
-      record {
-        ids-are = w .ids-are;
-        rise = rw (w .ids-are) h;
-        xs-long = rw (length-take, length-take) (omega arith);
-        ys-long = rw (length-take, length-take) (omega arith);
-        each = λ k q. each k (rw length-take at q);
-      }
-    where
-      each : (k : ℕ) → k < min n (length points) → position (take n xs) (take n ys) k ≡ vec (getD (take n points) k noPoint .x) (getD (take n points) k noPoint .y)
-      each k q =
-          let u : k < n = omega arith in
-          rw (getD-take n xs k nan u, getD-take n ys k nan u, getD-take n points k noPoint u, w .each-x k u, w .each-y k u)
