@@ -1,5 +1,5 @@
 use mathlib.Core.Path.{sym, ap, _∙_}
-use Rattle.sketch_geometry.specs.Columns.{shapeOfOutline}
+use Rattle.sketch_geometry.specs.Positions.{shapeOfOutline}
 use Rattle.hit_search.specs.Values.{support}
 use Rattle.hit_search.proofs.CurveHits.{with-room, met-fits, met-as, outlined-is, meets-along, meets-bezier, meets-conic}
 use native.Mathlib.Omega.{arith}
