@@ -64,9 +64,6 @@ no-circle (Conic a p b rho) h = refl
 -- ---- which piece goes
 
 module _ (sh : Shape) (tq : Float) where
-  before : Cut → Bool
-  before k = lt (k .t) tq
-
   pub one-full : (k : Cut) → isFull sh ≡ true → false ≡ firstGoes sh tq (k ∷ [])
   unfolding firstGoes between
   one-full k f = sym (rw f)

@@ -1,7 +1,7 @@
 -- `edit_plan::extent_of` meets its contract.
 use borrow.Author.Needs.{needs}
-use Rattle.edit_plan.proofs.apply.extent_of.Statement.{statement}
-use Rattle.edit_plan.proofs.apply.extent_of.Tie as tie
+use Rattle.edit_plan.proofs.extents.extent_of.Statement.{statement}
+use Rattle.edit_plan.proofs.extents.extent_of.Tie as tie
 
 is-line-requires : tie.Need-is-line-requires
 is-line-requires c κs = search needs

@@ -3,8 +3,8 @@ use mathlib.Core.Path.{sym, ap}
 use borrow.Author.Needs.{needs}
 use Rattle.edit_plan.specs.Changes.{isWhole}
 use Rattle.edit_plan.proofs.Arms.{not-whole}
-use Rattle.edit_plan.proofs.apply.is_whole.Statement.{statement}
-use Rattle.edit_plan.proofs.apply.is_whole.Tie as tie
+use Rattle.edit_plan.proofs.extents.is_whole.Statement.{statement}
+use Rattle.edit_plan.proofs.extents.is_whole.Tie as tie
 
 enum-told : tie.Need-enum-told
 enum-told c = search needs

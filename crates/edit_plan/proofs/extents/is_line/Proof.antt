@@ -1,8 +1,8 @@
 -- `edit_plan::is_line` meets its contract.
 use borrow.Author.Needs.{needs}
 use Rattle.edit_plan.proofs.Arms.{no-line}
-use Rattle.edit_plan.proofs.apply.is_line.Statement.{statement}
-use Rattle.edit_plan.proofs.apply.is_line.Tie as tie
+use Rattle.edit_plan.proofs.extents.is_line.Statement.{statement}
+use Rattle.edit_plan.proofs.extents.is_line.Tie as tie
 
 enum-told : tie.Need-enum-told
 enum-told c = search needs
