@@ -1,22 +1,22 @@
 -- What is answered for a sketch, from what the edit of its image answered: a law for each way out of the code. Assumes nothing.
 use mathlib.Core.Path.{_≡_, refl, sym, ap, _∙_, subst}
-use mathlib.Core.Bool.{Bool, true}
+use mathlib.Core.Bool.{true}
 use mathlib.Core.List.{List}
 use Prim.Native.Nat.{ℕ, _≤_}
 use native.Mathlib.Omega.{arith}
 use lib.ListN.{length, take}
 use lib.Seq.{take-at}
-use borrow.Author.Tests.{le-leb, ne-eqb}
+use borrow.Author.Tests.{ne-eqb}
 use Rattle.big_endian.specs.Fields.{over}
 use Rattle.geom.specs.declared.Vec2.{Vec2}
 use Rattle.sketch.specs.declared.Sketch.{Sketch}
 use Rattle.sketch.specs.Lists.{ite}
 use Rattle.sketch.specs.Drawing.{Drawing, view, limits}
+use Rattle.sketch.specs.Facts.{Valid}
 use Rattle.sketch.specs.Valid.{sketchFault}
 use Rattle.sketch.proofs.Sketches.{sketch-valid}
 use Rattle.image.specs.Image as I
 use Rattle.image.specs.Encode.{encode}
-use Rattle.image.proofs.Sizes.{image-size}
 use Rattle.image.proofs.RoundTrips.{result-accepted}
 use Rattle.sketch_image.specs.declared.ImageRead.{ImageRead}
 use Rattle.sketch_image.specs.SketchImage.{writeFault, ReadAnswer}
@@ -31,12 +31,12 @@ use Rattle.edit_plan.specs.Steps.{nothing}
 use Rattle.edit_plan.specs.Suited.{outcomeOf, reportOf}
 use Rattle.extend.specs.declared.EditedImage.{EditedImage}
 use Rattle.extend.specs.ExtendAnswer.{NoPlace}
-use Rattle.extend.specs.ImageExtend.{ifFits, OutcomeWritten}
+use Rattle.extend.specs.ImageExtend.{OutcomeWritten}
 use Rattle.modify.specs.Edits.{editOf, editUntested, editSketch, EditAnswer}
 use Rattle.modify.specs.ImageEdits.{editImage, EditWritten}
 use Rattle.modify.proofs.ImageFaults.{sketch-fault-low}
 use Rattle.modify.proofs.Numbered.{edit-numbered}
-use Rattle.modify.proofs.Planned.{edit-valid}
+use Rattle.modify.proofs.WholeOutcomes.{good-edit, whole-outcome, size-fits}
 
 module _ (op : Operation) (s : Sketch) (t : ℕ) (p : Vec2) where
   -- an outcome that is refused, with what is answered of places
@@ -70,29 +70,23 @@ module _ (op : Operation) (s : Sketch) (t : ℕ) (p : Vec2) where
     unfolding guard
     sketch-is = rw v
 
-    image-is : editImage op image t p ≡ editOf op limits (view s) t p
-    unfolding guard
-    image-is = rw (read .0) (ap (λ (d : Drawing). editOf op limits d t p) (read .1))
+    valid : Valid limits (I.drawingOf image)
+    valid = subst (Valid limits) (sym (read .1)) (sketch-valid s v .1)
 
     module _ {before after : List ℕ} {x : EditedImage} (w : EditWritten op image t p before after x) (long : length before ≡ I.maxImageSize) where
-      -- a new image always fits
-      fits : (d : Drawing) (q : Removed) → editOf op limits (view s) t p ≡ accepted d q → length (encode d) ≤ length before
-      fits d q o = omega (arith, w .sound d q (image-is ∙ o) .0, image-size d (edit-valid op limits (view s) t p d q (sketch-valid s v .1) o), long)
+      room : I.maxImageSize ≤ length before
+      room = omega (arith, long)
+
+      image-is : editImage op image t p ≡ editOf op limits (view s) t p
+      image-is = good-edit op image t p w (read .0) valid room ∙ ap (λ (d : Drawing). editOf op limits d t p) (read .1)
 
       written : (o : Outcome Drawing Removed) → editOf op limits (view s) t p ≡ o → OutcomeWritten o before after x
-      unfolding guard
-      written o e = go o e (subst (λ (y : Outcome Drawing Removed). OutcomeWritten (ifFits (length before) y) before after x) (image-is ∙ e) (w .written))
-        where
-          go : (o : Outcome Drawing Removed) → editOf op limits (view s) t p ≡ o → OutcomeWritten (ifFits (length before) o) before after x → OutcomeWritten o before after x
-          go (refused n) e u = u
-          go (accepted d q) e u = subst (λ (b : Bool). OutcomeWritten (guard b 25 (accepted d q)) before after x) (le-leb (length (encode d)) (length before) (fits d q e)) u
+      written o e =
+          subst (λ (y : Outcome Drawing Removed). OutcomeWritten y before after x) (ap (λ (d : Drawing). editOf op limits d t p) (read .1) ∙ e)
+          (whole-outcome op image t p w (read .0) valid room)
 
-      pub size-fits : x .size ≤ length before
-      size-fits = go (editOf op limits (view s) t p) refl
-        where
-          go : (o : Outcome Drawing Removed) → editOf op limits (view s) t p ≡ o → x .size ≤ length before
-          go (refused n) e = omega (arith, written (refused n) e .size)
-          go (accepted d q) e = omega (arith, written (accepted d q) e .size, fits d q e)
+      pub answer-fits : x .size ≤ length before
+      answer-fits = size-fits op image t p w (read .0) valid room
 
       pub image-refused : {r : Edited} → (x .refusal ≡ 0 → ⊥) → r .sketch ≡ s → r .refusal ≡ x .refusal → r .place ≡ x .place → r .removed ≡ nothing → EditAnswer op s t p r
       image-refused {r} z kept same place none = go (editOf op limits (view s) t p) refl

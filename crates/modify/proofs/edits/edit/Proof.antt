@@ -13,7 +13,7 @@ use Rattle.image.specs.Encode.{drawingSize}
 use Rattle.image.specs.Stored.{Stored}
 use Rattle.sketch_image.proofs.Typed.{sketch-stored, sketch-size}
 use Rattle.sketch_image.proofs.ReadBack.{valid, front-long, front-read}
-use Rattle.modify.proofs.Answers.{unwritten, size-fits, image-refused, image-accepted}
+use Rattle.modify.proofs.Answers.{unwritten, answer-fits, image-refused, image-accepted}
 use Rattle.modify.proofs.edits.edit.Statement.{statement}
 use Rattle.modify.proofs.edits.edit.Tie as tie
 
@@ -43,7 +43,7 @@ abbrev sized : tie.After-edit-image → tie.After-image-size
 sized c = c .before .before .before
 
 fits : (c : tie.After-edit-image) → c .edit-image .result .size ≤ length (c .edit-image .last .1 .1 .1 .1 .0)
-fits c = let u = size-fits _ (held (sized c .before)) _ _ (ok (sized c .before)) _ (again (sized c)) (c .edit-image .ensures) (search needs) in search needs
+fits c = let u = answer-fits _ (held (sized c .before)) _ _ (ok (sized c .before)) _ (again (sized c)) (c .edit-image .ensures) (search needs) in search needs
 
 slice-aggregate-write : tie.Need-slice-aggregate-write
 slice-aggregate-write c = search needs
