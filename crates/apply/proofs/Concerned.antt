@@ -25,7 +25,7 @@ use Rattle.edit_plan.specs.Tables.{curvesOf}
 use Rattle.edit_plan.specs.Steps.{isSome, dropIf, releaseRelation}
 use Rattle.edit_plan.specs.Changes.{chord, staying, leftBy, leftOf}
 use Rattle.edit_plan.proofs.Every.{length-keep}
-use Rattle.edit_plan.proofs.Stores.{released-one}
+use Rattle.edit_plan.proofs.Amounts.{released-one}
 use Rattle.apply.specs.Contracts.{concerned, leftRow, leftRows}
 
 and-false : (b : Bool) → (b && false) ≡ false

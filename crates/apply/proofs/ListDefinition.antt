@@ -42,8 +42,7 @@ use Rattle.edit_plan.specs.Room.{roomFor, leftOver}
 use Rattle.edit_plan.proofs.Bridge.{unlessRefused, unless-refused-none}
 use Rattle.edit_plan.proofs.Finals.{same}
 use Rattle.edit_plan.proofs.Loops.{look-at, recut-is-map}
-use Rattle.edit_plan.proofs.Pushes.{pushes}
-use Rattle.edit_plan.proofs.AtOnce.{open-cut, finalOf, orphansOf, roomNumber, start-old, end-old}
+use Rattle.edit_plan.proofs.AtOnce.{kept-recut, open-cut, finalOf, orphansOf, roomNumber, start-old, end-old}
 use Rattle.edit_plan.proofs.Plans.{restOf, whole-bridge, cuts-bridge, no-move}
 use Rattle.apply.specs.declared.Applied.{Applied}
 use Rattle.apply.specs.Applied.{targetIn, planExtent, planOrphans, planChange, planRefusal, changedBy, withoutCurve, drawingAfter, removedBy, Answered, PlanWritten}
@@ -130,7 +129,7 @@ module _ {d : Drawing} (v : Valid limits d) (k : ℕ) (below : k < length (d .cu
         let os = orphansOf d c plan in
         same _ _ _ _ _ _ _ _ refl
         (keep-append (λ (p : Point). staying os (p .id)) (d .points) (pointsNew h) ∙ ap (λ (x : List Point). keep (λ (p : Point). staying os (p .id)) (d .points) ++ x) (new-points plan (length (d .curves)) su w))
-        (ap (λ (x : List Curve). x ++ curvesNew h) (set-is (h .kept .kind) ∙ ap (set (d .curves) k) (sym (pushes c k (length (d .curves)) plan (d .next) .kept)))) refl
+        (ap (λ (x : List Curve). x ++ curvesNew h) (set-is (h .kept .kind) ∙ ap (set (d .curves) k) (sym (kept-recut c k (length (d .curves)) plan (d .next))))) refl
 
     rest-is : restOf d c e (orphansOf d c plan) ≡ withoutCurve d k e (planOrphans d k plan)
     rest-is = same _ _ _ _ _ _ _ _ refl refl (others-at (d .next) 0 (d .curves) k (v .curves-rise) below) refl

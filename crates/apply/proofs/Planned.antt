@@ -28,7 +28,7 @@ use Rattle.edit_plan.specs.Suited.{suits}
 use Rattle.edit_plan.specs.Changes.{isCircle, isWhole, changeFor, cutOnce, cutMiddle, halfCircles, pinRelation, extentOf, orphanList, candidatesFor, unusedBy, pointsNew, curvesNew, relationsNew, wholeGone}
 use Rattle.edit_plan.specs.Room.{mkAdditions, additionsFor, roomWith, roomWithLeft, roomFor, leftOver, takes}
 use Rattle.edit_plan.proofs.AtOnce.{left-all, freed-is}
-use Rattle.edit_plan.proofs.Stores.{small}
+use Rattle.edit_plan.proofs.Amounts.{small}
 use Rattle.apply.specs.declared.Applied.{Applied}
 use Rattle.apply.specs.Applied.{targetIn, planExtent, planOrphans, planChange, planRefusal, removedBy, Answered}
 use Rattle.apply.specs.Contracts.{drawingRead, leftRows, stayingRows, curvesWithout, pointsAfter, curvesAfter, relationsAfter, rowsImage, imageAfter, EightSlots, CountsWithin, TablesWithin, refusedBy, RowsApplied}

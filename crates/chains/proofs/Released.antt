@@ -19,7 +19,7 @@ use Rattle.sketch.specs.Facts.{Every, Valid}
 use Rattle.sketch.proofs.Bools.{and-left, and-right, both}
 use Rattle.edit_plan.specs.Steps.{lineEnds, isSome, dropIf, measured, releaseRelation, releaseExtent}
 use Rattle.edit_plan.proofs.Every.{every-concat-map, every-at, length-concat-map, member-look}
-use Rattle.edit_plan.proofs.Stores.{released-one}
+use Rattle.edit_plan.proofs.Amounts.{released-one}
 use Rattle.chains.proofs.Grown.{has, sortOn, soundKind, Grown}
 
 drop-every : (f : Relation → Bool) (b : Bool) (r : Relation) → f r ≡ true → Every f (dropIf b r)

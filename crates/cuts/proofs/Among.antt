@@ -16,7 +16,7 @@ use Rattle.shape.specs.Intersections.{points, crossings}
 use Rattle.cuts.specs.declared.Cut.{Cut}
 use Rattle.cuts.specs.declared.Cutter.{Cutter}
 use Rattle.cuts.specs.Columns.{crossingAt}
-use Rattle.cuts.specs.Cuts.{cutStep, cutsOn, cutsBy, cutsAmong, cutPoints, endPoints}
+use Rattle.cuts.specs.Cuts.{cutStep, cutsOn, cutsBy, cutsAmong, endPoints}
 
 -- ---- one other curve
 on-append : (sh : Shape) (o : Cutter) (found : List Cut) (ps qs : List Vec2) → cutsOn sh o found (ps ++ qs) ≡ cutsOn sh o (cutsOn sh o found ps) qs
@@ -86,23 +86,3 @@ pub among-append : (sh : Shape) (os ps : List Cutter) (found : List Cut) → cut
 unfolding cutsAmong
 among-append sh [] ps found = refl
 among-append sh (o ∷ os) ps found = among-append sh os ps (cutsBy sh o found)
-
-module _ (sh : Shape) (os : List Cutter) where
-  pub all-start : [] ≡ cutPoints sh (take 0 os)
-  unfolding cutsAmong
-  all-start = refl
-
-  pub all-step : (d : Cutter) (i : ℕ) (now after : List Cut) → i < length os → now ≡ cutPoints sh (take i os) → after ≡ cutsBy sh (getD os i d) now → after ≡ cutPoints sh (take (i + 1) os)
-  unfolding cutsAmong
-  all-step d i now after h e f = f ∙ rw (e, add-one, take-suc os i d h) (sym (among-append sh (take i os) (getD os i d ∷ []) []))
-
-  -- n others are done, or all
-  pub all-asked : (n i : ℕ) (now : List Cut) → i ≤ n → n ≤ i → now ≡ cutPoints sh (take i os) → now ≡ cutPoints sh (take n os)
-  all-asked n i now h k e =
-      let g : i ≡ n = omega arith in
-      rw (← g) e
-
-  pub all-there : (n i : ℕ) (now : List Cut) → length os ≤ i → i ≤ n → now ≡ cutPoints sh (take i os) → now ≡ cutPoints sh (take n os)
-  all-there n i now h k e =
-      let u : length os ≤ n = omega arith in
-      e ∙ rw (take-all i os h, take-all n os u)

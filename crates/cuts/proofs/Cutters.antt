@@ -17,8 +17,7 @@ use Rattle.sketch.specs.declared.Curve.{Curve}
 use Rattle.sketch.specs.Lists.{ite}
 use Rattle.sketch.specs.Blanks.{noCurve}
 use Rattle.sketch_geometry.specs.Geometry.{shapeOf}
-use Rattle.sketch_geometry.specs.Columns.{shapeOfOutline}
-use Rattle.sketch_geometry.specs.Positions.{ShapeFrom}
+use Rattle.sketch_geometry.specs.Positions.{shapeOfOutline, ShapeFrom}
 use Rattle.sketch_geometry.specs.declared.Outline.{Outline}
 use Rattle.sketch_geometry.specs.declared.Outline.the-variants.{Freeform, Analytic}
 use Rattle.edit_plan.specs.Tables.{others}

@@ -1,19 +1,16 @@
 // The cuts on both sides of a place on a curve.
 ghost use mathlib.Core.Path.{_≡_};
 ghost use mathlib.Core.Bool.{true, false};
-ghost use Prim.Native.Nat.{ℕ, _≤_, _<_};
-ghost use lib.ListN.{length, take};
+ghost use Prim.Native.Nat.{_≤_, _<_};
+ghost use lib.ListN.{length};
 ghost use Rattle.shape.specs.Measures.{isFull};
-ghost use Rattle.cuts.specs.Cuts.{cutPoints};
 ghost use Rattle.cuts.specs.Columns.{Room, cutAt, cutsIn};
 ghost use Rattle.cuts.specs.Nearest as N;
 ghost use Rattle.cuts.specs.Bracket as B;
 ghost use Rattle.cuts.specs.Bracket.{neighbours, inOrder};
 use crate::Cut;
-use crate::Cutter;
 use crate::Neighbours;
 use crate::Side;
-use crate::gather::cut_points;
 use crate::nearest::nearest;
 use geom::Vec2;
 use shape::Shape;
@@ -101,20 +98,4 @@ pub(crate) fn around<'a>(
         return Neighbours::Two(ahead, behind);
     }
     Neighbours::Two(behind, ahead)
-}
-
-// Of the first n others, the cuts on both sides of tq: before and after it, or on a full curve behind and ahead, in order. A full curve
-// under two cuts has none.
-pub fn bracket(sh: Shape, tq: f64, others: [Cutter; 128], n: usize) -> Neighbours
-    ensures { λ r. ⌜ neighbours r ≡ B.bracket sh tq (cutPoints sh (take n others)) ⌝ }
-{
-    let mut ts = [0.0; 512];
-    let mut px = [0.0; 512];
-    let mut py = [0.0; 512];
-    let mut who: [Id; 512] = [0; 512];
-    let found = cut_points(sh, others, n, &mut ts, &mut px, &mut py, &mut who);
-    if sh.is_full() {
-        return around(sh, tq, found, &ts, &px, &py, &who);
-    }
-    beside(sh, tq, found, &ts, &px, &py, &who)
 }

@@ -2,17 +2,16 @@
 ghost use mathlib.Core.Path.{_≡_};
 ghost use Prim.Native.Nat.{_+_, _≤_, _<_};
 ghost use mathlib.Core.List.{_++_};
-ghost use lib.ListN.{length, take, getD};
+ghost use lib.ListN.{length, getD};
 ghost use Rattle.geom.specs.Plane.{origin};
 ghost use Rattle.shape.specs.Intersections.{points, directionOf};
 ghost use Rattle.cuts.specs.Bounded as B;
 ghost use Rattle.cuts.specs.Cuts as C;
-ghost use Rattle.cuts.specs.Cuts.{cutStep, cutsBy, cutPoints};
+ghost use Rattle.cuts.specs.Cuts.{cutStep, cutsBy};
 ghost use Rattle.cuts.specs.Columns.{Room, Places, cutsIn, placesIn, foundAmong, crossingAt};
 use crate::Cutter;
 use crate::bounded::lies_on;
 use crate::bounded::on_bounded;
-use crate::bounded::slack;
 use geom::Direction;
 use geom::Vec2;
 use shape::Crossings;
@@ -165,33 +164,4 @@ pub(crate) fn cuts_by<'a>(
         k += 1;
     }
     m
-}
-
-// The cuts of the first n others, in their order: at most four of each.
-pub(crate) fn cut_points<'a>(
-    sh: Shape,
-    others: [Cutter; 128],
-    n: usize,
-    ts: &'a mut [f64],
-    px: &'a mut [f64],
-    py: &'a mut [f64],
-    who: &'a mut [Id],
-) -> usize
-    requires { ⌜ Room 512 (now ts) (now px) (now py) (now who) ⌝ }
-    ensures { λ r. ⌜ cutsIn r (now (ts .exit)) (now (px .exit)) (now (py .exit)) (now (who .exit)) ≡ cutPoints sh (take n others) ⌝ }
-    ensures { λ r. ⌜ r ≤ 512 ⌝ }
-{
-    let slack = slack(sh);
-    let d = shape::direction_of(sh);
-    let mut found: usize = 0;
-    let mut i: usize = 0;
-    while i < 128 {
-        if i >= n {
-            return found;
-        }
-        let o = others[i];
-        found = cuts_by(sh, d, slack, o, found, ts, px, py, who);
-        i += 1;
-    }
-    found
 }

@@ -9,8 +9,6 @@ mod gather;
 pub mod image_cuts;
 mod nearest;
 
-pub use brackets::bracket;
-
 // A line or round that may cut: its id, whether it is an infinite line, and its shape.
 pub struct Cutter {
     pub id: Id,

@@ -15,17 +15,15 @@ use Rattle.sketch.specs.declared.CurveKind.{CurveKind}
 use Rattle.sketch.specs.declared.CurveKind.the-variants.{Line, Arc, Circle, Bezier, Conic}
 use Rattle.sketch.specs.declared.Relation.{Relation}
 use Rattle.sketch.specs.declared.Relation.the-variants.{Coincident, PointOnCurve, Collinear, Equal, Length, Distance, Midpoint, ArcLength, ArcSweep}
-use Rattle.sketch.specs.declared.Sketch.{Sketch}
 use Rattle.sketch.specs.Lists.{every}
 use Rattle.sketch.specs.Lookup.{among}
 use Rattle.sketch.specs.Drawing.{pointsOf}
 use Rattle.edit_plan.specs.declared.Plan.{Plan}
 use Rattle.edit_plan.specs.declared.Plan.the-variants.{Whole, Cut, CutTwo, Divide, DivideTwo, Move}
-use Rattle.edit_plan.specs.declared.Extent.{Extent}
 use Rattle.edit_plan.specs.Tables.{curvesOf}
 use Rattle.edit_plan.specs.Steps.{isLine, releaseRelation, tieRelation}
 use Rattle.edit_plan.specs.Changes.{isCircle, isWhole, startOf, endOf, pieceOf, noOrphans, ownPoints, candidatesFor, noHalves, divideOnce, changeFor}
-use Rattle.edit_plan.specs.Room.{mkAdditions, additionsFor, roomOf, refusalFor}
+use Rattle.edit_plan.specs.Room.{mkAdditions, additionsFor}
 
 -- ---- kinds
 
@@ -106,9 +104,6 @@ noneGoes = 2 ∷ 3 ∷ 4 ∷ 5 ∷ []
 abbrev noneCut : List ℕ
 noneCut = 0 ∷ 5 ∷ []
 
-abbrev isCut : List ℕ
-isCut = 1 ∷ 2 ∷ 3 ∷ 4 ∷ []
-
 pub not-whole : (p : Plan) → OneOf notWhole (tagOf plan-type p) → false ≡ isWhole p
 unfolding isWhole
 not-whole Whole h = absurd (miss notWhole 0 tt h)
@@ -144,15 +139,6 @@ no-change c k n (CutTwo w v b) i h = absurd (miss noneCut 2 tt h)
 no-change c k n (Divide v) i h = absurd (miss noneCut 3 tt h)
 no-change c k n (DivideTwo v u) i h = absurd (miss noneCut 4 tt h)
 no-change c k n (Move b v w) i h = refl
-
-pub room-decides : (s : Sketch) (k : CurveKind) (e : Extent) (p : Plan) → OneOf isCut (tagOf plan-type p) → roomOf s e (additionsFor k p) ≡ refusalFor s k e p
-unfolding refusalFor
-room-decides s k e Whole h = absurd (miss isCut 0 tt h)
-room-decides s k e (Cut w b) h = refl
-room-decides s k e (CutTwo w v b) h = refl
-room-decides s k e (Divide v) h = refl
-room-decides s k e (DivideTwo v u) h = refl
-room-decides s k e (Move b v w) h = absurd (miss isCut 5 tt h)
 
 -- ---- relations
 

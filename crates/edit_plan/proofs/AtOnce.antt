@@ -3,7 +3,7 @@ use mathlib.Core.Path.{_≡_, refl, sym, ap, _∙_}
 use mathlib.Core.Bool.{Bool, true, false, not}
 use mathlib.Core.List.{List, [], _∷_, _++_, map}
 use mathlib.Core.Option.{some, none}
-use Prim.Native.Nat.{ℕ, _+_, _≤_, _<_}
+use Prim.Native.Nat.{ℕ, suc, _+_, _≤_, _<_}
 use native.Mathlib.Omega.{arith}
 use lib.Dec.{eqb, ltb}
 use lib.ListN.{length}
@@ -24,13 +24,13 @@ use Rattle.edit_plan.specs.declared.Pin.{Pin}
 use Rattle.edit_plan.specs.declared.Pin.the-variants.{On, At}
 use Rattle.edit_plan.specs.declared.PinnedPoint.{PinnedPoint}
 use Rattle.edit_plan.specs.declared.Plan.{Plan}
-use Rattle.edit_plan.specs.declared.Plan.the-variants.{Cut, CutTwo, Divide, DivideTwo}
+use Rattle.edit_plan.specs.declared.Plan.the-variants.{Whole, Cut, CutTwo, Divide, DivideTwo, Move}
 use Rattle.edit_plan.specs.declared.Extent.{Extent}
 use Rattle.edit_plan.specs.declared.Change.{Change}
 use Rattle.edit_plan.specs.Tables.{rekind, curvesOf, others}
 use Rattle.edit_plan.specs.Steps.{lineEnds, isLine, dropIf, releaseRelation}
 use Rattle.edit_plan.specs.Suited.{suits, suitsOpen, suitsClosed, PinHolds}
-use Rattle.edit_plan.specs.Changes.{isCircle, isWhole, startOf, endOf, pieceOf, keptPiece, pointsNew, curvesNew, relationsNew, extentOf, chord, orphanList, staying, leftOf, unusedBy, candidatesFor}
+use Rattle.edit_plan.specs.Changes.{isCircle, isWhole, startOf, endOf, pieceOf, keptPiece, recut, pinRelation, halfCircles, cutOnce, cutMiddle, changeFor, pointsNew, curvesNew, relationsNew, extentOf, chord, orphanList, staying, leftOf, unusedBy, candidatesFor}
 use Rattle.edit_plan.specs.Room.{additionsFor, roomWith, leftOver}
 use Rattle.edit_plan.proofs.Every.{every-in, every-at, rising-among, rising-look, member-look}
 use Rattle.edit_plan.proofs.Leaves.{or-true, or-two}
@@ -38,6 +38,21 @@ use Rattle.sketch.proofs.Lists.{keep-true}
 use Rattle.edit_plan.proofs.Fresh.{new-curve, new-unnamed, point-old, curve-old}
 use Rattle.edit_plan.proofs.Bridge.{freed, isOpen, Apart}
 use Rattle.edit_plan.proofs.Finals.{Given}
+
+-- ---- the curve that stays has another kind alone
+
+pub kept-recut : (c : Curve) (k n : ℕ) (plan : Plan) (i : ℕ) → changeFor c k n plan i .kept ≡ recut c (changeFor c k n plan i .kept .kind)
+unfolding changeFor
+kept-recut c k n Whole i = refl
+kept-recut c k n (Cut w b) i = refl
+kept-recut c k n (CutTwo w v b) i = go (isCircle (c .kind))
+  where
+    go : (x : Bool) → let h = ite x (cutOnce c k (halfCircles (w .at) (v .at) i) b (pinRelation (w .pin) i) (pinRelation (v .pin) (suc i))) (cutMiddle c n w v i) in h .kept ≡ recut c (h .kept .kind)
+    go true = refl
+    go false = refl
+kept-recut c k n (Divide v) i = refl
+kept-recut c k n (DivideTwo v u) i = refl
+kept-recut c k n (Move b v w) i = refl
 
 -- ---- kinds that plans suit
 

@@ -8,7 +8,7 @@ use native.Mathlib.Numerals.{add-one}
 use native.Mathlib.Omega.{arith}
 use lib.Dec.{eqb, ltb}
 use lib.ListN.{length, length-map}
-use borrow.Author.Tests.{eq-eqb, ne-eqb, lt-ltb, ltb-true}
+use borrow.Author.Tests.{eq-eqb, lt-ltb, ltb-true}
 use Rattle.geom.specs.declared.Vec2.{Vec2}
 use Rattle.sketch.specs.declared.Curve.{Curve}
 use Rattle.sketch.specs.declared.CurveKind.{CurveKind}
@@ -50,20 +50,6 @@ module _ {D A : Type 0} where
   pub unless-refused-none : (o : Outcome D A) → unlessRefused 0 o ≡ o
   unfolding unlessRefused
   unless-refused-none o = refl
-
-  pub unless-refused-by : (n : ℕ) (o : Outcome D A) → (n ≡ 0 → ⊥) → unlessRefused n o ≡ refused n
-  unfolding unlessRefused
-  unless-refused-by n o h = rw (ne-eqb n 0 h)
-
-  again : (b : Bool) (n : ℕ) (o : Outcome D A) → guard b n (guard b n o) ≡ guard b n o
-  unfolding guard
-  again true n o = refl
-  again false n o = refl
-
-  guard-in : (b : Bool) (n : ℕ) (o o′ : Outcome D A) → (b ≡ true → o ≡ o′) → guard b n o ≡ guard b n o′
-  unfolding guard
-  guard-in true n o o′ h = h refl
-  guard-in false n o o′ h = refl
 
   abbrev pub guardPoint : Limits → ℕ → ℕ → Vec2 → Outcome D A → Outcome D A
   guardPoint m i n v o = guard (ltb i (m .ids)) 23 (guard (ltb n (m .points)) 22 (guard (okPosition v) 24 o))

@@ -1,6 +1,6 @@
 -- Lists: what holds of every entry, ids that rise, membership. Assumes nothing.
 use mathlib.Core.Path.{_≡_, refl, sym, ap, _∙_}
-use mathlib.Core.Bool.{Bool, true, false, _&&_, _||_}
+use mathlib.Core.Bool.{Bool, true, false, _||_}
 use mathlib.Core.List.{List, [], _∷_, _++_, map, List·Memᴰ, List·Memᴰ·head, List·Memᴰ·tail, List·Memᴰ·cases-cons, List·Memᴰ·not-nil}
 use mathlib.Core.Option.{some}
 use mathlib.Core.Logic.{⊎-elim}
@@ -68,10 +68,6 @@ module _ {A : Type 0} where
   pub every-at : (f : A → Bool) (l : List A) (a : A) → List·Memᴰ a l → Every f l → f a ≡ true
   every-at f [] a m h = absurd (List·Memᴰ·not-nil m)
   every-at f (x ∷ l) a m h = ⊎-elim (λ e. ap f e ∙ h .0) (λ q. every-at f l a q (h .1)) (List·Memᴰ·cases-cons m)
-
-  pub every-both : (f g : A → Bool) (l : List A) → Every f l → Every g l → Every (λ a. f a && g a) l
-  every-both f g [] h k = tt
-  every-both f g (a ∷ l) h k = (both (f a) (g a) (h .0) (k .0), every-both f g l (h .1) (k .1))
 
   pub length-concat-map : (s : A → List A) (l : List A) → ((a : A) → length (s a) ≤ 1) → length (concatMap s l) ≤ length l
   length-concat-map s [] k = omega arith

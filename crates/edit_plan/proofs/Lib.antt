@@ -6,7 +6,7 @@ pub mod Leaves
 pub mod Rooms
 pub mod Loops
 pub mod Unused
-pub mod Stores
+pub mod Amounts
 pub mod Fresh
 pub mod Gone
 pub mod Bridge
@@ -15,7 +15,3 @@ pub mod AtOnce
 pub mod Applied
 pub mod Rounds
 pub mod Plans
-pub mod Pushes
-pub mod Enough
-pub mod Done
-pub mod Answers

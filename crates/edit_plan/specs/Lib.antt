@@ -7,4 +7,3 @@ pub mod Counts
 pub mod Suited
 pub mod Changes
 pub mod Room
-pub mod Contracts

@@ -8,9 +8,8 @@ use Rattle.geom.specs.declared.Vec2.{Vec2}
 use Rattle.geom.specs.Plane.{origin}
 use Rattle.sketch.specs.declared.CurveKind.{CurveKind}
 use Rattle.sketch.specs.declared.Relation.{Relation}
-use Rattle.sketch.specs.declared.Sketch.{Sketch}
 use Rattle.sketch.specs.Lists.{ite, guardNumber, concatMap}
-use Rattle.sketch.specs.Drawing.{Limits, limits, view}
+use Rattle.sketch.specs.Drawing.{Limits, limits}
 use Rattle.edit_plan.specs.declared.Plan.{Plan}
 use Rattle.edit_plan.specs.declared.Plan.the-variants.{Whole, Cut, CutTwo, Divide, DivideTwo, Move}
 use Rattle.edit_plan.specs.declared.Additions.{Additions}
@@ -57,17 +56,6 @@ roomWithLeft i np nc left d = roomWith limits i np nc (not (ltb (left + d .relat
 -- a curve that is removed whole needs no room
 abbrev pub roomFor : CurveKind → Plan → ℕ → ℕ → ℕ → ℕ → ℕ
 roomFor k plan i np nc left = ite (isWhole plan) 0 (roomWithLeft i np nc left (additionsFor k plan))
-
-abbrev pub roomOf : Sketch → Extent → Additions → ℕ
-roomOf s e d = roomWithLeft (s .next) (s .npoints) (s .ncurves) (leftOver e (view s .relations)) d
-
-unfoldable pub refusalFor : Sketch → CurveKind → Extent → Plan → ℕ
-refusalFor s k e Whole = 0
-refusalFor s k e (Cut w first-goes) = roomOf s e (additionsFor k (Cut w first-goes))
-refusalFor s k e (CutTwo w v first-goes) = roomOf s e (additionsFor k (CutTwo w v first-goes))
-refusalFor s k e (Divide v) = roomOf s e (additionsFor k (Divide v))
-refusalFor s k e (DivideTwo v u) = roomOf s e (additionsFor k (DivideTwo v u))
-refusalFor s k e (Move at-end v w) = 10
 
 -- how many ids a plan takes
 unfoldable pub takes : CurveKind → Plan → ℕ

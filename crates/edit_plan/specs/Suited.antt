@@ -1,19 +1,14 @@
 -- Which plans the code applies: those that suit the curve, with pins to other curves. And what it answers.
-use Prim.Native.Nat.{ℕ, _<_}
+use Prim.Native.Nat.{ℕ}
 use mathlib.Core.Path.{_≡_}
 use mathlib.Core.Bool.{Bool, true, false, not}
-use lib.ListN.{getD}
 use lib.Dec.{eqb}
 use Rattle.sketch.specs.declared.Curve.{Curve}
 use Rattle.sketch.specs.declared.CurveKind.{CurveKind}
 use Rattle.sketch.specs.declared.CurveKind.the-variants.{Line, Arc, Circle, Bezier, Conic}
-use Rattle.sketch.specs.declared.Sketch.{Sketch}
 use Rattle.sketch.specs.Lists.{ite}
 use Rattle.sketch.specs.Lookup.{among}
-use Rattle.sketch.specs.Drawing.{Drawing, view, limits, curveIds}
-use Rattle.sketch.specs.Blanks.{noCurve}
-use Rattle.sketch.specs.Facts.{Sized}
-use Rattle.sketch.specs.Valid.{sketchFault}
+use Rattle.sketch.specs.Drawing.{Drawing, view, curveIds}
 use Rattle.edit_plan.specs.declared.Pin.{Pin}
 use Rattle.edit_plan.specs.declared.Pin.the-variants.{On, At}
 use Rattle.edit_plan.specs.declared.Plan.{Plan}
@@ -23,7 +18,6 @@ use Rattle.edit_plan.specs.declared.Removed.{Removed}
 use Rattle.edit_plan.specs.Outcome.{Outcome, refused, accepted}
 use Rattle.edit_plan.specs.Tables.{uses, others}
 use Rattle.edit_plan.specs.Steps.{nothing}
-use Rattle.edit_plan.specs.ApplyPlan.{applyPlan}
 
 -- a line or an arc is cut at one place, or at two, between which a piece is removed
 unfoldable pub suitsOpen : Plan → Bool
@@ -76,18 +70,3 @@ outcomeOf r = ite (eqb (r .refusal) 0) (accepted (view (r .sketch)) (r .removed)
 abbrev pub reportOf : Outcome Drawing Removed → Removed
 reportOf (refused n) = nothing
 reportOf (accepted d removed) = removed
-
-abbrev pub targetOf : Sketch → ℕ → Curve
-targetOf s k = getD (s .curves) k noCurve
-
--- the answer is the outcome, whatever is met, with its report and no place; on refusal the sketch is left as it was, and else its counts are within its tables
-pub record PlanApplied (s : Sketch) (k : ℕ) (plan : Plan) (r : Edited) : Type 0 where
-  pub outcome : (met : Drawing → Bool) → outcomeOf r ≡ applyPlan met limits (view s) (targetOf s k .id) plan
-  pub report : r .removed ≡ reportOf (outcomeOf r)
-  pub no-place : r .place ≡ 0
-  pub kept : (r .refusal ≡ 0 → ⊥) → r .sketch ≡ s
-  pub sized : r .refusal ≡ 0 → Sized (r .sketch)
-
--- of the curve at place k of a sketch that an image gives, a plan that suits it
-abbrev pub AppliesPlan : Sketch → ℕ → Plan → Edited → Type 0
-AppliesPlan s k plan r = sketchFault s ≡ 0 → k < s .ncurves → Suited (view s) (targetOf s k) plan → PlanApplied s k plan r

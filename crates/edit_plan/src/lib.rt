@@ -1,19 +1,17 @@
-// A plan is what an edit decided to do with a curve; applying it changes the tables of a sketch.
-mod apply;
+// A plan is what an edit decided to do with a curve, and what it changes: from the curve, the plan and numbers alone.
 mod changes;
+mod extents;
 mod pieces;
 mod removal;
 mod room;
 mod unused_points;
 
-pub use apply::apply_plan;
-pub use apply::extent_of;
 pub use changes::plan_change;
+pub use extents::extent_of;
 use geom::Vec2;
 pub use pieces::pin_relation;
 pub use removal::is_orphan;
 pub use removal::left_of;
-pub use removal::release_relation;
 pub use room::room_for;
 use sketch::Curve;
 use sketch::Id;
@@ -82,18 +80,6 @@ pub struct Orphans {
     pub pgoes: bool,
     pub qgoes: bool,
     pub rgoes: bool,
-}
-
-// Points that are left, and how many.
-struct PointTable {
-    slots: [Point; 512],
-    count: usize,
-}
-
-// Curves that are left, and how many.
-struct CurveTable {
-    slots: [Curve; 128],
-    count: usize,
 }
 
 // What is left of a relation.

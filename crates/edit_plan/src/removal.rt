@@ -1,20 +1,14 @@
-// Removals from the tables: relations that are released or dropped, points that no curve uses any more, a curve.
-use crate::CurveTable;
+// What is left of a relation where a curve is cut or removed: it is kept, released or dropped.
 use crate::Extent;
 use crate::Kept;
 use crate::Orphans;
-use crate::PointTable;
-use sketch::Curve;
 use sketch::Id;
-use sketch::Point;
 use sketch::Relation;
 ghost use mathlib.Core.Path.{_≡_};
-ghost use Prim.Native.Nat.{_≤_};
-ghost use lib.ListN.{take};
-ghost use Rattle.sketch.specs.Lists.{every, keep};
+ghost use Rattle.sketch.specs.Lists.{every};
 ghost use Rattle.sketch.specs.Lookup.{among};
 ghost use Rattle.sketch.specs.Drawing.{pointsOf};
-ghost use Rattle.edit_plan.specs.Tables.{curvesOf, others};
+ghost use Rattle.edit_plan.specs.Tables.{curvesOf};
 ghost use Rattle.edit_plan.specs.Steps.{dropIf, releaseRelation};
 ghost use Rattle.edit_plan.specs.Changes.{keptOf, chord, orphanList, staying, leftBy, leftOf};
 
@@ -25,7 +19,7 @@ fn drop_if(drop: bool, v: Relation) -> Kept
 }
 
 // What is left of a relation where a curve is cut.
-pub fn release_relation(v: Relation, e: Extent) -> Kept
+fn release_relation(v: Relation, e: Extent) -> Kept
     ensures { λ x. ⌜ keptOf x ≡ releaseRelation (e .id) (chord e) v ⌝ }
 {
     match v {
@@ -99,42 +93,4 @@ pub fn left_of(v: Relation, e: Extent, os: Orphans) -> Kept
         return Kept::Dropped;
     };
     drop_if(!keeps_all_points(w, os), w)
-}
-
-// The first n points without those that go.
-pub(crate) fn less_points(ps: [Point; 512], n: usize, os: Orphans) -> PointTable
-    requires { ⌜ n ≤ 512 ⌝ }
-    ensures { λ x. ⌜ (take (x .count) (x .slots) ≡ keep (λ p. staying (orphanList os) (p .id)) (take n ps)) × (x .count ≤ n) ⌝ }
-{
-    let mut t = ps;
-    let mut i: usize = 0;
-    let mut j: usize = 0;
-    while i < n {
-        let p = t[i];
-        i += 1;
-        if !is_orphan(os, p.id) {
-            t[j] = p;
-            j += 1;
-        }
-    }
-    PointTable { slots: t, count: j }
-}
-
-// The first n curves without g.
-pub(crate) fn less_curve(cs: [Curve; 128], n: usize, g: Id) -> CurveTable
-    requires { ⌜ n ≤ 128 ⌝ }
-    ensures { λ x. ⌜ (take (x .count) (x .slots) ≡ others g (take n cs)) × (x .count ≤ n) ⌝ }
-{
-    let mut t = cs;
-    let mut i: usize = 0;
-    let mut j: usize = 0;
-    while i < n {
-        let c = t[i];
-        i += 1;
-        if g != c.id {
-            t[j] = c;
-            j += 1;
-        }
-    }
-    CurveTable { slots: t, count: j }
 }

@@ -1,23 +1,17 @@
 // Whether there is room for what a plan adds: the tests 22, 23 and 24 of every addition, in order, on numbers alone.
 use crate::Additions;
-use crate::Extent;
-use crate::Kept;
 use crate::Plan;
-use crate::apply::is_whole;
+use crate::extents::is_whole;
 use crate::pieces::is_circle;
-use crate::removal::release_relation;
 use geom::Vec2;
 use sketch::CurveKind;
 use sketch::Id;
 use sketch::MAX_NEXT_ID;
-use sketch::Sketch;
 use sketch::coordinate_ok;
 ghost use mathlib.Core.Path.{_≡_};
-ghost use mathlib.Core.Bool.{not};
 ghost use Prim.Native.Nat.{_+_, _≤_};
-ghost use lib.Dec.{ltb};
-ghost use Rattle.sketch.specs.Drawing.{view, limits};
-ghost use Rattle.edit_plan.specs.Room.{mkAdditions, additionsFor, pointRoom, curveRoom, roomWith, leftOver, roomFor, refusalFor};
+ghost use Rattle.sketch.specs.Drawing.{limits};
+ghost use Rattle.edit_plan.specs.Room.{mkAdditions, additionsFor, pointRoom, curveRoom, roomWith, roomFor};
 
 fn additions(first: Vec2, second: Vec2, points: Id, curves: Id, relations: usize) -> Additions
     ensures { λ x. ⌜ x ≡ mkAdditions first second points curves relations ⌝ }
@@ -104,55 +98,6 @@ fn room(next: Id, points: usize, curves: usize, full: bool, d: Additions) -> u8
         return 22;
     }
     0
-}
-
-// How many relations are left once the curve is released.
-fn left_over(sk: Sketch, e: Extent) -> usize
-    requires { ⌜ sk .nrelations ≤ 256 ⌝ }
-    ensures { λ x. ⌜ x ≡ leftOver e (view sk .relations) ⌝ }
-{
-    let n = sk.nrelations;
-    let mut i: usize = 0;
-    let mut j: usize = 0;
-    while i < n {
-        let s = sk.relations[i];
-        let v = s.relation;
-        i += 1;
-        match release_relation(v, e) {
-            Kept::Keep(_) => {
-                j += 1;
-            }
-            Kept::Dropped => {}
-        }
-    }
-    j
-}
-
-// Whether there is no room for so many relations more than one.
-fn full_with(sk: Sketch, e: Extent, more: usize) -> bool
-    requires { ⌜ (sk .nrelations ≤ 256) × (more ≤ 2) ⌝ }
-    ensures { λ x. ⌜ x ≡ not (ltb (leftOver e (view sk .relations) + more) 256) ⌝ }
-{
-    if sk.nrelations + more < 256 {
-        return false;
-    }
-    256 <= left_over(sk, e) + more
-}
-
-// The number that applying the plan is refused by, or 0.
-pub(crate) fn refusal_of(sk: Sketch, kind: CurveKind, e: Extent, plan: Plan) -> u8
-    requires { ⌜ sk .nrelations ≤ 256 ⌝ }
-    ensures { λ x. ⌜ x ≡ refusalFor sk kind e plan ⌝ }
-{
-    match plan {
-        Plan::Whole => 0,
-        Plan::Move(_, _, _) => 10,
-        _ => {
-            let d = additions_for(kind, plan);
-            let full = full_with(sk, e, d.relations);
-            room(sk.next, sk.npoints, sk.ncurves, full, d)
-        }
-    }
 }
 
 // The number that the plan's additions are refused by, or 0: of points and curves with the numbers given, where so many relations are

@@ -6,16 +6,13 @@ use crate::pieces::start_of;
 use sketch::Curve;
 use sketch::CurveKind;
 use sketch::Id;
-use sketch::Sketch;
 ghost use mathlib.Core.Path.{_≡_};
 ghost use mathlib.Core.Bool.{not, _&&_};
-ghost use Prim.Native.Nat.{_≤_};
 ghost use lib.ListN.{take};
 ghost use Rattle.sketch.specs.Lists.{keep};
 ghost use Rattle.sketch.specs.Lookup.{among};
-ghost use Rattle.sketch.specs.Drawing.{view, usesOf};
-ghost use Rattle.edit_plan.specs.Tables.{others};
-ghost use Rattle.edit_plan.specs.Changes.{mkOrphans, ownPoints, candidatesFor, orphanList, unusedBy};
+ghost use Rattle.sketch.specs.Drawing.{usesOf};
+ghost use Rattle.edit_plan.specs.Changes.{mkOrphans, ownPoints, candidatesFor, orphanList};
 
 // Whether a point is among the first n slots.
 fn in_slots(slots: [Id; 8], n: usize, p: Id) -> bool
@@ -109,35 +106,4 @@ pub fn unless_used(os: Orphans, c: Curve) -> Orphans
         qgoes: still_unused(os.qgoes, c, os.q),
         rgoes: still_unused(os.rgoes, c, os.r),
     }
-}
-
-// Those that none of the first n curves but g uses.
-fn unused(cs: [Curve; 128], n: usize, g: Id, os: Orphans) -> Orphans
-    requires { ⌜ n ≤ 128 ⌝ }
-    ensures { λ x. ⌜ orphanList x ≡ unusedBy (others g (take n cs)) (orphanList os) ⌝ }
-{
-    let mut left = os;
-    let mut i: usize = 0;
-    while i < n {
-        let c = cs[i];
-        i += 1;
-        if g != c.id {
-            left = unless_used(left, c);
-        }
-    }
-    left
-}
-
-// The points that go where the plan for the curve c is applied.
-pub(crate) fn orphans_of(sk: Sketch, c: Curve, plan: Plan) -> Orphans
-    requires { ⌜ sk .ncurves ≤ 128 ⌝ }
-    ensures { λ x. ⌜ orphanList x ≡ unusedBy (others (c .id) (view sk .curves)) (orphanList (candidatesFor (c .kind) plan)) ⌝ }
-{
-    let kind = c.kind;
-    let os = candidates_of(kind, plan);
-    if !(os.pgoes | os.qgoes | os.rgoes) {
-        return os;
-    }
-    let cs = sk.curves;
-    unused(cs, sk.ncurves, c.id, os)
 }

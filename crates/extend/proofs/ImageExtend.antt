@@ -35,7 +35,7 @@ use Rattle.edit_plan.specs.Tables.{uses, others}
 use Rattle.edit_plan.specs.Steps.{endsAt}
 use Rattle.chains.proofs.Pins.{ends-there}
 use Rattle.planning.proofs.TrimSplitPlans.{ends-line}
-use Rattle.hit_search.specs.Columns.{support}
+use Rattle.hit_search.specs.Values.{support}
 use Rattle.extend.specs.declared.EndPlan.{EndPlan}
 use Rattle.extend.specs.declared.EndPlan.the-variants as N
 use Rattle.extend.specs.Extend.{isFixed}

@@ -1,7 +1,6 @@
 -- What is proved of an extend.
 pub mod Moves
 pub mod Uses
-pub mod Shifts
 pub mod Refusing
 pub mod ExtendPlans
 pub mod Extends

@@ -27,7 +27,7 @@ use Rattle.extend.specs.ExtendAnswer.{NoPlace}
 use Rattle.extend.specs.ImageExtend.{ifFits, OutcomeWritten}
 use Rattle.hit_search.specs.declared.Nearest.{Nearest}
 use Rattle.hit_search.specs.NearestHit.{Support, finished}
-use Rattle.hit_search.specs.Columns.{bestIn}
+use Rattle.hit_search.specs.Values.{bestIn}
 use Rattle.extend.specs.declared.EndPlan.{EndPlan}
 use Rattle.extend.specs.declared.EndPlan.the-variants as N
 use Rattle.extend.specs.Extend.{planMove, extendEnd, extendCurve}

@@ -1,6 +1,5 @@
 // The plan of a line's extend, straight from an image's records: an end moves on to the nearest curve that it meets.
 use crate::EndPlan;
-use crate::extending::moving_end;
 use edit_plan::curve_uses;
 use geom::Vec2;
 use hit_search::Nearest;
@@ -19,14 +18,15 @@ use sketch::CurveKind;
 use sketch::Id;
 use sketch_geometry::positions::position_of;
 ghost use mathlib.Core.Path.{_≡_};
+ghost use mathlib.Core.Bool.{cond};
 ghost use Rattle.sketch.specs.Lookup.{among};
 ghost use Rattle.edit_plan.specs.Tables.{uses, others};
 ghost use Rattle.rows.specs.Rows.{curvesIn};
-ghost use Rattle.hit_search.specs.Columns.{support};
+ghost use Rattle.hit_search.specs.Values.{support};
 ghost use Rattle.extend.specs.ImageExtendContracts.{PlansMoveIn, PlansEndIn, PlansExtendIn};
 
 // Whether a curve of the table, but for the one with an id, uses the point p.
-pub(crate) fn used_by_other(curves: &[u8], id: Id, p: Id) -> bool
+fn used_by_other(curves: &[u8], id: Id, p: Id) -> bool
     ensures { λ r. ⌜ r ≡ among p (uses (others id (curvesIn (now (curves .entry))))) ⌝ }
 {
     let n = curve_count(curves);
@@ -55,6 +55,13 @@ fn plan_move<'a>(best: Nearest, atb: bool, k: usize, image: &'a [u8], near: &'a 
     }
     let q = best.at;
     EndPlan::Move(atb, k, q, pin_at(q, best.by, image, near))
+}
+
+// The end of a line that moves: b or (false) a.
+fn moving_end(atb: bool, i: Id, j: Id) -> Id
+    ensures { λ r. ⌜ r ≡ cond atb j i ⌝ }
+{
+    if atb { j } else { i }
 }
 
 // The end b or (false) a of a line: 14 where another curve uses it, or it is fixed. An end of a good image's line is one of its points.

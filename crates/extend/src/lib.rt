@@ -1,17 +1,12 @@
 // The extend of a line: an end moves on to the nearest curve that it meets, and is pinned there.
-mod extending;
 mod image_extend;
 mod image_moves;
-mod moving;
-mod point_uses;
 
 use edit_plan::Pin;
 use edit_plan::Removed;
-pub use extending::extend_curve;
 use geom::Vec2;
 pub use image_moves::extend_image;
 pub use image_moves::refused;
-pub use moving::answer;
 
 // What becomes of the end of a line: the number of a refusal; or that the end, or (false) the start, the point at a place, moves.
 enum EndPlan {

@@ -40,7 +40,7 @@ use Rattle.hit_search.specs.declared.Nearest.{Nearest}
 use Rattle.hit_search.specs.declared.SearchStep.{SearchStep}
 use Rattle.hit_search.specs.declared.SearchStep.the-variants as L
 use Rattle.hit_search.specs.NearestHit.{Support, boundary, curveHits, Best, bestOf, stopped, finished, continueWith, nearestHit}
-use Rattle.hit_search.specs.Columns.{bestIn}
+use Rattle.hit_search.specs.Values.{bestIn}
 use Rattle.hit_search.specs.Contracts.{ControlsAre, Fits, resumed}
 use Rattle.hit_search.proofs.OtherCurves.{curves-end, others-past, others-on}
 

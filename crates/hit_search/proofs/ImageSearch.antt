@@ -20,7 +20,7 @@ use Rattle.hit_search.specs.declared.Nearest.{Nearest}
 use Rattle.hit_search.specs.declared.SearchStep.{SearchStep}
 use Rattle.hit_search.specs.declared.SearchStep.the-variants as L
 use Rattle.hit_search.specs.NearestHit.{Support, Best, Search, stopped, nearestHit}
-use Rattle.hit_search.specs.Columns.{bestIn}
+use Rattle.hit_search.specs.Values.{bestIn}
 use Rattle.hit_search.specs.Contracts.{resumed}
 use Rattle.hit_search.proofs.OtherCurves.{curve-row, all-curves}
 use Rattle.hit_search.proofs.CurveHits.{Sweep, sweep-past, sweep-stopped, sweep-on}

@@ -21,7 +21,7 @@ use Rattle.support.specs.Pieces.{zipPoints}
 use Rattle.support.proofs.Coordinates.{points-next, points-end}
 use Rattle.hit_search.specs.declared.Nearest.{Nearest}
 use Rattle.hit_search.specs.NearestHit.{Support, gapOf, Best, better, bestOf}
-use Rattle.hit_search.specs.Columns.{support, bestIn}
+use Rattle.hit_search.specs.Values.{support, bestIn}
 
 -- ---- how far beyond the end
 

@@ -14,7 +14,7 @@ use Rattle.hit_search.specs.declared.Controls.{Controls}
 use Rattle.hit_search.specs.declared.Nearest.{Nearest}
 use Rattle.hit_search.specs.declared.SearchStep.{SearchStep}
 use Rattle.hit_search.specs.NearestHit.{curveHits, nearestHit}
-use Rattle.hit_search.specs.Columns.{support, bestIn}
+use Rattle.hit_search.specs.Values.{support, bestIn}
 use Rattle.hit_search.specs.Contracts.{ControlsAre, resumed}
 
 abbrev pub ControlsIn : List ℕ → List ℕ → ℕ → Controls → Type 0

@@ -9,7 +9,7 @@ use Rattle.image.specs.Image.{drawingOf, imageFault}
 use Rattle.edit_plan.specs.Tables.{others}
 use Rattle.hit_search.specs.declared.SearchResult.{SearchResult}
 use Rattle.hit_search.specs.NearestHit.{nearestHit}
-use Rattle.hit_search.specs.Columns.{support, searchIn}
+use Rattle.hit_search.specs.Values.{support, searchIn}
 
 -- of a good image
 abbrev pub FindsNearestHitIn : List ℕ → Vec2 → Vec2 → Bool → Vec2 → ℕ → SearchResult → Type 0

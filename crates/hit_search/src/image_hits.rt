@@ -1,6 +1,6 @@
 // Where the endless line of a support meets one curve of an image, straight from its records.
 use crate::Controls;
-use crate::curve_hits::boundary;
+use crate::boundaries::boundary;
 use geom::Direction;
 use geom::Vec2;
 use sketch::Curve;

@@ -1,11 +1,10 @@
 // The nearest hit of a line beyond one of its ends, among its hits with other curves.
-mod curve_hits;
+mod boundaries;
 mod image_hits;
 pub mod image_search;
 mod search;
 
 use geom::Vec2;
-pub use search::nearest_hit;
 use sketch::Id;
 
 // The coordinates of a freeform curve's control points, at the front.

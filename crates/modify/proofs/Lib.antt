@@ -1,6 +1,7 @@
 -- What is proved of the definitions of edits.
 pub mod Untested
 pub mod Planned
+pub mod WholeOutcomes
 pub mod Answers
 pub mod Extended
 pub mod ImageFaults

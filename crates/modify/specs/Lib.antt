@@ -2,4 +2,3 @@
 pub mod Edits
 pub mod ImageEdits
 pub mod ImageContracts
-pub mod Contracts

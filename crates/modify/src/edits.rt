@@ -1,77 +1,57 @@
-// Trim, split and extend of a sketch.
-use crate::find_target::find_target;
+// Trim, split and extend of a sketch by value: its image is written, edited, and read again.
+use crate::image_edits::edit_image;
 use edit_plan::Edited;
-use edit_plan::apply_plan;
-use extend::answer;
-use extend::extend_curve;
+use edit_plan::Removed;
 use geom::Vec2;
+use image::MAX_IMAGE_SIZE;
 use message::Operation;
-use planning::PlanResult;
-use planning::plan_on_curve;
 use sketch::Id;
 use sketch::Sketch;
-use sketch_geometry::fill_point_columns;
+use sketch_image::image_size;
 ghost use mathlib.Core.Path.{_≡_};
 ghost use Rattle.message.specs.declared.Operation.the-variants as Operation;
+ghost use Rattle.edit_plan.specs.Steps.{nothing};
 ghost use Rattle.modify.specs.Edits.{EditAnswer};
-ghost use Rattle.modify.specs.Contracts.{isExtend, isSplit};
 
-// The operation by two tests, so that each course is called from one place and compiled into `edit`: a call that hands a sketch on copies it.
-fn is_extend(operation: Operation) -> bool
-    ensures { λ r. ⌜ r ≡ isExtend operation ⌝ }
+// A refusal: the sketch as it was, with the place of a relation or 0.
+fn refuse(sketch: Sketch, refusal: u8, place: usize) -> Edited
+    ensures { λ r. ⌜ (r .sketch ≡ sketch) × (r .refusal ≡ refusal) × (r .place ≡ place) × (r .removed ≡ nothing) ⌝ }
 {
-    match operation {
-        Operation::Trim => false,
-        Operation::Split => false,
-        Operation::Extend => true,
+    Edited {
+        sketch,
+        refusal,
+        place,
+        removed: Removed {
+            curve: 0,
+            from: 0,
+            to: 0,
+        },
     }
 }
 
-fn is_split(operation: Operation) -> bool
-    ensures { λ r. ⌜ r ≡ isSplit operation ⌝ }
-{
-    match operation {
-        Operation::Trim => false,
-        Operation::Split => true,
-        Operation::Extend => false,
-    }
-}
-
-// One edit: the tests that all begin with, and then its own. The sketch is tested here and no deeper.
+// One edit of a sketch's curve, picked at a point. On refusal the sketch is as it was.
 pub fn edit(operation: Operation, sk: Sketch, curve: Id, at: Vec2) -> Edited
     ensures { λ r. ⌜ EditAnswer operation sk curve at r ⌝ }
 {
-    let fault = sketch::fault(sk);
+    let mut image = [0u8; MAX_IMAGE_SIZE];
+    let fault = sketch_image::write(sk, &mut image);
     if fault != 0 {
-        return answer(sk, fault, 0);
+        return refuse(sk, fault, 0);
     }
-    let t = find_target(sk, curve, at);
-    if t.refusal != 0 {
-        return answer(sk, t.refusal, 0);
+    let size = image_size(sk.npoints, sk.ncurves, sk.nrelations);
+    let mut out = [0u8; MAX_IMAGE_SIZE];
+    let e = edit_image(operation, &image[..size], curve, at, &mut out);
+    if e.refusal != 0 {
+        return refuse(sk, e.refusal, e.place);
     }
-    let points = sk.points;
-    let n = sk.npoints;
-    let mut ids: [Id; 512] = [0; 512];
-    let mut near = [0u16; 1024];
-    let mut xs = [0.0; 512];
-    let mut ys = [0.0; 512];
-    fill_point_columns(points, n, &mut ids, &mut near, &mut xs, &mut ys);
-    let place = t.place;
-    if is_extend(operation) {
-        return extend_curve(sk, place, at, &ids[..n], &near, &mut xs[..n], &mut ys[..n]);
-    }
-    match plan_on_curve(
-        sk,
-        is_split(operation),
-        place,
-        at,
-        &ids[..n],
-        &near,
-        &xs[..n],
-        &ys[..n],
-    ) {
-        PlanResult::Refused(number) => answer(sk, number, 0),
-        PlanResult::Accepted(plan) => apply_plan(sk, place, plan),
+    let new = sketch_image::read(&out[..e.size]);
+    let sketch = new.sketch;
+    let removed = e.removed;
+    Edited {
+        sketch,
+        refusal: 0,
+        place: 0,
+        removed,
     }
 }
 

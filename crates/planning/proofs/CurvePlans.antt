@@ -22,7 +22,7 @@ use Rattle.edit_plan.specs.Tables.{others}
 use Rattle.edit_plan.specs.Changes.{isCircle}
 use Rattle.planning.specs.declared.PlanResult.{PlanResult}
 use Rattle.planning.specs.declared.PlanResult.the-variants.{Refused, Accepted}
-use Rattle.planning.specs.Planning.{guardPlan, paramOfPick, trimPlan, splitFull, atEnd, splitPlan, isFullArc, noFreeform, trimCurve, splitCurve, trimOrSplit}
+use Rattle.planning.specs.Planning.{guardPlan, paramOfPick, trimPlan, splitFull, atEnd, splitPlan, isFullArc, noFreeform, trimCurve, splitCurve}
 use Rattle.planning.proofs.Suits.{circle-full}
 
 module _ (d : Drawing) (p : Vec2) (c : Curve) where
@@ -78,9 +78,3 @@ module _ (d : Drawing) (p : Vec2) (c : Curve) where
       pub split-round : f ≡ false → {os : List Cutter} → os ≡ cuttersOf (d .points) (others (c .id) (d .curves)) → {r : PlanResult} → r ≡ splitFull sh (bracket sh (paramOfPick sh p) (cutPoints sh os)) → r ≡ splitCurve d p c (shapeOf (d .points) (c .kind))
       unfolding splitCurve guardPlan isFullArc splitPlan
       split-round t {os} o k = k ∙ ap (λ l. splitFull sh (bracket sh (paramOfPick sh p) (cutPoints sh l))) o ∙ sym (rw (← e, round-full (c .kind) v e, v, sym g ∙ ap not t))
-
-  pub as-split : {s : Bool} → s ≡ true → {r : PlanResult} → r ≡ splitCurve d p c (shapeOf (d .points) (c .kind)) → r ≡ trimOrSplit s d p c
-  as-split e h = h ∙ sym (rw e)
-
-  pub as-trim : {s : Bool} → s ≡ false → {r : PlanResult} → r ≡ trimCurve d p c (shapeOf (d .points) (c .kind)) → r ≡ trimOrSplit s d p c
-  as-trim e h = h ∙ sym (rw e)

@@ -7,7 +7,7 @@ use Prim.Native.Nat.{ℕ, suc, _+_, _≤_, _<_}
 use native.Mathlib.Numerals.{add-one}
 use native.Mathlib.Omega.{arith}
 use lib.Dec.{eqb}
-use lib.ListN.{length, drop, getD}
+use lib.ListN.{length, drop, getD, drop-of-length-le}
 use lib.Seq.{drop-cons}
 use types.Run.{OneOf, miss}
 use denote.Enum.Declared.{tagOf}
@@ -37,7 +37,6 @@ use Rattle.planning.specs.Planning.{noFreeform, trimCurve, splitCurve}
 use Rattle.planning.specs.ImagePlans.{PinIn, TrimIn, SplitIn}
 use Rattle.planning.specs.ImageContracts.{PinnedPointIn, FreeformIn, TrimsIn, SplitsIn}
 use Rattle.planning.proofs.TrimSplitPlans.{place-is}
-use Rattle.planning.proofs.CutterLists.{plain, drop-past}
 
 -- ---- one by its place, or by its id
 
@@ -92,6 +91,9 @@ is-analytic (Circle c r) h = refl
 is-analytic (Bezier n) h = absurd (miss analytic 3 tt h)
 is-analytic (Conic a p b rho) h = absurd (miss analytic 4 tt h)
 
+abbrev plain : Curve → Bool
+plain c = not (eqb (sortOf (c .kind)) 3)
+
 -- none of the first i
 abbrev pub PlainUpTo : List ℕ → ℕ → Type 0
 PlainUpTo s i = imageFault s ≡ 0 → every plain (drawingOf s .curves) ≡ every plain (drop i (drawingOf s .curves))
@@ -119,4 +121,4 @@ module _ (s : List ℕ) {t : List ℕ} {n : ℕ} (q : t ≡ curveTable s) (m : n
 
   pub plain-end : n ≤ i → FreeformIn s false
   unfolding noFreeform
-  plain-end l = λ e. sym (up e ∙ ap (every plain) (drop-past (drawingOf s .curves) i (omega (arith, counted s e q m))))
+  plain-end l = λ e. sym (up e ∙ ap (every plain) (drop-of-length-le (drawingOf s .curves) {i = i} (omega (arith, counted s e q m))))

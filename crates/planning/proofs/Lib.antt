@@ -3,5 +3,4 @@ pub mod Others
 pub mod Suits
 pub mod TrimSplitPlans
 pub mod CurvePlans
-pub mod CutterLists
 pub mod ImageCurves

@@ -43,8 +43,6 @@ use Rattle.cuts.specs.declared.Cutter.{Cutter}
 use Rattle.cuts.specs.Cuts.{cutPoints, cuttersOf}
 use Rattle.cuts.specs.Bracket.{bracket}
 use Rattle.sketch.specs.Drawing.{Drawing, curveIn}
-use lib.ListN.{take}
-use Rattle.planning.specs.Columns.{ColumnsOf}
 
 -- ---- kinds
 
@@ -66,9 +64,6 @@ no-circle (Conic a p b rho) h = refl
 -- ---- which piece goes
 
 module _ (sh : Shape) (tq : Float) where
-  before : Cut → Bool
-  before k = lt (k .t) tq
-
   pub one-full : (k : Cut) → isFull sh ≡ true → false ≡ firstGoes sh tq (k ∷ [])
   unfolding firstGoes between
   one-full k f = sym (rw f)
@@ -183,18 +178,6 @@ module _ (ps : List Point) (cs : List Curve) (q : Vec2) (by : ℕ) where
   pub pin-of-endless : {c : Curve} → curveIn cs by ≡ some c → endsOf (c .kind) ≡ none → On by ≡ pinTo ps q by (endsAt (curveIn cs by))
   unfolding pinTo
   pin-of-endless f g = pin-of f g refl
-
-module _ {d : Drawing} {ids : List ℕ} {xs ys : List Float} {cs : List Curve} {n : ℕ} (o : ColumnsOf d ids xs ys cs n) (q : Vec2) (by : ℕ) where
-  pub pin-found : {c : Curve} {e : Option (ℕ × ℕ)} {r : Pin} → curveIn (take n cs) by ≡ some c → endsOf (c .kind) ≡ e → r ≡ pinTo (d .points) q by e → r ≡ pinTo (d .points) q by (endsAt (curveIn (d .curves) by))
-  pin-found f = pin-of (d .points) (d .curves) q by (ap (λ (l : List Curve). curveIn l by) (o .curves) ∙ f)
-
-  pub pin-nowhere : curveIn (take n cs) by ≡ none → On by ≡ pinTo (d .points) q by (endsAt (curveIn (d .curves) by))
-  pin-nowhere f = pin-of-none (d .points) (d .curves) q by (ap (λ (l : List Curve). curveIn l by) (o .curves) ∙ f)
-
--- no end to be held at
-pub pin-bare : (d : Drawing) (q : Vec2) (by : ℕ) → On by ≡ pinTo (d .points) q by none
-unfolding pinTo
-pin-bare d q by = refl
 
 pub place-is : (d : Drawing) (sh : Shape) (k : Cut) {q : Vec2} {w : Pin} → q ≡ point sh (k .t) → w ≡ pinTo (d .points) q (k .by) (endsAt (curveIn (d .curves) (k .by))) → _≡_ {A = PinnedPoint} record { at = q; pin = w } (pinnedPointOf d sh k)
 place-is d sh k e f = rw (f, e)

@@ -16,7 +16,7 @@ use Rattle.sketch.specs.declared.Curve.{Curve}
 use Rattle.sketch.specs.Lists.{ite, every, keep}
 use Rattle.sketch.specs.Drawing.{Drawing, curveIn}
 use Rattle.sketch.specs.Valid.{sortOf}
-use Rattle.sketch_geometry.specs.Geometry.{positionOf, shapeOf}
+use Rattle.sketch_geometry.specs.Geometry.{positionOf}
 use Rattle.cuts.specs.declared.Cut.{Cut}
 use Rattle.cuts.specs.Cuts.{cutPoints, cuttersOf}
 use Rattle.cuts.specs.Bracket.{bracket}
@@ -126,7 +126,3 @@ splitCurve d p c none = Refused 10
 splitCurve d p c (some sh) =
     guardPlan (not (isFullArc c sh)) 10
     (guardPlan (not (isCircle (c .kind)) || noFreeform d) 11 (splitPlan d (c .id) sh p))
-
--- the plan of a split, or (false) of a trim, of the curve c, picked at p
-abbrev pub trimOrSplit : Bool → Drawing → Vec2 → Curve → PlanResult
-trimOrSplit splits d p c = cond splits (splitCurve d p c (shapeOf (d .points) (c .kind))) (trimCurve d p c (shapeOf (d .points) (c .kind)))

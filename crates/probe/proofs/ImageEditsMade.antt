@@ -1,12 +1,10 @@
 -- An edit from image to image: one law for each way out, and what it adds to a sum.
 use mathlib.Core.Path.{_≡_, refl, sym, ap, _∙_, subst}
-use mathlib.Core.Bool.{Bool, true, false}
+use mathlib.Core.Bool.{true}
 use mathlib.Core.List.{List, _++_}
 use Prim.Native.Nat.{ℕ, zero, suc, _+_, _-_, _*_, _/_, _%_, _^_, _≤_, _<_}
 use native.Mathlib.Omega.{arith}
 use lib.ListN.{length, take, drop, List·getD-append}
-use lib.Dec.{leb}
-use borrow.Author.Tests.{eq-eqb, leb-false}
 use Rattle.big_endian.specs.Fields.{field, over}
 use Rattle.big_endian.specs.Laws.{Bytes}
 use Rattle.geom.specs.declared.Vec2.{Vec2}
@@ -14,7 +12,6 @@ use Rattle.sketch.specs.Drawing.{Drawing, limits}
 use Rattle.image.specs.Image as I
 use Rattle.image.specs.Image.{imageFault, drawingOf, nextAt, maxImageSize}
 use Rattle.image.specs.Encode.{encode}
-use Rattle.image.proofs.Sizes.{image-size}
 use Rattle.message.specs.Message.{operationOf, isOperation}
 use Rattle.message.specs.declared.Operation.{Operation}
 use Rattle.message.specs.declared.Operation.the-variants.{Extend}
@@ -22,13 +19,13 @@ use Rattle.relations.specs.Met.{unmetAt}
 use Rattle.edit_plan.specs.declared.Removed.{Removed}
 use Rattle.edit_plan.specs.Outcome.{Outcome, refused, accepted, guard}
 use Rattle.extend.specs.declared.EditedImage.{EditedImage}
-use Rattle.extend.specs.ImageExtend.{ifFits, OutcomeWritten}
+use Rattle.extend.specs.ImageExtend.{OutcomeWritten}
 use Rattle.extend.proofs.ImageMoves.{image-valid}
 use Rattle.modify.specs.Edits.{editOf, editUntested}
 use Rattle.modify.specs.ImageEdits as M
 use Rattle.modify.specs.ImageEdits.{EditWritten}
 use Rattle.modify.proofs.ImageFaults.{image-fault-low}
-use Rattle.modify.proofs.Planned.{edit-valid}
+use Rattle.modify.proofs.WholeOutcomes.{good-edit, whole-outcome}
 use Rattle.modify.proofs.Untested.{untested-valid}
 use Rattle.probe.specs.Edits.{imageEditBy, numberOf, leftIn, fitting, Wrote, EditMade, editAdds}
 use Rattle.probe.specs.EditContracts.{ReportEnd, ReportPut}
@@ -111,42 +108,29 @@ module _ (op : Operation) (s : List ℕ) (t : ℕ) (p : Vec2) {before after : Li
   abbrev outcome : Outcome Drawing Removed
   outcome = editOf op limits (drawingOf s) t p
 
-  module _ (i : imageFault s ≡ 0) where
+  module _ (i : imageFault s ≡ 0) (room : maxImageSize ≤ length before) where
     made : M.editImage op s t p ≡ outcome
-    unfolding guard
-    made = rw (eq-eqb (imageFault s) 0 i)
+    made = good-edit op s t p a i (image-valid s i b) room
 
-    written : OutcomeWritten (ifFits (length before) outcome) before after r
-    written = subst (λ (x : Outcome Drawing Removed). OutcomeWritten (ifFits (length before) x) before after r) made (a .written)
-
-    -- a new image always fits
-    fits : maxImageSize ≤ length before → (d : Drawing) (gone : Removed) → outcome ≡ accepted d gone → length (encode d) ≤ length before
-    fits room d gone e = omega (arith, a .sound d gone (made ∙ e) .0, image-size d (edit-valid op limits (drawingOf s) t p d gone (image-valid s i b) e))
+    written : OutcomeWritten outcome before after r
+    written = whole-outcome op s t p a i (image-valid s i b) room
 
   pub adds-number : r .size ≡ 0 → imageFault s ≡ 0 → maxImageSize ≤ length before → r .refusal ≡ editAdds outcome
-  unfolding editAdds guard
-  adds-number z i room = go outcome refl (written i)
+  unfolding editAdds
+  adds-number z i room = go outcome refl (written i room)
     where
-      go : (o : Outcome Drawing Removed) → outcome ≡ o → OutcomeWritten (ifFits (length before) o) before after r → r .refusal ≡ editAdds o
+      go : (o : Outcome Drawing Removed) → outcome ≡ o → OutcomeWritten o before after r → r .refusal ≡ editAdds o
       go (refused n) e w = w .refusal
-      go (accepted d gone) e w = at (leb (length (encode d)) (length before)) refl w
-        where
-          at : (u : Bool) → leb (length (encode d)) (length before) ≡ u → OutcomeWritten (guard u 25 (accepted d gone)) before after r → r .refusal ≡ editAdds (accepted d gone)
-          at true q w = let l = a .sound d gone (made i ∙ e) .0 in let k = w .size in absurd (omega arith)
-          at false q w = let l = leb-false (length (encode d)) (length before) q in let k = fits i room d gone e in absurd (omega arith)
+      go (accepted d gone) e w = absurd (omega (arith, w .size, a .sound d gone (made i room ∙ e) .0))
 
   pub adds-sum : (r .size ≡ 0 → ⊥) → {next n : ℕ} → next ≡ nextAt after → n ≡ (next + r .removed .curve) % 2 ^ 32 → imageFault s ≡ 0 → maxImageSize ≤ length before → n ≡ editAdds outcome
-  unfolding editAdds guard over
-  adds-sum z {next} {n} f g i room = go outcome refl (written i)
+  unfolding editAdds over
+  adds-sum z {next} {n} f g i room = go outcome refl (written i room)
     where
-      go : (o : Outcome Drawing Removed) → outcome ≡ o → OutcomeWritten (ifFits (length before) o) before after r → n ≡ editAdds o
+      go : (o : Outcome Drawing Removed) → outcome ≡ o → OutcomeWritten o before after r → n ≡ editAdds o
       go (refused m) e w = absurd (z (w .size))
-      go (accepted d gone) e w = at (leb (length (encode d)) (length before)) refl w
-        where
-          at : (u : Bool) → leb (length (encode d)) (length before) ≡ u → OutcomeWritten (guard u 25 (accepted d gone)) before after r → n ≡ (d .next + gone .curve) % 2 ^ 32
-          at false q w = absurd (z (w .size))
-          at true q w =
-              let (l, q2) = a .sound d gone (made i ∙ e) in
-              let back : nextAt (encode d) ≡ d .next = ap (λ (x : Drawing). x .next) (drawing-back (encode d) d q2) in
-              let front : nextAt after ≡ nextAt (encode d) = ap nextAt (w .bytes) ∙ field-front (encode d) (drop (0 + length (encode d)) before) 5 4 (omega arith) in
-              g ∙ rw (f, front, back, w .removed)
+      go (accepted d gone) e w =
+          let (l, q2) = a .sound d gone (made i room ∙ e) in
+          let back : nextAt (encode d) ≡ d .next = ap (λ (x : Drawing). x .next) (drawing-back (encode d) d q2) in
+          let front : nextAt after ≡ nextAt (encode d) = ap nextAt (w .bytes) ∙ field-front (encode d) (drop (0 + length (encode d)) before) 5 4 (omega arith) in
+          g ∙ rw (f, front, back, w .removed)

@@ -7,4 +7,5 @@ pub mod Places
 pub mod ReplicaSums
 pub mod ReportedImages
 pub mod Sums
+pub mod UnmetAnswers
 pub mod RootsAnswer

@@ -15,6 +15,13 @@ ghost use Rattle.image.specs.Image as I;
 ghost use Rattle.message.specs.Message as M;
 ghost use Rattle.probe.specs.Probe.{ImageCopied, MessageCopied, SketchTested};
 
+// A sketch that no image gives, by its number; else that all relations are met, or the place of one that is not.
+enum Verdict {
+    Refused(u8),
+    Met,
+    Unmet(usize),
+}
+
 // The image's version, times 256, and the message's.
 #[no_mangle]
 pub extern "C" fn mulkefi_versions() -> u32

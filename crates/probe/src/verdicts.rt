@@ -1,7 +1,29 @@
 // Which relations of a sketch are met.
-use relations::Verdict;
+use crate::Verdict;
+use image::MAX_IMAGE_SIZE;
+use relations::image_search::first_unmet;
 use sketch::Id;
-ghost use Rattle.probe.specs.Relations.{RelationsTested};
+use sketch::Sketch;
+use sketch_image::image_size;
+ghost use Rattle.probe.specs.Relations.{UnmetAnswer, RelationsTested};
+
+// Looks for a relation of a sketch that is not met, in its image. It gives the first; promised is only that it is one.
+fn unmet(sk: Sketch) -> Verdict
+    ensures { λ r. ⌜ UnmetAnswer sk r ⌝ }
+{
+    let mut image = [0u8; MAX_IMAGE_SIZE];
+    let fault = sketch_image::write(sk, &mut image);
+    if fault != 0 {
+        return Verdict::Refused(fault);
+    }
+    let size = image_size(sk.npoints, sk.ncurves, sk.nrelations);
+    let near = [0u16; 1024];
+    let k = first_unmet(&image[..size], &near);
+    if k < sk.nrelations {
+        return Verdict::Unmet(k);
+    }
+    Verdict::Met
+}
 
 // Reads an image and looks, in its sketch with another next id and other counts, for a relation that is not met: 0 where all are, and
 // else its place plus 256; or the number by which the image or the sketch is refused.
@@ -24,7 +46,7 @@ pub extern "C" fn mulkefi_relations_test(
     sk.npoints = points as usize;
     sk.ncurves = curves as usize;
     sk.nrelations = relations as usize;
-    match relations::unmet(sk) {
+    match unmet(sk) {
         Verdict::Refused(number) => number as u32,
         Verdict::Met => 0,
         Verdict::Unmet(place) => 256 + place as u32,

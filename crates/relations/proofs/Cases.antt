@@ -12,14 +12,11 @@ use Rattle.sketch.specs.Lists.{every}
 use Rattle.sketch.specs.declared.Point.{Point}
 use Rattle.sketch.specs.declared.Curve.{Curve}
 use Rattle.sketch.specs.declared.Relation.{Relation}
-use Rattle.sketch.specs.declared.RelationSlot.{RelationSlot}
 use Rattle.sketch.specs.declared.Relation.the-variants.{Coincident, PointOnCurve, Collinear, Equal, Length, Distance, Midpoint, ArcLength, ArcSweep}
 use Rattle.relations.specs.declared.CurveData.{CurveData}
 use Rattle.sketch_geometry.specs.Geometry.{positionOf, shapeIn}
 use Rattle.relations.specs.Met.{same, close, on, lengthOrRadiusOf, lineEndPoints, lineMidpoint, met}
-use Rattle.relations.specs.Columns.{CurveColumns, wholeOf, whole}
-use Rattle.sketch_geometry.specs.Columns.{PointColumns}
-use Rattle.relations.proofs.Failing.{Passed}
+use Rattle.relations.specs.Whole.{wholeOf, whole}
 use Rattle.relations.proofs.CurveMeasures.{on-whole, extent-whole, ends-whole, middle-whole}
 
 every-whole : (o : Option Shape) (l : List Vec2) → every (on (whole o)) l ≡ every (on o) l
@@ -73,11 +70,3 @@ module _ (ps : List Point) (cs : List Curve) (r : Relation) where
     pub met-arc-sweep : r ≡ ArcSweep l v → true ≡ met ps cs r
     unfolding met
     met-arc-sweep e = rw e
-
--- ---- the search
-
--- i relations are passed, whichever points and curves the columns hold
-abbrev pub Searched : List ℕ → List Float → List Float → List ℕ → List ℕ → List ℕ → List ℕ → List Float → List RelationSlot → ℕ → ℕ → Type 0
-Searched points xs ys ids kinds firsts seconds numbers slots n i =
-    (ps : List Point) (cs : List Curve) → PointColumns ps points xs ys → CurveColumns points cs ids kinds firsts seconds numbers
-    → Passed (met ps cs) (λ (s : RelationSlot). s .relation) n slots i

@@ -21,7 +21,7 @@ use Rattle.sketch.specs.Lists.{ite}
 use Rattle.relations.specs.declared.CurveData.{CurveData}
 use Rattle.sketch_geometry.specs.Geometry.{nowhere}
 use Rattle.relations.specs.Met.{small, close, on, lengthOrRadiusOf, lineEndPoints, lineMidpoint}
-use Rattle.relations.specs.Columns.{wholeOf, whole}
+use Rattle.relations.specs.Whole.{wholeOf, whole}
 
 -- ---- by squares
 

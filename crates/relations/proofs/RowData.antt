@@ -21,7 +21,7 @@ use Rattle.rows.proofs.Holds.{held-curve, curve-here, curve-missing}
 use Rattle.sketch_geometry.specs.Geometry.{positionOf, shapeOf, shapeFrom, shapeIn}
 use Rattle.sketch_geometry.proofs.Shapes.{of-freeform}
 use Rattle.relations.specs.declared.CurveData.{CurveData}
-use Rattle.relations.specs.Columns.{wholeOf, whole}
+use Rattle.relations.specs.Whole.{wholeOf, whole}
 use Rattle.relations.proofs.CurveMeasures.{whole-line, whole-arc, whole-circle, whole-none}
 
 -- ---- by kind

@@ -13,7 +13,7 @@ use Rattle.sketch_geometry.specs.Geometry.{shapeOf, shapeIn}
 use Rattle.sketch_geometry.specs.Positions.{pointsAfterMove}
 use Rattle.relations.specs.declared.CurveData.{CurveData}
 use Rattle.relations.specs.Met.{met}
-use Rattle.relations.specs.Columns.{wholeOf, whole}
+use Rattle.relations.specs.Whole.{wholeOf, whole}
 
 abbrev pub KindData : List ℕ → Moved → CurveKind → CurveData → Type 0
 KindData points m kind r = (ps : List Point) → HoldsPoints ps points → wholeOf r ≡ whole (shapeOf (pointsAfterMove m ps) kind)

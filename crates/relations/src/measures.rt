@@ -8,7 +8,7 @@ ghost use mathlib.Core.Option.{some};
 ghost use Rattle.sketch.specs.Lists.{every};
 ghost use Rattle.shape.specs.Measures as S;
 ghost use Rattle.relations.specs.Met as M;
-ghost use Rattle.relations.specs.Columns.{wholeOf};
+ghost use Rattle.relations.specs.Whole.{wholeOf};
 
 // Whether two measures count as one.
 pub(crate) fn same(x: f64, y: f64) -> bool

@@ -1,5 +1,4 @@
--- The laws of columns that other crates cite.
+-- The laws of positions and shapes that other crates cite.
 pub mod Found
-pub mod Filled
 pub mod Shapes
 pub mod RowPositions

@@ -1,4 +1,3 @@
 -- What the contracts of `sketch_geometry` cite.
 pub mod Geometry
-pub mod Columns
 pub mod Positions

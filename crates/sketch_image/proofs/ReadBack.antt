@@ -15,7 +15,7 @@ use Rattle.sketch.specs.declared.Sketch.{Sketch}
 use Rattle.sketch.proofs.Facts.{valid-fault}
 use Rattle.sketch.proofs.Sketches.{sketch-valid}
 use Rattle.sketch_image.specs.declared.ImageRead.{ImageRead}
-use Rattle.image.specs.Image.{refused, accepted, resultOf, parse}
+use Rattle.image.specs.Image.{refused, accepted, imageFault, drawingOf, resultOf, parse}
 use Rattle.image.specs.Encode.{drawingSize, encode}
 use Rattle.image.specs.Stored.{Stored}
 use Rattle.sketch_image.specs.SketchImage.{outcome, emptyDrawing, drawingIn, ReadAnswer, writeFault, ImageWritten}
@@ -62,6 +62,10 @@ module _ (s : Sketch) (before now : List ℕ) {n : ℕ} (w : ImageWritten s befo
 
       pub front-long : (size : ℕ) → size ≡ drawingSize (view s) → size ≡ length (take size now)
       front-long size e = e ∙ sym (ap (λ (k : ℕ). length (take k now)) e ∙ ap length front ∙ length-encode (view s) h)
+
+      -- it is a good image, of the sketch's own drawing
+      pub front-read : {size : ℕ} → size ≡ drawingSize (view s) → (imageFault (take size now) ≡ 0) × (drawingOf (take size now) ≡ view s)
+      front-read {size} e = result-accepted (imageFault (take size now)) (drawingOf (take size now)) (view s) (ap (λ (k : ℕ). parse (take k now)) e ∙ ap parse front ∙ parse-again s valid h)
 
       pub back-same : (size : ℕ) → size ≡ drawingSize (view s) → (r : ImageRead) → ReadAnswer (take size now) r → ReadBack s before now r
       unfolding resultOf

@@ -1,5 +1,5 @@
 -- A sketch of the code's own types holds what `Stored` asks: ids, floats, degrees and slots fit their fields. Assumes nothing.
-use mathlib.Core.Path.{_≡_, sym, ap, _∙_, subst}
+use mathlib.Core.Path.{_≡_, refl, sym, ap, _∙_, subst}
 use mathlib.Core.Bool.{true, not, _&&_, _||_}
 use mathlib.Core.List.{List, [], _∷_, map}
 use Prim.Native.Nat.{ℕ, zero, suc}
@@ -32,10 +32,10 @@ use Rattle.sketch.proofs.RelationSlot as RS
 use Rattle.sketch.proofs.Sketch as S
 use Rattle.sketch.proofs.Sketches.{sketch-valid}
 use Rattle.sketch.proofs.Bools.{and-both}
-use Rattle.image.specs.Image.{sizeOf}
 use Rattle.image.specs.Encode.{drawingSize}
 use Rattle.image.specs.Stored.{Each, Id, StoredPoint, StoredKind, StoredCurve, StoredRelation, Stored}
 use Rattle.image.proofs.Curves.{zeros}
+use Rattle.sketch_image.proofs.Written.{SizeIs, ready, ready-size}
 
 -- ---- lists
 
@@ -146,8 +146,8 @@ sketch-slots s u h =
     each-eight (c ∷ cs) w = (w .0 .eight, each-eight cs (w .1))
 
 -- its image's size, by its counts
-pub sketch-size : (s : Sketch) (u : List Val) → shadow (S.the-field .row .own (S.the-type .to s) u) → sketchFault s ≡ 0 → sizeOf (s .npoints) (s .ncurves) (s .nrelations) ≡ drawingSize (view s)
-sketch-size s u h e =
+pub sketch-size : (s : Sketch) (u : List Val) → shadow (S.the-field .row .own (S.the-type .to s) u) → sketchFault s ≡ 0 → {n : ℕ} → SizeIs s n → n ≡ drawingSize (view s)
+sketch-size s u h e is =
     let z = sketch-valid s e .0 in
     let np : length (s .points) ≡ 512 = sym (length-map (s .points) _) ∙ h .1 .1 .1 .1 .1 .1 .0 .1 .0 .1 in
     let nc : length (s .curves) ≡ 128 = sym (length-map (s .curves) _) ∙ h .1 .1 .1 .1 .1 .1 .1 .0 .1 .0 .1 in
@@ -155,4 +155,4 @@ sketch-size s u h e =
     let lp = length-take-le (s .npoints) (s .points) (omega (arith, z .points, np)) in
     let lc = length-take-le (s .ncurves) (s .curves) (omega (arith, z .curves, nc)) in
     let lr = length-take-le (s .nrelations) (s .relations) (omega (arith, z .relations, nr)) in
-    rw (lp, lc, length-map, lr)
+    ready-size s (ready s refl e) is ∙ rw (lp, lc, length-map, lr)

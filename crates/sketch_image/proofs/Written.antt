@@ -1,6 +1,6 @@
 -- What the writer needs of a sketch, and what it leaves in the buffer.
-use mathlib.Core.Path.{_≡_, sym, _∙_}
-use mathlib.Core.Bool.{true, false, _&&_}
+use mathlib.Core.Path.{_≡_, refl, sym, _∙_}
+use mathlib.Core.Bool.{Bool, true, false, _&&_}
 use mathlib.Core.List.{List, [], _∷_, _++_, map, append-assoc}
 use Prim.Native.Nat.{ℕ, zero, suc, _+_, _*_, _≤_, _<_}
 use native.Mathlib.Nat.{zero-add}
@@ -8,7 +8,7 @@ use native.Mathlib.Omega.{arith}
 use lib.ListN.{length, take, getD, length-map}
 use lib.Seq.{length-take-le}
 use lib.Dec.{leb, eqb}
-use borrow.Author.Tests.{le-leb, lt-leb, ne-eqb, eq-eqb}
+use borrow.Author.Tests.{le-leb, lt-leb, ne-eqb, eq-eqb, eqb-true}
 use Rattle.big_endian.specs.Fields.{over, overIfFits}
 use Rattle.big_endian.specs.Laws.{Run, run-over, over-fits}
 use Rattle.image.proofs.Tables.{Sized, sized-all, length-concat-map}
@@ -16,6 +16,7 @@ use Rattle.image.proofs.Points.{length-point}
 use Rattle.image.proofs.Curves.{length-curve}
 use Rattle.image.proofs.Relations.{length-relation}
 use Rattle.image.proofs.Headers.{length-header}
+use Rattle.image.proofs.Sizes.{image-size}
 use Rattle.sketch.specs.Lists.{ite, guardNumber, concatMap}
 use Rattle.sketch.specs.Drawing.{view, limits}
 use Rattle.sketch.specs.Valid.{sketchFault}
@@ -23,9 +24,9 @@ use Rattle.sketch.specs.declared.Curve.{Curve}
 use Rattle.sketch.specs.declared.Sketch.{Sketch}
 use Rattle.sketch.proofs.Sketches.{sketch-valid}
 use Rattle.image.specs.Stored.{Each}
-use Rattle.image.specs.Image.{sizeOf, headerSize}
+use Rattle.image.specs.Image.{sizeOf, headerSize, maxImageSize}
 use Rattle.image.specs.Encode.{encodePoint, encodeCurve, encodeRelation, header, encode, drawingSize}
-use Rattle.sketch_image.specs.SketchImage.{ImageWritten}
+use Rattle.sketch_image.specs.SketchImage.{writeFault, ImageWritten}
 use Rattle.image.specs.Records.{curveSize, pointSize, relationSize}
 
 -- ---- records
@@ -62,6 +63,13 @@ ready sk e z =
       few-relations = w .0 .relations;
     }
 
+-- what is answered for its image's size
+abbrev pub SizeIs : Sketch → ℕ → Type 0
+SizeIs sk n = n ≡ ite (leb (sk .npoints) (limits .points) && leb (sk .ncurves) (limits .curves) && leb (sk .nrelations) (limits .relations)) (sizeOf (sk .npoints) (sk .ncurves) (sk .nrelations)) 0
+
+pub ready-size : (sk : Sketch) {n : ℕ} → Ready sk → SizeIs sk n → n ≡ sizeOf (sk .npoints) (sk .ncurves) (sk .nrelations)
+ready-size sk w h = h ∙ rw (le-leb (sk .npoints) 512 (w .few-points), le-leb (sk .ncurves) 128 (w .few-curves), le-leb (sk .nrelations) 256 (w .few-relations))
+
 module _ (sk : Sketch) (before : List ℕ) {r : ℕ} (e : r ≡ sketchFault sk) where
   -- a sketch that no image gives
   pub unfit : (r ≡ 0 → ⊥) → ImageWritten sk before before r
@@ -80,15 +88,16 @@ module _ (sk : Sketch) (before : List ℕ) {r : ℕ} (e : r ≡ sketchFault sk) 
         rw (lp, lc, length-map, lr)
 
     -- a buffer that is too short
-    pub short : length before < sizeOf (sk .npoints) (sk .ncurves) (sk .nrelations) → ImageWritten sk before before 25
+    pub short : {n : ℕ} → SizeIs sk n → length before < n → ImageWritten sk before before 25
     unfolding guardNumber
-    short h =
+    short is h =
+        let s = ready-size sk (ready sk e z) is in
         let t : eqb (sketchFault sk) 0 ≡ true = eq-eqb (sketchFault sk) 0 (sym e ∙ z) in
-        let u : leb (drawingSize (view sk)) (length before) ≡ false = lt-leb (drawingSize (view sk)) (length before) (rw size h) in
+        let u : leb (drawingSize (view sk)) (length before) ≡ false = lt-leb (drawingSize (view sk)) (length before) (omega (arith, size, s)) in
         record { number = rw (t, u); buffer = rw (t, u) }
 
     -- the image, part by part
-    pub wrote : {b1 b2 b3 b4 : List ℕ} → sizeOf (sk .npoints) (sk .ncurves) (sk .nrelations) ≤ length before
+    pub wrote : {b1 b2 b3 b4 : List ℕ} {n : ℕ} → SizeIs sk n → n ≤ length before
         → b1 ≡ ite (leb (sk .npoints) (limits .points) && leb (sk .ncurves) (limits .curves) && leb (sk .nrelations) (limits .relations)) (overIfFits before 0 (header (sk .next) (sk .npoints) (sk .ncurves) (sk .nrelations))) before
         → b2 ≡ over b1 headerSize (concatMap encodePoint (take (sk .npoints) (sk .points)))
         → b3 ≡ over b2 (headerSize + sk .npoints * pointSize) (concatMap encodeCurve (take (sk .ncurves) (sk .curves)))
@@ -96,8 +105,9 @@ module _ (sk : Sketch) (before : List ℕ) {r : ℕ} (e : r ≡ sketchFault sk) 
         → b4 ≡ over b3 (headerSize + sk .npoints * pointSize + sk .ncurves * curveSize) (concatMap encodeRelation (map (λ r. r .relation) (take (sk .nrelations) (sk .relations))))
         → ImageWritten sk before b4 0
     unfolding guardNumber encode
-    wrote {b1} {b2} {b3} {b4} h e1 e2 e3 s3 e4 =
+    wrote {b1} {b2} {b3} {b4} is below e1 e2 e3 s3 e4 =
         let w = ready sk e z in
+        let h : sizeOf (sk .npoints) (sk .ncurves) (sk .nrelations) ≤ length before = omega (arith, ready-size sk w is) in
         let np = sk .npoints in
         let nc = sk .ncurves in
         let nr = sk .nrelations in
@@ -119,3 +129,15 @@ module _ (sk : Sketch) (before : List ℕ) {r : ℕ} (e : r ≡ sketchFault sk) 
         let t : eqb (sketchFault sk) 0 ≡ true = eq-eqb (sketchFault sk) 0 (sym e ∙ z) in
         let u : leb (drawingSize (view sk)) (length before) ≡ true = le-leb (drawingSize (view sk)) (length before) (rw size h) in
         record { number = rw (t, u); buffer = rw (t, u) (r4 .is ∙ rw (lp, lc, lr) (simp append-assoc)) }
+
+-- a buffer for the largest image is too short for none
+pub write-fault : (s : Sketch) (room : ℕ) → room ≡ maxImageSize → writeFault s room ≡ sketchFault s
+unfolding guardNumber
+write-fault s room e = go (eqb (sketchFault s) 0) refl
+  where
+    go : (b : Bool) → eqb (sketchFault s) 0 ≡ b → guardNumber b (sketchFault s) (guardNumber (leb (drawingSize (view s)) room) 25 0) ≡ sketchFault s
+    go true h =
+        let z = eqb-true (sketchFault s) 0 h in
+        let fits = le-leb (drawingSize (view s)) room (omega (arith, image-size (view s) (sketch-valid s z .1))) in
+        rw fits (sym z)
+    go false h = refl

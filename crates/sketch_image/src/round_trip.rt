@@ -2,11 +2,8 @@
 use crate::ImageRead;
 use crate::reader::read;
 use crate::reader::refuse;
+use crate::size::image_size;
 use crate::writer::write;
-use image::layout::CURVE_SIZE;
-use image::layout::HEADER_SIZE;
-use image::layout::POINT_SIZE;
-use image::layout::RELATION_SIZE;
 use sketch::Sketch;
 ghost use Rattle.sketch_image.specs.RoundTrip.{ReadBack};
 
@@ -19,9 +16,6 @@ pub fn write_and_read(sk: Sketch, buf: &mut [u8]) -> ImageRead
     if number != 0 {
         return refuse(number);
     }
-    let np = sk.npoints;
-    let nc = sk.ncurves;
-    let nr = sk.nrelations;
-    let size = HEADER_SIZE + np * POINT_SIZE + nc * CURVE_SIZE + nr * RELATION_SIZE;
+    let size = image_size(sk.npoints, sk.ncurves, sk.nrelations);
     read(&buf[..size])
 }

@@ -1,4 +1,5 @@
 // The writer of images.
+use crate::size::image_size;
 use image::layout::CURVE_SIZE;
 use image::layout::HEADER_SIZE;
 use image::layout::POINT_SIZE;
@@ -71,7 +72,7 @@ pub fn write(sk: Sketch, buf: &mut [u8]) -> u8
     let np = sk.npoints;
     let nc = sk.ncurves;
     let nr = sk.nrelations;
-    if buf.len() < HEADER_SIZE + np * POINT_SIZE + nc * CURVE_SIZE + nr * RELATION_SIZE {
+    if buf.len() < image_size(np, nc, nr) {
         return 25;
     }
     write_header(buf, sk.next, np, nc, nr);

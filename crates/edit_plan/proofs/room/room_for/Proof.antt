@@ -7,7 +7,7 @@ use Rattle.sketch.specs.Lists.{ite}
 use Rattle.sketch.specs.Drawing.{limits}
 use Rattle.edit_plan.specs.declared.Additions.{Additions}
 use Rattle.edit_plan.specs.Room.{additionsFor, roomWith, roomWithLeft}
-use Rattle.edit_plan.proofs.Stores.{small, full-is}
+use Rattle.edit_plan.proofs.Amounts.{small, full-is}
 use Rattle.edit_plan.proofs.room.room_for.Statement.{statement}
 use Rattle.edit_plan.proofs.room.room_for.Tie as tie
 

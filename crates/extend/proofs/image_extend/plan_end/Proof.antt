@@ -1,5 +1,5 @@
 use Rattle.image.specs.Image.{drawingOf}
-use Rattle.hit_search.specs.Columns.{support}
+use Rattle.hit_search.specs.Values.{support}
 use Rattle.extend.proofs.ExtendPlans.{end-used, end-stuck, end-by-nearest-hit, reached-stop, reached-best}
 use Rattle.extend.proofs.ImageExtend.{used-in, end-there, fixed-row, free-row, moves-free}
 use native.Mathlib.Omega.{arith}

@@ -6,7 +6,7 @@ use Rattle.extend.proofs.image_extend.plan_extend.Statement.{statement}
 use Rattle.extend.proofs.image_extend.plan_extend.Tie as tie
 use Rattle.extend.proofs.image_extend.plan_extend.Reads as reads
 use Rattle.extend.proofs.image_extend.plan_extend.Lts as lts
-use Rattle.extend.proofs.extending.moving_end.Reads as moving-end-reads
+use Rattle.extend.proofs.image_extend.moving_end.Reads as moving-end-reads
 use Rattle.extend.proofs.image_extend.plan_end.Reads as plan-end-reads
 use Rattle.geom.proofs.Vec2.dist.Reads as dist-reads
 use Rattle.rows.proofs.curve_at.Reads as curve-at-reads

@@ -1,6 +1,6 @@
 use mathlib.Core.Path.{sym, ap, _∙_}
-use Rattle.sketch_geometry.specs.Columns.{shapeOfOutline}
-use Rattle.hit_search.specs.Columns.{support}
+use Rattle.sketch_geometry.specs.Positions.{shapeOfOutline}
+use Rattle.hit_search.specs.Values.{support}
 use Rattle.hit_search.proofs.CurveHits.{with-room, met-fits, met-as, outlined-is, meets-along, meets-bezier, meets-conic}
 use native.Mathlib.Omega.{arith}
 use borrow.Author.Needs.{needs}
@@ -8,7 +8,7 @@ use Rattle.hit_search.proofs.image_hits.curve_hits.Statement.{statement
 use Rattle.hit_search.proofs.image_hits.curve_hits.Tie as tie
 use Rattle.hit_search.proofs.image_hits.curve_hits.Reads as reads
 use Rattle.hit_search.proofs.image_hits.curve_hits.Lts as lts
-use Rattle.hit_search.proofs.curve_hits.boundary.Reads as boundary-reads
+use Rattle.hit_search.proofs.boundaries.boundary.Reads as boundary-reads
 use Rattle.hit_search.proofs.image_hits.controls.Reads as controls-reads
 use Rattle.sketch_geometry.proofs.positions.position_of.Reads as position-of-reads
 use Rattle.sketch_geometry.proofs.positions.shape_of.Reads as shape-of-reads

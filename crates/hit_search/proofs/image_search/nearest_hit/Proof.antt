@@ -5,7 +5,7 @@ use mathlib.Core.List.{List}
 use lib.ListN.{length}
 use Rattle.sketch.specs.declared.Point.{Point}
 use Rattle.rows.specs.Rows.{curvesIn, HoldsPoints}
-use Rattle.hit_search.specs.Columns.{support, bestIn}
+use Rattle.hit_search.specs.Values.{support, bestIn}
 use Rattle.hit_search.proofs.CurveHits.{Sweep, sweep-start, swept}
 use Rattle.hit_search.proofs.ImageSearch.{row-past, row-stopped, row-on, good-points, of-image}
 use borrow.Author.Needs.{needs}

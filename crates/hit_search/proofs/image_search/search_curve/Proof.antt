@@ -1,4 +1,4 @@
-use Rattle.hit_search.specs.Columns.{support}
+use Rattle.hit_search.specs.Values.{support}
 use mathlib.Core.Path.{_∙_}
 use Rattle.support.proofs.Answers.{refused-not-found}
 use Rattle.hit_search.proofs.CurveHits.{look-stopped, look-went, fits-found}

@@ -1,5 +1,5 @@
 use Prim.Native.Nat.{_-_}
-use Rattle.hit_search.specs.Columns.{support, bestIn}
+use Rattle.hit_search.specs.Values.{support, bestIn}
 use Rattle.hit_search.proofs.NearestHit.{Weighing, weighing, weighed, weigh-on}
 use borrow.Author.Needs.{needs}
 use native.Mathlib.Omega.{arith}

@@ -5,10 +5,9 @@ use borrow.Author.Needs.{needs}
 use Rattle.sketch_image.proofs.Answers.{read-number, read-drawing}
 use Rattle.sketch.specs.declared.Sketch.{Sketch}
 use Rattle.probe.specs.Probe.{altered}
-use Rattle.probe.specs.Relations.{numbered, unread, tested, RelationsTested}
-use Rattle.relations.proofs.Verdicts.{place-below}
-use Rattle.relations.specs.declared.Verdict.{Verdict}
-use Rattle.relations.specs.Answer.{UnmetAnswer}
+use Rattle.probe.specs.Relations.{UnmetAnswer, numbered, unread, tested, RelationsTested}
+use Rattle.probe.specs.declared.Verdict.{Verdict}
+use Rattle.probe.proofs.UnmetAnswers.{place-below}
 use Rattle.probe.proofs.verdicts.mulkefi_relations_test.Statement.{statement}
 use Rattle.probe.proofs.verdicts.mulkefi_relations_test.Tie as tie
 

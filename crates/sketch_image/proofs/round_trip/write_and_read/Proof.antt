@@ -3,13 +3,10 @@ use mathlib.Core.Path.{_≡_}
 use lib.ListN.{length, take, length-take}
 use Rattle.sketch.specs.Drawing.{view}
 use Rattle.sketch.specs.Valid.{sketchFault}
-use Rattle.sketch.specs.Facts.{Sized}
-use Rattle.image.specs.Image.{sizeOf}
 use Rattle.image.specs.Encode.{drawingSize}
 use Rattle.image.specs.Stored.{Stored}
 use native.Mathlib.Omega.{arith}
 use borrow.Author.Needs.{needs}
-use Rattle.sketch.proofs.Sketches.{sketch-valid}
 use Rattle.sketch_image.proofs.Typed.{sketch-stored, sketch-size}
 use Rattle.sketch_image.proofs.ReadBack.{back-refused, valid, front-long, back-same}
 use Rattle.sketch_image.proofs.round_trip.write_and_read.Statement.{statement}
@@ -27,17 +24,14 @@ write-requires c κs = search needs
 ok : (c : tie.Else1) → sketchFault (c .before .before .before .before .before .before .args .sk) ≡ 0
 ok c = valid (c .before .before .before .before .before .before .args .sk) (c .before .before .before .before .before .before .args .buf .now) (c .before .before .before .write .last .1 .0) (c .before .before .before .write .ensures) (c .if1 .left)
 
-small : (c : tie.Else1) → Sized (c .before .before .before .before .before .before .args .sk)
-small c = sketch-valid (c .before .before .before .before .before .before .args .sk) (ok c) .0
-
 stored : (c : tie.Else1) → Stored (view (c .before .before .before .before .before .before .args .sk))
 stored c = sketch-stored (c .before .before .before .before .before .before .args .sk) _ (c .before .before .before .before .before .before .good .0) (ok c)
 
-size-is : (c : tie.Else1) → let sk = c .before .before .before .before .before .before .args .sk in sizeOf (sk .npoints) (sk .ncurves) (sk .nrelations) ≡ drawingSize (view sk)
-size-is c = sketch-size (c .before .before .before .before .before .before .args .sk) _ (c .before .before .before .before .before .before .good .0) (ok c)
+size-is : (c : tie.After-image-size) → c .image-size .result ≡ drawingSize (view (c .before .before .before .before .before .before .before .args .sk))
+size-is c = sketch-size (c .before .before .before .before .before .before .before .args .sk) _ (c .before .before .before .before .before .before .before .good .0) (ok (c .before)) (c .image-size .ensures)
 
-long : (c : tie.Else1) → let sk = c .before .before .before .before .before .before .args .sk in let size = sizeOf (sk .npoints) (sk .ncurves) (sk .nrelations) in size ≡ length (take size (c .before .before .before .write .last .1 .0))
-long c = front-long (c .before .before .before .before .before .before .args .sk) (c .before .before .before .before .before .before .args .buf .now) (c .before .before .before .write .last .1 .0) (c .before .before .before .write .ensures) (c .if1 .left) (stored c) _ (size-is c)
+long : (c : tie.After-image-size) → c .image-size .result ≡ length (take (c .image-size .result) (c .before .before .before .before .write .last .1 .0))
+long c = front-long (c .before .before .before .before .before .before .before .args .sk) (c .before .before .before .before .before .before .before .args .buf .now) (c .before .before .before .before .write .last .1 .0) (c .before .before .before .before .write .ensures) (c .before .if1 .left) (stored (c .before)) _ (size-is c)
 
 refuse-requires : tie.Need-refuse-requires
 refuse-requires c κs = search needs
@@ -50,28 +44,11 @@ returns c =
     let s = c .before .before .before .before .before .before .before in
     back-refused (s .args .sk) (s .args .buf .now) _ (c .before .before .before .before .write .ensures) (c .before .if1 .taken) (c .refuse .result) (c .refuse .ensures .0) (c .refuse .ensures .2)
 
-mul-size : tie.Need-mul-size
-mul-size c = omega (arith, small c .points, small c .curves, small c .relations)
-
-add-size : tie.Need-add-size
-add-size c = omega (arith, small c .points, small c .curves, small c .relations)
-
-mul-size-2 : tie.Need-mul-size-2
-mul-size-2 c = omega (arith, small c .points, small c .curves, small c .relations)
-
-add-size-2 : tie.Need-add-size-2
-add-size-2 c = omega (arith, small c .points, small c .curves, small c .relations)
-
-mul-size-3 : tie.Need-mul-size-3
-mul-size-3 c = omega (arith, small c .points, small c .curves, small c .relations)
-
-add-size-3 : tie.Need-add-size-3
-add-size-3 c = omega (arith, small c .points, small c .curves, small c .relations)
+image-size-requires : tie.Need-image-size-requires
+image-size-requires c κs = search needs
 
 slice-reshare-prefix-read : tie.Need-slice-reshare-prefix-read
-slice-reshare-prefix-read c =
-    let sk = c .before .before .before .before .before .before .args .sk in
-    omega (arith, long c, length-take (sizeOf (sk .npoints) (sk .ncurves) (sk .nrelations)) (c .before .before .before .write .last .1 .0))
+slice-reshare-prefix-read c = omega (arith, long c, length-take (c .image-size .result) (c .before .before .before .before .write .last .1 .0))
 
 slice-aggregate-read : tie.Need-slice-aggregate-read
 slice-aggregate-read c = long (c .before)
@@ -85,7 +62,8 @@ same-length-2 c = search needs
 returns-2 : tie.Need-returns-2
 returns-2 c =
     let e = c .before .before in
-    back-same (e .before .before .before .before .before .before .args .sk) (e .before .before .before .before .before .before .args .buf .now) (e .before .before .before .write .last .1 .0) (e .before .before .before .write .ensures) (e .if1 .left) (stored e) _ (size-is e) (c .read .result) (c .read .ensures)
+    let s = e .before .before .before .before .before .before .before in
+    back-same (s .args .sk) (s .args .buf .now) (e .before .before .before .before .write .last .1 .0) (e .before .before .before .before .write .ensures) (e .before .if1 .left) (stored (e .before)) _ (size-is e) (c .read .result) (c .read .ensures)
 
 pub write-and-read-spec : {M : Type 1} → statement M
 write-and-read-spec =
@@ -95,12 +73,7 @@ write-and-read-spec =
     refuse-requires
     same-length
     returns
-    mul-size
-    add-size
-    mul-size-2
-    add-size-2
-    mul-size-3
-    add-size-3
+    image-size-requires
     slice-reshare-prefix-read
     slice-aggregate-read
     read-requires

@@ -1,6 +1,6 @@
 use lib.ListN.{length-map}
 use Rattle.sketch_image.proofs.Typed.{sketch-slots}
-use Rattle.sketch_image.proofs.Written.{ready, unfit, short, wrote}
+use Rattle.sketch_image.proofs.Written.{ready, ready-size, unfit, short, wrote}
 use mathlib.Core.Path.{sym, _∙_}
 use native.Mathlib.Omega.{arith}
 use borrow.Author.Needs.{needs}
@@ -20,71 +20,59 @@ fault-requires c κs = search needs
 returns : tie.Need-returns
 returns c = unfit (c .before .before .before .args .sk) (c .before .before .before .args .buf .now) (c .before .fault .ensures) (c .if1 .taken)
 
-mul-if2 : tie.Need-mul-if2
-mul-if2 c = let w = ready (c .before .before .before .args .sk) (c .before .fault .ensures) (c .if1 .left) in omega arith
-
-add-if2 : tie.Need-add-if2
-add-if2 c = let w = ready (c .before .before .before .args .sk) (c .before .fault .ensures) (c .if1 .left) in omega arith
-
-mul-if2-2 : tie.Need-mul-if2-2
-mul-if2-2 c = let w = ready (c .before .before .before .args .sk) (c .before .fault .ensures) (c .if1 .left) in omega arith
-
-add-if2-2 : tie.Need-add-if2-2
-add-if2-2 c = let w = ready (c .before .before .before .args .sk) (c .before .fault .ensures) (c .if1 .left) in omega arith
-
-mul-if2-3 : tie.Need-mul-if2-3
-mul-if2-3 c = let w = ready (c .before .before .before .args .sk) (c .before .fault .ensures) (c .if1 .left) in omega arith
-
-add-if2-3 : tie.Need-add-if2-3
-add-if2-3 c = let w = ready (c .before .before .before .args .sk) (c .before .fault .ensures) (c .if1 .left) in omega arith
+image-size-requires : tie.Need-image-size-requires
+image-size-requires c κs = search needs
 
 returns-2 : tie.Need-returns-2
-returns-2 c = short (c .before .before .before .before .args .sk) (c .before .before .before .before .args .buf .now) (c .before .before .fault .ensures) (c .before .if1 .left) (sym (length-map (c .before .before .before .before .args .sk .points) _) ∙ c .before .before .before .before .good .0 .1 .1 .1 .1 .1 .1 .0 .1 .0 .1) (sym (length-map (c .before .before .before .before .args .sk .curves) _) ∙ c .before .before .before .before .good .0 .1 .1 .1 .1 .1 .1 .1 .0 .1 .0 .1) (sym (length-map (c .before .before .before .before .args .sk .relations) _) ∙ c .before .before .before .before .good .0 .1 .1 .1 .1 .1 .1 .1 .1 .0 .1 .0 .1) (c .if2 .taken)
+returns-2 c = short (c .before .before .before .before .before .args .sk) (c .before .before .before .before .before .args .buf .now) (c .before .before .before .fault .ensures) (c .before .before .if1 .left) (sym (length-map (c .before .before .before .before .before .args .sk .points) _) ∙ c .before .before .before .before .before .good .0 .1 .1 .1 .1 .1 .1 .0 .1 .0 .1) (sym (length-map (c .before .before .before .before .before .args .sk .curves) _) ∙ c .before .before .before .before .before .good .0 .1 .1 .1 .1 .1 .1 .1 .0 .1 .0 .1) (sym (length-map (c .before .before .before .before .before .args .sk .relations) _) ∙ c .before .before .before .before .before .good .0 .1 .1 .1 .1 .1 .1 .1 .1 .0 .1 .0 .1) (c .before .image-size .ensures) (c .if2 .taken)
 
 write-header-requires : tie.Need-write-header-requires
 write-header-requires c κs = search needs
 
 write-points-requires : tie.Need-write-points-requires
 write-points-requires c κs =
-    let w = ready (c .before .before .before .before .before .before .before .before .before .before .args .sk) (c .before .before .before .before .before .before .before .before .fault .ensures) (c .before .before .before .before .before .before .before .if1 .left) in
+    let w = ready (c .before .before .before .before .before .before .before .before .before .before .before .args .sk) (c .before .before .before .before .before .before .before .before .before .fault .ensures) (c .before .before .before .before .before .before .before .before .if1 .left) in
     let z = c .before .before .before .before .before .before .if2 .left in
+    let y = ready-size _ w (c .before .before .before .before .before .before .before .image-size .ensures) in
     (w .few-points, omega arith)
 
 mul-write-curves : tie.Need-mul-write-curves
-mul-write-curves c = let w = ready (c .before .before .before .before .before .before .before .before .before .before .before .before .before .before .before .args .sk) (c .before .before .before .before .before .before .before .before .before .before .before .before .before .fault .ensures) (c .before .before .before .before .before .before .before .before .before .before .before .before .if1 .left) in omega arith
+mul-write-curves c = let w = ready (c .before .before .before .before .before .before .before .before .before .before .before .before .before .before .before .before .args .sk) (c .before .before .before .before .before .before .before .before .before .before .before .before .before .before .fault .ensures) (c .before .before .before .before .before .before .before .before .before .before .before .before .before .if1 .left) in omega arith
 
 add-write-curves : tie.Need-add-write-curves
-add-write-curves c = let w = ready (c .before .before .before .before .before .before .before .before .before .before .before .before .before .before .before .args .sk) (c .before .before .before .before .before .before .before .before .before .before .before .before .before .fault .ensures) (c .before .before .before .before .before .before .before .before .before .before .before .before .if1 .left) in omega arith
+add-write-curves c = let w = ready (c .before .before .before .before .before .before .before .before .before .before .before .before .before .before .before .before .args .sk) (c .before .before .before .before .before .before .before .before .before .before .before .before .before .before .fault .ensures) (c .before .before .before .before .before .before .before .before .before .before .before .before .before .if1 .left) in omega arith
 
 write-curves-requires : tie.Need-write-curves-requires
 write-curves-requires c κs =
-    let w = ready (c .before .before .before .before .before .before .before .before .before .before .before .before .before .before .before .args .sk) (c .before .before .before .before .before .before .before .before .before .before .before .before .before .fault .ensures) (c .before .before .before .before .before .before .before .before .before .before .before .before .if1 .left) in
+    let w = ready (c .before .before .before .before .before .before .before .before .before .before .before .before .before .before .before .before .args .sk) (c .before .before .before .before .before .before .before .before .before .before .before .before .before .before .fault .ensures) (c .before .before .before .before .before .before .before .before .before .before .before .before .before .if1 .left) in
     let z = c .before .before .before .before .before .before .before .before .before .before .before .if2 .left in
-    (w .few-curves, omega arith, sketch-slots (c .before .before .before .before .before .before .before .before .before .before .before .before .before .before .before .args .sk) _ (c .before .before .before .before .before .before .before .before .before .before .before .before .before .before .before .good .0))
+    let y = ready-size _ w (c .before .before .before .before .before .before .before .before .before .before .before .before .image-size .ensures) in
+    (w .few-curves, omega arith, sketch-slots (c .before .before .before .before .before .before .before .before .before .before .before .before .before .before .before .before .args .sk) _ (c .before .before .before .before .before .before .before .before .before .before .before .before .before .before .before .before .good .0))
 
 mul-write-relations : tie.Need-mul-write-relations
-mul-write-relations c = let w = ready (c .before .before .before .before .before .before .before .before .before .before .before .before .before .before .before .before .before .before .before .before .args .sk) (c .before .before .before .before .before .before .before .before .before .before .before .before .before .before .before .before .before .before .fault .ensures) (c .before .before .before .before .before .before .before .before .before .before .before .before .before .before .before .before .before .if1 .left) in omega arith
+mul-write-relations c = let w = ready (c .before .before .before .before .before .before .before .before .before .before .before .before .before .before .before .before .before .before .before .before .before .args .sk) (c .before .before .before .before .before .before .before .before .before .before .before .before .before .before .before .before .before .before .before .fault .ensures) (c .before .before .before .before .before .before .before .before .before .before .before .before .before .before .before .before .before .before .if1 .left) in omega arith
 
 add-write-relations : tie.Need-add-write-relations
-add-write-relations c = let w = ready (c .before .before .before .before .before .before .before .before .before .before .before .before .before .before .before .before .before .before .before .before .args .sk) (c .before .before .before .before .before .before .before .before .before .before .before .before .before .before .before .before .before .before .fault .ensures) (c .before .before .before .before .before .before .before .before .before .before .before .before .before .before .before .before .before .if1 .left) in omega arith
+add-write-relations c = let w = ready (c .before .before .before .before .before .before .before .before .before .before .before .before .before .before .before .before .before .before .before .before .before .args .sk) (c .before .before .before .before .before .before .before .before .before .before .before .before .before .before .before .before .before .before .before .fault .ensures) (c .before .before .before .before .before .before .before .before .before .before .before .before .before .before .before .before .before .before .if1 .left) in omega arith
 
 mul-write-relations-2 : tie.Need-mul-write-relations-2
-mul-write-relations-2 c = let w = ready (c .before .before .before .before .before .before .before .before .before .before .before .before .before .before .before .before .before .before .before .before .args .sk) (c .before .before .before .before .before .before .before .before .before .before .before .before .before .before .before .before .before .before .fault .ensures) (c .before .before .before .before .before .before .before .before .before .before .before .before .before .before .before .before .before .if1 .left) in omega arith
+mul-write-relations-2 c = let w = ready (c .before .before .before .before .before .before .before .before .before .before .before .before .before .before .before .before .before .before .before .before .before .args .sk) (c .before .before .before .before .before .before .before .before .before .before .before .before .before .before .before .before .before .before .before .fault .ensures) (c .before .before .before .before .before .before .before .before .before .before .before .before .before .before .before .before .before .before .if1 .left) in omega arith
 
 add-write-relations-2 : tie.Need-add-write-relations-2
-add-write-relations-2 c = let w = ready (c .before .before .before .before .before .before .before .before .before .before .before .before .before .before .before .before .before .before .before .before .args .sk) (c .before .before .before .before .before .before .before .before .before .before .before .before .before .before .before .before .before .before .fault .ensures) (c .before .before .before .before .before .before .before .before .before .before .before .before .before .before .before .before .before .if1 .left) in omega arith
+add-write-relations-2 c = let w = ready (c .before .before .before .before .before .before .before .before .before .before .before .before .before .before .before .before .before .before .before .before .before .args .sk) (c .before .before .before .before .before .before .before .before .before .before .before .before .before .before .before .before .before .before .before .fault .ensures) (c .before .before .before .before .before .before .before .before .before .before .before .before .before .before .before .before .before .before .if1 .left) in omega arith
 
 write-relations-requires : tie.Need-write-relations-requires
 write-relations-requires c κs =
-    let w = ready (c .before .before .before .before .before .before .before .before .before .before .before .before .before .before .before .before .before .before .before .before .args .sk) (c .before .before .before .before .before .before .before .before .before .before .before .before .before .before .before .before .before .before .fault .ensures) (c .before .before .before .before .before .before .before .before .before .before .before .before .before .before .before .before .before .if1 .left) in
+    let w = ready (c .before .before .before .before .before .before .before .before .before .before .before .before .before .before .before .before .before .before .before .before .before .args .sk) (c .before .before .before .before .before .before .before .before .before .before .before .before .before .before .before .before .before .before .before .fault .ensures) (c .before .before .before .before .before .before .before .before .before .before .before .before .before .before .before .before .before .before .if1 .left) in
     let z = c .before .before .before .before .before .before .before .before .before .before .before .before .before .before .before .before .if2 .left in
+    let y = ready-size _ w (c .before .before .before .before .before .before .before .before .before .before .before .before .before .before .before .before .before .image-size .ensures) in
     (w .few-relations, omega arith)
 
 same-length : tie.Need-same-length
 same-length c = search needs
 
 returns-3 : tie.Need-returns-3
-returns-3 c = wrote (c .before .before .before .before .before .before .before .before .before .before .before .before .before .before .before .before .before .before .before .before .before .before .before .args .sk) (c .before .before .before .before .before .before .before .before .before .before .before .before .before .before .before .before .before .before .before .before .before .before .before .args .buf .now) (c .before .before .before .before .before .before .before .before .before .before .before .before .before .before .before .before .before .before .before .before .before .fault .ensures) (c .before .before .before .before .before .before .before .before .before .before .before .before .before .before .before .before .before .before .before .before .if1 .left) (sym (length-map (c .before .before .before .before .before .before .before .before .before .before .before .before .before .before .before .before .before .before .before .before .before .before .before .args .sk .points) _) ∙ c .before .before .before .before .before .before .before .before .before .before .before .before .before .before .before .before .before .before .before .before .before .before .before .good .0 .1 .1 .1 .1 .1 .1 .0 .1 .0 .1) (sym (length-map (c .before .before .before .before .before .before .before .before .before .before .before .before .before .before .before .before .before .before .before .before .before .before .before .args .sk .curves) _) ∙ c .before .before .before .before .before .before .before .before .before .before .before .before .before .before .before .before .before .before .before .before .before .before .before .good .0 .1 .1 .1 .1 .1 .1 .1 .0 .1 .0 .1) (sym (length-map (c .before .before .before .before .before .before .before .before .before .before .before .before .before .before .before .before .before .before .before .before .before .before .before .args .sk .relations) _) ∙ c .before .before .before .before .before .before .before .before .before .before .before .before .before .before .before .before .before .before .before .before .before .before .before .good .0 .1 .1 .1 .1 .1 .1 .1 .1 .0 .1 .0 .1) (c .before .before .before .before .before .before .before .before .before .before .before .before .before .before .before .before .before .before .before .if2 .left) (c .before .before .before .before .before .before .before .before .before .before .before .before .before .before .before .before .before .write-header .ensures) (c .before .before .before .before .before .before .before .before .before .before .before .before .write-points .ensures) (c .before .before .before .before .before .before .before .write-curves .ensures) (sketch-slots (c .before .before .before .before .before .before .before .before .before .before .before .before .before .before .before .before .before .before .before .before .before .before .before .args .sk) _ (c .before .before .before .before .before .before .before .before .before .before .before .before .before .before .before .before .before .before .before .before .before .before .before .good .0)) (c .before .before .write-relations .ensures)
+returns-3 c = wrote (c .before .before .before .before .before .before .before .before .before .before .before .before .before .before .before .before .before .before .before .before .before .before .before .before .args .sk) (c .before .before .before .before .before .before .before .before .before .before .before .before .before .before .before .before .before .before .before .before .before .before .before .before .args .buf .now) (c .before .before .before .before .before .before .before .before .before .before .before .before .before .before .before .before .before .before .before .before .before .before .fault .ensures) (c .before .before .before .before .before .before .before .before .before .before .before .before .before .before .before .before .before .before .before .before .before .if1 .left) (sym (length-map (c .before .before .before .before .before .before .before .before .before .before .before .before .before .before .before .before .before .before .before .before .before .before .before .before .args .sk .points) _) ∙ c .before .before .before .before .before .before .before .before .before .before .before .before .before .before .before .before .before .before .before .before .before .before .before .before .good .0 .1 .1 .1 .1 .1 .1 .0 .1 .0 .1) (sym (length-map (c .before .before .before .before .before .before .before .before .before .before .before .before .before .before .before .before .before .before .before .before .before .before .before .before .args .sk .curves) _) ∙ c .before .before .before .before .before .before .before .before .before .before .before .before .before .before .before .before .before .before .before .before .before .before .before .before .good .0 .1 .1 .1 .1 .1 .1 .1 .0 .1 .0 .1) (sym (length-map (c .before .before .before .before .before .before .before .before .before .before .before .before .before .before .before .before .before .before .before .before .before .before .before .before .args .sk .relations) _) ∙ c .before .before .before .before .before .before .before .before .before .before .before .before .before .before .before .before .before .before .before .before .before .before .before .before .good .0 .1 .1 .1 .1 .1 .1 .1 .1 .0 .1 .0 .1) (c .before .before .before .before .before .before .before .before .before .before .before .before .before .before .before .before .before .before .before .before .image-size .ensures) (c .before .before .before .before .before .before .before .before .before .before .before .before .before .before .before .before .before .before .before .if2 .left) (c .before .before .before .before .before .before .before .before .before .before .before .before .before .before .before .before .before .write-header .ensures) (c .before .before .before .before .before .before .before .before .before .before .before .before .write-points .ensures) (c .before .before .before .before .before .before .before .write-curves .ensures) (sketch-slots (c .before .before .before .before .before .before .before .before .before .before .before .before .before .before .before .before .before .before .before .before .before .before .before .before .args .sk) _ (c .before .before .before .before .before .before .before .before .before .before .before .before .before .before .before .before .before .before .before .before .before .before .before .before .good .0)) (c .before .before .write-relations .ensures)
 
 pub write-spec : {M : Type 1} → statement M
 write-spec =
@@ -92,12 +80,7 @@ write-spec =
     (tie.spec
     fault-requires
     returns
-    mul-if2
-    add-if2
-    mul-if2-2
-    add-if2-2
-    mul-if2-3
-    add-if2-3
+    image-size-requires
     returns-2
     write-header-requires
     write-points-requires
