@@ -10,6 +10,8 @@ use shape::Shape;
 use sketch::CurveKind;
 use sketch::Id;
 ghost use mathlib.Core.Path.{_≡_};
+ghost use Rattle.geom.specs.Plane.{vec};
+ghost use Rattle.image.specs.Decode.{readPoint};
 ghost use Rattle.sketch_geometry.specs.Geometry.{nowhere};
 ghost use Rattle.sketch_geometry.specs.Positions.{PositionIn, PositionAfter, ShapeFrom};
 
@@ -20,6 +22,13 @@ fn nowhere() -> Vec2
     Vec2::new(0.0 / 0.0, 0.0 / 0.0)
 }
 
+// Where the point of a record lies.
+fn coordinates(r: &[u8]) -> Vec2
+    ensures { λ v. ⌜ v ≡ vec (readPoint (now (r .entry)) .x) (readPoint (now (r .entry)) .y) ⌝ }
+{
+    Vec2::new(read_x(r), read_y(r))
+}
+
 // The point with an id; `near` guesses its place.
 pub fn position_of<'a>(id: Id, points: &'a [u8], near: &'a [u16]) -> Vec2
     ensures { λ r. ⌜ PositionIn (now (points .entry)) id r ⌝ }
@@ -28,7 +37,7 @@ pub fn position_of<'a>(id: Id, points: &'a [u8], near: &'a [u16]) -> Vec2
     if r.len() < POINT_SIZE {
         return nowhere();
     }
-    Vec2::new(read_x(r), read_y(r))
+    coordinates(r)
 }
 
 // The point with an id, once a point has moved.
@@ -40,12 +49,12 @@ pub fn position_after<'a>(id: Id, points: &'a [u8], near: &'a [u16], moved: Move
         return nowhere();
     }
     match moved {
-        Moved::Nothing => Vec2::new(read_x(r), read_y(r)),
+        Moved::Nothing => coordinates(r),
         Moved::To(i, v) => {
             if i == id {
                 return v;
             }
-            Vec2::new(read_x(r), read_y(r))
+            coordinates(r)
         }
     }
 }
