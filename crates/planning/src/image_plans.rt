@@ -11,8 +11,10 @@ use cuts::image_cuts::bracket;
 use edit_plan::PinnedPoint;
 use edit_plan::Plan;
 use geom::Vec2;
+use image::read_kind;
 use rows::curve_at;
 use rows::curve_count;
+use rows::curve_record;
 use rows::curves_of;
 use rows::points_of;
 use shape::Shape;
@@ -44,9 +46,7 @@ fn has_freeform(image: &[u8]) -> bool
     let n = curve_count(curves);
     let mut i: usize = 0;
     while i < n {
-        let c = curve_at(curves, i);
-        let kind = c.kind;
-        if is_freeform(kind) {
+        if is_freeform(read_kind(curve_record(curves, i))) {
             return true;
         }
         i += 1;
