@@ -16,7 +16,7 @@ use shape::Crossings;
 use shape::Shape;
 
 // Whether the piece is a line that lies along the support, from a in its direction: both its ends are within 1e-9 of it.
-fn overlaps(a: Vec2, along: Direction, sh: Shape) -> bool
+pub fn overlaps(a: Vec2, along: Direction, sh: Shape) -> bool
     ensures { λ r. ⌜ r ≡ Defs.overlaps a along sh ⌝ }
 {
     let Shape::Line(p, q) = sh else {
@@ -31,7 +31,7 @@ fn overlaps(a: Vec2, along: Direction, sh: Shape) -> bool
 }
 
 // Whether q lies within the ends of the piece, but for 1e-10 of the parameter.
-fn on_piece(sh: Shape, q: Vec2) -> bool
+pub fn on_piece(sh: Shape, q: Vec2) -> bool
     ensures { λ r. ⌜ r ≡ onPiece sh q ⌝ }
 {
     let t = sh.param(q);
