@@ -44,17 +44,17 @@ pub fn position_of<'a>(id: Id, points: &'a [u8], near: &'a [u16]) -> Vec2
 pub fn position_after<'a>(id: Id, points: &'a [u8], near: &'a [u16], moved: Moved) -> Vec2
     ensures { λ r. ⌜ PositionAfter (now (points .entry)) moved id r ⌝ }
 {
-    let r = point_record_of(points, near, id);
-    if r.len() < POINT_SIZE {
-        return nowhere();
-    }
     match moved {
-        Moved::Nothing => coordinates(r),
+        Moved::Nothing => position_of(id, points, near),
         Moved::To(i, v) => {
             if i == id {
+                let r = point_record_of(points, near, id);
+                if r.len() < POINT_SIZE {
+                    return nowhere();
+                }
                 return v;
             }
-            coordinates(r)
+            position_of(id, points, near)
         }
     }
 }
