@@ -19,7 +19,7 @@ use rows::curves_of;
 use rows::points_of;
 use shape::Crossings;
 use shape::Shape;
-use shape::intersections_by;
+use shape::line_crossings;
 use sketch::Curve;
 use sketch::Id;
 use sketch_geometry::Outline;
@@ -157,7 +157,7 @@ pub fn nearest_hit<'a>(
                     if overlaps(a, along, bound) {
                         return SearchResult::Stopped(15);
                     }
-                    let all = intersections_by(Shape::Line(a, b), along, bound);
+                    let all = line_crossings(a, b, along, bound);
                     best = consider_all(a, b, atb, l, bound, all, other, best);
                 }
                 Outline::Freeform => {

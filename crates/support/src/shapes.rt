@@ -106,7 +106,7 @@ pub(crate) fn shape_hits_along<'a>(
     if overlaps(a, along, sh) {
         return Hits::Refused(15, budget);
     }
-    let all = shape::intersections_by(Shape::Line(a, b), along, sh);
+    let all = shape::line_crossings(a, b, along, sh);
     kept(sh, all, hx, hy, budget)
 }
 

@@ -33,7 +33,7 @@ use Rattle.rows.proofs.curve_count.Reads as curve-count-reads
 use Rattle.rows.proofs.curve_record.Reads as curve-record-reads
 use Rattle.rows.proofs.curves_of.Reads as curves-of-reads
 use Rattle.rows.proofs.points_of.Reads as points-of-reads
-use Rattle.shape.proofs.intersections_by.Reads as intersections-by-reads
+use Rattle.shape.proofs.line_crossings.Reads as line-crossings-reads
 use Rattle.sketch_geometry.proofs.positions.shape_of.Reads as shape-of-reads
 use Rattle.support.proofs.shapes.overlaps.Reads as overlaps-reads
 
@@ -97,8 +97,8 @@ overlaps-requires c κs = search needs
 returns : tie.Need-returns Inv-loop μ-loop
 returns c = λ e. let d = c .before .before .before .before .before in let at = d .before .before .before .before .before .before .before .before in let tables = at .before .before .before .before .before .before in let image = tables .before .before .before .before .args .image .now in let p = tables .before .points-of .ensures in let q = tables .curves-of .ensures in let ps = drawingOf image .points in let w = good-points image p q e in of-image image p q e _ _ _ (at .loop .inv .2) (row-stopped (tables .curves-of .result .now) (at .loop .inv .1 ps w) (d .before .before .before .before .before .before .before .loop-test .taken) (at .loop .inv .2) (ap readCurve (d .before .before .before .before .before .before .curve-record .ensures)) (λ z. d .before .before .before .before .if1 .taken (z ∙ sym (d .before .before .before .before .before .read-curve-id .ensures))) _ (shape-stops _ _ _ _ _ (at .loop .best) (at .loop .left) (at .before .before .before .normalized .ensures ∙ ap normalized (at .before .before .before .before .from-points .ensures)) (d .before .before .before .read-kind .ensures) (d .before .before .shape-of .ensures) (d .sh .given .1) (c .before .before .before .read-infinite .ensures) (c .before .before .boundary .ensures) (c .before .overlaps .ensures) (c .if2 .taken) ps w) refl)
 
-intersections-by-requires : tie.Need-intersections-by-requires Inv-loop μ-loop
-intersections-by-requires c κs = search needs
+line-crossings-requires : tie.Need-line-crossings-requires Inv-loop μ-loop
+line-crossings-requires c κs = search needs
 
 consider-all-requires : tie.Need-consider-all-requires Inv-loop μ-loop
 consider-all-requires c κs = let at = c .before .before .before .before .before .before .before .before .before .before .before .before .before .before in at .before .before .dist .ensures
@@ -107,7 +107,7 @@ loop-less : tie.Need-loop-less Inv-loop μ-loop
 loop-less c = search needs
 
 loop-again : tie.Need-loop-again Inv-loop μ-loop
-loop-again c = let d = c .before .before .before .before .before .before .before in let at = d .before .before .before .before .before .before .before .before in let tables = at .before .before .before .before .before .before in (omega (arith, at .loop .inv .0, d .before .before .before .before .before .before .before .loop-test .taken), (λ ps w. row-on (tables .curves-of .result .now) (at .loop .inv .1 ps w) (d .before .before .before .before .before .before .before .loop-test .taken) (at .loop .inv .2) (ap readCurve (d .before .before .before .before .before .before .curve-record .ensures)) (λ z. d .before .before .before .before .if1 .taken (z ∙ sym (d .before .before .before .before .before .read-curve-id .ensures))) _ (shape-continues _ _ _ _ _ (at .loop .best) (at .loop .left) (at .before .before .before .normalized .ensures ∙ ap normalized (at .before .before .before .before .from-points .ensures)) (d .before .before .before .read-kind .ensures) (d .before .before .shape-of .ensures) (d .sh .given .1) (c .before .before .before .before .before .read-infinite .ensures) (c .before .before .before .before .boundary .ensures) (c .before .before .before .overlaps .ensures) (c .before .before .if2 .left) (c .before .intersections-by .ensures) _ (d .before .before .before .before .before .read-curve-id .ensures) (c .consider-all .result) (c .consider-all .ensures) ps w) {best′ = c .consider-all .result} {left′ = at .loop .left} refl), at .loop .inv .2)
+loop-again c = let d = c .before .before .before .before .before .before .before in let at = d .before .before .before .before .before .before .before .before in let tables = at .before .before .before .before .before .before in (omega (arith, at .loop .inv .0, d .before .before .before .before .before .before .before .loop-test .taken), (λ ps w. row-on (tables .curves-of .result .now) (at .loop .inv .1 ps w) (d .before .before .before .before .before .before .before .loop-test .taken) (at .loop .inv .2) (ap readCurve (d .before .before .before .before .before .before .curve-record .ensures)) (λ z. d .before .before .before .before .if1 .taken (z ∙ sym (d .before .before .before .before .before .read-curve-id .ensures))) _ (shape-continues _ _ _ _ _ (at .loop .best) (at .loop .left) (at .before .before .before .normalized .ensures ∙ ap normalized (at .before .before .before .before .from-points .ensures)) (d .before .before .before .read-kind .ensures) (d .before .before .shape-of .ensures) (d .sh .given .1) (c .before .before .before .before .before .read-infinite .ensures) (c .before .before .before .before .boundary .ensures) (c .before .before .before .overlaps .ensures) (c .before .before .if2 .left) (c .before .line-crossings .ensures) _ (d .before .before .before .before .before .read-curve-id .ensures) (c .consider-all .result) (c .consider-all .ensures) ps w) {best′ = c .consider-all .result} {left′ = at .loop .left} refl), at .loop .inv .2)
 
 enum-told : tie.Need-enum-told Inv-loop μ-loop
 enum-told c = search needs
@@ -166,7 +166,7 @@ nearest-hit-spec =
     boundary-requires
     overlaps-requires
     returns
-    intersections-by-requires
+    line-crossings-requires
     consider-all-requires
     loop-less
     loop-again
