@@ -14,6 +14,7 @@ pub use layout::POINT_SIZE;
 pub use layout::RELATION_SIZE;
 pub use records::read_curve;
 pub use records::read_curve_id;
+pub use records::read_freeform;
 pub use records::read_infinite;
 pub use records::read_kind;
 pub use records::read_point;

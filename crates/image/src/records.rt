@@ -31,6 +31,7 @@ ghost use lib.Dec.{eqb};
 ghost use Rattle.big_endian.specs.Fields.{field};
 ghost use Rattle.sketch.specs.Lists.{ite};
 ghost use Rattle.sketch.specs.Drawing.{noSlots};
+ghost use Rattle.sketch.specs.Valid.{sortOf};
 ghost use Rattle.image.specs.Records.{curveKindAt, slotsOf, relationBy};
 ghost use Rattle.image.specs.Decode.{numberOrZero, readPoint, readCurve, readRelation};
 
@@ -104,6 +105,19 @@ pub fn read_kind(r: &[u8]) -> CurveKind
             get4(r, THIRD_SLOT_AT),
             number_at(r, CURVE_NUMBER_AT),
         ),
+    }
+}
+
+// Whether a curve is a Bézier curve or a conic, by its kind's byte alone.
+pub fn read_freeform(r: &[u8]) -> bool
+    ensures { λ v. ⌜ v ≡ eqb (sortOf (readCurve (now (r .entry)) .kind)) 3 ⌝ }
+{
+    let kind = get1(r, CURVE_KIND_AT);
+    match kind {
+        1 => false,
+        2 => false,
+        3 => false,
+        _ => true,
     }
 }
 

@@ -1,7 +1,4 @@
-use mathlib.Core.Path.{ap, _∙_}
-use lib.Dec.{eqb}
-use Rattle.sketch.specs.declared.CurveKind.{CurveKind}
-use Rattle.sketch.specs.Valid.{sortOf}
+use mathlib.Core.Path.{ap}
 use Rattle.image.specs.Decode.{readCurve}
 use Rattle.planning.proofs.ImageCurves.{PlainUpTo, plain-start, freeform-here, plain-on, plain-end}
 use Prim.Native.Nat.{_-_}
@@ -11,8 +8,7 @@ use Rattle.planning.proofs.image_plans.has_freeform.Statement.{statemen
 use Rattle.planning.proofs.image_plans.has_freeform.Tie as tie
 use Rattle.planning.proofs.image_plans.has_freeform.Reads as reads
 use Rattle.planning.proofs.image_plans.has_freeform.Lts as lts
-use Rattle.planning.proofs.image_plans.is_freeform.Reads as is-freeform-reads
-use Rattle.image.proofs.read_kind.Reads as read-kind-reads
+use Rattle.image.proofs.read_freeform.Reads as read-freeform-reads
 use Rattle.rows.proofs.curve_record.Reads as curve-record-reads
 use Rattle.rows.proofs.curve_count.Reads as curve-count-reads
 use Rattle.rows.proofs.curves_of.Reads as curves-of-reads
@@ -35,14 +31,11 @@ loop-holds c = plain-start _
 curve-record-requires : tie.Need-curve-record-requires Inv-loop μ-loop
 curve-record-requires c κs = search needs
 
-read-kind-requires : tie.Need-read-kind-requires Inv-loop μ-loop
-read-kind-requires c κs = search needs
-
-is-freeform-requires : tie.Need-is-freeform-requires Inv-loop μ-loop
-is-freeform-requires c κs = search needs
+read-freeform-requires : tie.Need-read-freeform-requires Inv-loop μ-loop
+read-freeform-requires c κs = search needs
 
 returns : tie.Need-returns Inv-loop μ-loop
-returns c = freeform-here _ (c .before .before .before .before .before .before .before .curves-of .ensures) (c .before .before .before .before .before .before .curve-count .ensures) (c .before .before .before .before .before .loop .i) (c .before .before .before .before .before .loop .inv) _ (ap readCurve (c .before .before .before .curve-record .ensures)) (c .before .before .before .before .loop-test .taken) (c .before .is-freeform .ensures ∙ ap (λ (k : CurveKind). eqb (sortOf k) 3) (c .before .before .read-kind .ensures)) (c .if1 .taken)
+returns c = freeform-here _ (c .before .before .before .before .before .before .curves-of .ensures) (c .before .before .before .before .before .curve-count .ensures) (c .before .before .before .before .loop .i) (c .before .before .before .before .loop .inv) _ (ap readCurve (c .before .before .curve-record .ensures)) (c .before .before .before .loop-test .taken) (c .before .read-freeform .ensures) (c .if1 .taken)
 
 add-i : tie.Need-add-i Inv-loop μ-loop
 add-i c = search needs
@@ -51,7 +44,7 @@ loop-less : tie.Need-loop-less Inv-loop μ-loop
 loop-less c = search needs
 
 loop-again : tie.Need-loop-again Inv-loop μ-loop
-loop-again c = plain-on _ (c .before .before .before .before .before .before .before .curves-of .ensures) (c .before .before .before .before .before .before .curve-count .ensures) (c .before .before .before .before .before .loop .i) (c .before .before .before .before .before .loop .inv) _ (ap readCurve (c .before .before .before .curve-record .ensures)) (c .before .before .before .before .loop-test .taken) (c .before .is-freeform .ensures ∙ ap (λ (k : CurveKind). eqb (sortOf k) 3) (c .before .before .read-kind .ensures)) (c .if1 .left)
+loop-again c = plain-on _ (c .before .before .before .before .before .before .curves-of .ensures) (c .before .before .before .before .before .curve-count .ensures) (c .before .before .before .before .loop .i) (c .before .before .before .before .loop .inv) _ (ap readCurve (c .before .before .curve-record .ensures)) (c .before .before .before .loop-test .taken) (c .before .read-freeform .ensures) (c .if1 .left)
 
 returns-2 : tie.Need-returns-2 Inv-loop μ-loop
 returns-2 c = plain-end _ (c .before .before .before .curves-of .ensures) (c .before .before .curve-count .ensures) (c .before .loop .i) (c .before .loop .inv) (c .loop-test .left)
@@ -66,8 +59,7 @@ has-freeform-spec =
     curve-count-requires
     loop-holds
     curve-record-requires
-    read-kind-requires
-    is-freeform-requires
+    read-freeform-requires
     returns
     add-i
     loop-less
