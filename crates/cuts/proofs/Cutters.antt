@@ -1,5 +1,5 @@
 -- The curves that may cut, one after the other, from an image's records. Assumes nothing.
-use mathlib.Core.Path.{_≡_, refl, sym, ap, _∙_}
+use mathlib.Core.Path.{_≡_, refl, sym, ap, ap₂, _∙_}
 use mathlib.Core.Bool.{Bool, true, false, not}
 use mathlib.Core.List.{List, [], _∷_, _++_, append-nil}
 use mathlib.Core.Option.{Option, some, none}
@@ -14,6 +14,7 @@ use borrow.Author.Tests.{eq-eqb, ne-eqb}
 use Rattle.shape.specs.declared.Shape.{Shape}
 use Rattle.sketch.specs.declared.Point.{Point}
 use Rattle.sketch.specs.declared.Curve.{Curve}
+use Rattle.sketch.specs.declared.CurveKind.{CurveKind}
 use Rattle.sketch.specs.Lists.{ite}
 use Rattle.sketch.specs.Blanks.{noCurve}
 use Rattle.sketch_geometry.specs.Geometry.{shapeOf}
@@ -107,24 +108,25 @@ module _ (points curves : List ℕ) (sh : Shape) (id n i : ℕ) (found : List Cu
   cuts-past-target q = λ ps cs u w l.
       up ps cs u w l ∙ ap (cutPoints sh) (sym (target-no-cutter ps cs id i (omega arith) (ap (λ (k : Curve). k .id) (sym (record-is w l)) ∙ q)))
 
-  module _ (o : Outline) (a : ShapeFrom points (v .kind) o) where
+  module _ (kind : CurveKind) (ek : kind ≡ v .kind) (o : Outline) (a : ShapeFrom points kind o) where
     answer-is : {ps : List Point} {cs : List Curve} → HoldsPoints ps points → HoldsCurves cs curves → n ≤ length cs → shapeOfOutline o ≡ shapeOf ps (getD cs i noCurve .kind)
-    answer-is {ps} u w l = a ps u ∙ ap (λ (k : Curve). shapeOf ps (k .kind)) (record-is w l)
+    answer-is {ps} u w l = a ps u ∙ ap (shapeOf ps) (ek ∙ ap (λ (k : Curve). k .kind) (record-is w l))
 
     pub cuts-past-freeform : o ≡ Freeform → CutsUpTo points curves sh id n (i + 1) found
     cuts-past-freeform e = λ ps cs u w l.
         up ps cs u w l ∙ ap (cutPoints sh) (sym (freeform-no-cutter ps cs id i (omega arith) (answered-none e (answer-is u w l))))
 
-    pub cuts-one-more : {s : Shape} → o ≡ Analytic s → (v .id ≡ id → ⊥) → (after : List Cut) → after ≡ cutsBy sh (record { id = v .id; infinite = v .infinite; shape = s }) found → CutsUpTo points curves sh id n (i + 1) after
+    pub cuts-one-more : {s : Shape} → o ≡ Analytic s → (by : ℕ) → by ≡ v .id → (by ≡ id → ⊥) → (infinite : Bool) → infinite ≡ v .infinite → (after : List Cut) → after ≡ cutsBy sh (record { id = by; infinite = infinite; shape = s }) found → CutsUpTo points curves sh id n (i + 1) after
     unfolding cutsAmong
-    cuts-one-more {s} e q after f = λ ps cs u w l.
+    cuts-one-more {s} e by eb q infinite ei after f = λ ps cs u w l.
         let k = getD cs i noCurve in
         let r = record-is w l in
         f
+        ∙ ap₂ (λ (x : ℕ) (y : Bool). cutsBy sh (record { id = x; infinite = y; shape = s }) found) eb ei
         ∙ ap (λ (x : Curve). cutsBy sh (record { id = x .id; infinite = x .infinite; shape = s }) found) r
         ∙ ap (cutsBy sh (record { id = k .id; infinite = k .infinite; shape = s })) (up ps cs u w l)
         ∙ sym (among-append sh (cuttersOf ps (others id (take i cs))) (record { id = k .id; infinite = k .infinite; shape = s } ∷ []) [])
-        ∙ ap (cutPoints sh) (sym (one-cutter ps cs id i (omega arith) s (answered-some e (answer-is u w l)) (λ z. q (ap (λ (x : Curve). x .id) r ∙ z))))
+        ∙ ap (cutPoints sh) (sym (one-cutter ps cs id i (omega arith) s (answered-some e (answer-is u w l)) (λ z. q (eb ∙ ap (λ (x : Curve). x .id) r ∙ z))))
 
 -- ---- the tables of an image
 

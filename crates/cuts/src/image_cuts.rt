@@ -9,8 +9,11 @@ use crate::bounded::slack;
 use crate::brackets::around;
 use crate::brackets::beside;
 use crate::gather::cuts_by;
-use rows::curve_at;
+use image::read_curve_id;
+use image::read_infinite;
+use image::read_kind;
 use rows::curve_count;
+use rows::curve_record;
 use rows::curves_of;
 use rows::points_of;
 use shape::Shape;
@@ -42,16 +45,16 @@ fn cuts_in<'a, 'b>(
     let mut found: usize = 0;
     let mut i: usize = 0;
     while i < n {
-        let c = curve_at(curves, i);
+        let r = curve_record(curves, i);
+        let other = read_curve_id(r);
         i += 1;
-        if c.id != id {
-            let kind = c.kind;
-            match shape_of(kind, points, near) {
+        if other != id {
+            match shape_of(read_kind(r), points, near) {
                 Outline::Freeform => {}
                 Outline::Analytic(shape) => {
                     let o = Cutter {
-                        id: c.id,
-                        infinite: c.infinite,
+                        id: other,
+                        infinite: read_infinite(r),
                         shape,
                     };
                     found = cuts_by(sh, d, slack, o, found, ts, px, py, who);

@@ -5,9 +5,13 @@ use geom::Vec2;
 use hit_search::Nearest;
 use hit_search::SearchResult;
 use hit_search::image_search::nearest_hit;
+use image::read_curve;
+use image::read_curve_id;
+use image::read_kind;
 use planning::image_pins::pin_at;
 use rows::curve_at;
 use rows::curve_count;
+use rows::curve_record;
 use rows::curves_of;
 use rows::point_at;
 use rows::point_count;
@@ -20,10 +24,24 @@ use sketch_geometry::positions::position_of;
 ghost use mathlib.Core.Path.{_≡_};
 ghost use mathlib.Core.Bool.{cond};
 ghost use Rattle.sketch.specs.Lookup.{among};
+ghost use Rattle.sketch.specs.Drawing.{usesOf};
 ghost use Rattle.edit_plan.specs.Tables.{uses, others};
+ghost use Rattle.image.specs.Decode.{readCurve};
 ghost use Rattle.rows.specs.Rows.{curvesIn};
 ghost use Rattle.hit_search.specs.Values.{support};
 ghost use Rattle.extend.specs.ImageExtendContracts.{PlansMoveIn, PlansEndIn, PlansExtendIn};
+
+// Whether the curve of a record uses the point p. Slots are read only of a Bézier curve.
+fn record_uses(r: &[u8], p: Id) -> bool
+    ensures { λ x. ⌜ x ≡ among p (usesOf (readCurve (now (r .entry)) .kind) (readCurve (now (r .entry)) .slots)) ⌝ }
+{
+    match read_kind(r) {
+        CurveKind::Line(a, b) => (p == a) | (p == b),
+        CurveKind::Arc(o, a, b) => (p == o) | (p == a) | (p == b),
+        CurveKind::Circle(o, _) => p == o,
+        _ => curve_uses(read_curve(r), p),
+    }
+}
 
 // Whether a curve of the table, but for the one with an id, uses the point p.
 fn used_by_other(curves: &[u8], id: Id, p: Id) -> bool
@@ -32,10 +50,10 @@ fn used_by_other(curves: &[u8], id: Id, p: Id) -> bool
     let n = curve_count(curves);
     let mut i: usize = 0;
     while i < n {
-        let c = curve_at(curves, i);
+        let r = curve_record(curves, i);
         i += 1;
-        if id != c.id {
-            if curve_uses(c, p) {
+        if id != read_curve_id(r) {
+            if record_uses(r, p) {
                 return true;
             }
         }

@@ -23,7 +23,11 @@ use Rattle.hit_search.specs.NearestHit.{Support, Best, Search, stopped, 
 use Rattle.hit_search.specs.Values.{bestIn}
 use Rattle.hit_search.specs.Contracts.{resumed}
 use Rattle.hit_search.proofs.OtherCurves.{curve-row, all-curves}
-use Rattle.hit_search.proofs.CurveHits.{Sweep, sweep-past, sweep-stopped, sweep-on}
+use Rattle.hit_search.proofs.CurveHits.{Sweep, sweep-start, sweep-past, sweep-stopped, sweep-on}
+
+-- before the first record nothing is found
+pub begun : (ps : List Point) (s : Support) (foot : Vec2) (id : ℕ) (cs : List Curve) (n : ℕ) {best : Option Best} → best ≡ none → Sweep ps s foot id cs n 0 best 1000000
+begun ps s foot id cs n e = rw e (sweep-start ps s foot id cs n)
 
 -- ---- one record more
 

@@ -2,4 +2,5 @@
 pub mod OtherCurves
 pub mod NearestHit
 pub mod CurveHits
+pub mod ShapeSearch
 pub mod ImageSearch

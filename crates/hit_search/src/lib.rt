@@ -13,12 +13,13 @@ struct Controls {
     ys: [f64; 8],
 }
 
-// The nearest hit so far, if there is one: how far beyond the end it lies, where, on which curve, and whether another lies as near.
+// The nearest hit so far, if there is one: how far beyond the end it lies, where, on which curve, and whether another lies as near. The
+// flags stand last: a gap behind a first one is copied with it, byte by byte.
 pub struct Nearest {
-    pub found: bool,
     pub gap: f64,
     pub at: Vec2,
     pub by: Id,
+    pub found: bool,
     pub tied: bool,
 }
 

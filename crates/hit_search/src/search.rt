@@ -74,7 +74,15 @@ fn better(gap: f64, q: Vec2, by: Id, best: Nearest) -> Nearest
 }
 
 // Only what lies more than 1e-6 beyond the end counts.
-fn consider(a: Vec2, b: Vec2, atb: bool, l: f64, q: Vec2, by: Id, best: Nearest) -> Nearest
+pub(crate) fn consider(
+    a: Vec2,
+    b: Vec2,
+    atb: bool,
+    l: f64,
+    q: Vec2,
+    by: Id,
+    best: Nearest,
+) -> Nearest
     requires { ⌜ l ≡ distance a b ⌝ }
     ensures { λ r. ⌜ bestIn r ≡ cond (lt 1e-6 (gapOf (support a b atb) q)) (E.better (gapOf (support a b atb) q) q by (bestIn best)) (bestIn best) ⌝ }
 {

@@ -11,7 +11,7 @@ use lib.Ieee.{Float, nanBits, binary64}
 use borrow.Author.Tests.{eq-eqb, ne-eqb, eqb-true, eqb-false, le-leb, lt-leb}
 use Rattle.big_endian.specs.Fields.{field}
 use Rattle.big_endian.specs.Laws.{field-split}
-use Rattle.sketch.specs.Lists.{every}
+use Rattle.sketch.specs.Lists.{ite, every}
 use Rattle.sketch.specs.declared.CurveKind.the-variants.{Line, Arc, Circle, Bezier, Conic}
 use Rattle.sketch.specs.Valid.{okNumber, okRadius, okRho, inSlots, sortOf}
 use Rattle.image.specs.Records.{floatAt, slotsOf, idsAt, usedSlots, curveFields, kindOf, curveOf}
@@ -154,3 +154,12 @@ module _ (r : List ℕ) where
 
     pub bezier-slots : k ≡ 4 → slotsOf r ≡ curveOf r .slots
     bezier-slots h = rw (← e, h)
+
+-- a kind's byte that is none of a line's, an arc's and a circle's is a freeform curve's
+pub freeform-sort : (kind degree : ℕ) (s : List ℕ) (v : Float) → (kind ≡ 1 → ⊥) → (kind ≡ 2 → ⊥) → (kind ≡ 3 → ⊥) → true ≡ eqb (sortOf (kindOf kind degree s v)) 3
+unfolding kindOf sortOf
+freeform-sort kind degree s v a b c = rw (ne-eqb kind 1 a, ne-eqb kind 2 b, ne-eqb kind 3 c) (go (eqb kind 4))
+  where
+    go : (t : Bool) → true ≡ eqb (sortOf (ite t (Bezier degree) (Conic (getD s 0 0) (getD s 1 0) (getD s 2 0) v))) 3
+    go true = refl
+    go false = refl

@@ -28,9 +28,11 @@ use sketch::Point;
 use sketch::Relation;
 ghost use mathlib.Core.Path.{_≡_};
 ghost use lib.Dec.{eqb};
+ghost use Rattle.big_endian.specs.Fields.{field};
 ghost use Rattle.sketch.specs.Lists.{ite};
 ghost use Rattle.sketch.specs.Drawing.{noSlots};
-ghost use Rattle.image.specs.Records.{slotsOf, kindOf, relationBy};
+ghost use Rattle.sketch.specs.Valid.{sortOf};
+ghost use Rattle.image.specs.Records.{curveKindAt, slotsOf, relationBy};
 ghost use Rattle.image.specs.Decode.{numberOrZero, readPoint, readCurve, readRelation};
 
 // The number at a place; 0 for a NaN's bits, of which no float is made.
@@ -42,6 +44,19 @@ fn number_at(r: &[u8], at: usize) -> f64
         return f64::from_bits(bits);
     }
     0.0
+}
+
+// A point's coordinates.
+pub fn read_x(r: &[u8]) -> f64
+    ensures { λ v. ⌜ v ≡ readPoint (now (r .entry)) .x ⌝ }
+{
+    number_at(r, POINT_X_AT)
+}
+
+pub fn read_y(r: &[u8]) -> f64
+    ensures { λ v. ⌜ v ≡ readPoint (now (r .entry)) .y ⌝ }
+{
+    number_at(r, POINT_Y_AT)
 }
 
 pub fn read_point(r: &[u8]) -> Point
@@ -70,37 +85,72 @@ fn slots_at(r: &[u8]) -> [Id; 8]
     ]
 }
 
-// The kind by its byte.
-fn kind_of(kind: u8, degree: u8, s: [Id; 8], v: f64) -> CurveKind
-    ensures { λ r. ⌜ r ≡ kindOf kind degree s v ⌝ }
+// A curve's kind, by its byte. Only the slots that the kind has are read.
+pub fn read_kind(r: &[u8]) -> CurveKind
+    ensures { λ v. ⌜ v ≡ readCurve (now (r .entry)) .kind ⌝ }
 {
+    let kind = get1(r, CURVE_KIND_AT);
     match kind {
-        1 => CurveKind::Line(s[0], s[1]),
-        2 => CurveKind::Arc(s[0], s[1], s[2]),
-        3 => CurveKind::Circle(s[0], v),
-        4 => CurveKind::Bezier(degree),
-        _ => CurveKind::Conic(s[0], s[1], s[2], v),
+        1 => CurveKind::Line(get4(r, SLOTS_AT), get4(r, SECOND_SLOT_AT)),
+        2 => CurveKind::Arc(
+            get4(r, SLOTS_AT),
+            get4(r, SECOND_SLOT_AT),
+            get4(r, THIRD_SLOT_AT),
+        ),
+        3 => CurveKind::Circle(get4(r, SLOTS_AT), number_at(r, CURVE_NUMBER_AT)),
+        4 => CurveKind::Bezier(get1(r, DEGREE_AT)),
+        _ => CurveKind::Conic(
+            get4(r, SLOTS_AT),
+            get4(r, SECOND_SLOT_AT),
+            get4(r, THIRD_SLOT_AT),
+            number_at(r, CURVE_NUMBER_AT),
+        ),
+    }
+}
+
+// Whether a curve is a Bézier curve or a conic, by its kind's byte alone.
+pub fn read_freeform(r: &[u8]) -> bool
+    ensures { λ v. ⌜ v ≡ eqb (sortOf (readCurve (now (r .entry)) .kind)) 3 ⌝ }
+{
+    let kind = get1(r, CURVE_KIND_AT);
+    match kind {
+        1 => false,
+        2 => false,
+        3 => false,
+        _ => true,
     }
 }
 
 // Only a Bézier curve keeps the slots beside its kind.
-fn kept_slots(kind: u8, s: [Id; 8]) -> [Id; 8]
-    ensures { λ r. ⌜ r ≡ ite (eqb kind 4) s noSlots ⌝ }
+fn kept_slots(r: &[u8]) -> [Id; 8]
+    ensures { λ v. ⌜ v ≡ ite (eqb (field (now (r .entry)) curveKindAt 1) 4) (slotsOf (now (r .entry))) noSlots ⌝ }
 {
-    if kind == 4 {
-        return s;
+    if get1(r, CURVE_KIND_AT) == 4 {
+        return slots_at(r);
     }
     [0, 0, 0, 0, 0, 0, 0, 0]
+}
+
+// A curve's id.
+pub fn read_curve_id(r: &[u8]) -> Id
+    ensures { λ v. ⌜ v ≡ readCurve (now (r .entry)) .id ⌝ }
+{
+    get4(r, 0)
+}
+
+// Whether a curve is an infinite line.
+pub fn read_infinite(r: &[u8]) -> bool
+    ensures { λ v. ⌜ v ≡ readCurve (now (r .entry)) .infinite ⌝ }
+{
+    get1(r, CURVE_FLAGS_AT) / 4 % 2 == 1
 }
 
 pub fn read_curve(r: &[u8]) -> Curve
     ensures { λ v. ⌜ v ≡ readCurve (now (r .entry)) ⌝ }
 {
-    let s = slots_at(r);
-    let byte = get1(r, CURVE_KIND_AT);
     let flags = get1(r, CURVE_FLAGS_AT);
-    let kind = kind_of(byte, get1(r, DEGREE_AT), s, number_at(r, CURVE_NUMBER_AT));
-    let slots = kept_slots(byte, s);
+    let kind = read_kind(r);
+    let slots = kept_slots(r);
     Curve {
         id: get4(r, 0),
         construction: flags % 2 == 1,

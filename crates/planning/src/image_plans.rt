@@ -11,8 +11,10 @@ use cuts::image_cuts::bracket;
 use edit_plan::PinnedPoint;
 use edit_plan::Plan;
 use geom::Vec2;
+use image::read_freeform;
 use rows::curve_at;
 use rows::curve_count;
+use rows::curve_record;
 use rows::curves_of;
 use rows::points_of;
 use shape::Shape;
@@ -21,20 +23,8 @@ use sketch::CurveKind;
 use sketch::Id;
 use sketch_geometry::Outline;
 use sketch_geometry::positions::shape_of;
-ghost use mathlib.Core.Path.{_≡_};
-ghost use lib.Dec.{eqb};
-ghost use Rattle.sketch.specs.Valid.{sortOf};
 ghost use Rattle.planning.specs.ImagePlans.{TrimIn, SplitIn};
 ghost use Rattle.planning.specs.ImageContracts.{FreeformIn, PinnedPointIn, TrimPlanIn, TrimsIn, SplitFullIn, SplitsIn};
-
-fn is_freeform(kind: CurveKind) -> bool
-    ensures { λ r. ⌜ r ≡ eqb (sortOf kind) 3 ⌝ }
-{
-    match kind {
-        CurveKind::Bezier(_) | CurveKind::Conic(_, _, _, _) => true,
-        _ => false,
-    }
-}
 
 // Whether one of the curves is a Bézier curve or a conic.
 fn has_freeform(image: &[u8]) -> bool
@@ -44,9 +34,7 @@ fn has_freeform(image: &[u8]) -> bool
     let n = curve_count(curves);
     let mut i: usize = 0;
     while i < n {
-        let c = curve_at(curves, i);
-        let kind = c.kind;
-        if is_freeform(kind) {
+        if read_freeform(curve_record(curves, i)) {
             return true;
         }
         i += 1;

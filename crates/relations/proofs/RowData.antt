@@ -1,22 +1,22 @@
 -- Curves read from an image's records, as far as relations measure them. Assumes nothing.
 use mathlib.Core.Path.{_≡_, ap, _∙_}
 use mathlib.Core.List.{List, [], _∷_}
-use Prim.Native.Nat.{ℕ, _/_, _≤_, _<_}
+use Prim.Native.Nat.{ℕ, _≤_, _<_}
 use native.Mathlib.Omega.{arith}
-use lib.ListN.{length, length-map}
+use lib.ListN.{length, getD}
 use lib.Ieee.{Float}
 use types.Run.{OneOf}
 use denote.Enum.Declared.{tagOf}
-use Rattle.sketch.specs.Lookup.{Found}
 use Rattle.sketch.specs.declared.Point.{Point}
 use Rattle.sketch.specs.declared.Curve.{Curve}
 use Rattle.sketch.specs.declared.CurveKind.{CurveKind}
 use Rattle.sketch.specs.declared.CurveKind.the-variants.{Line, Arc, Circle}
+use Rattle.sketch.specs.Blanks.{noCurve}
 use Rattle.sketch.proofs.CurveKind.{the-type}
 use Rattle.image.specs.Decode.{readCurve}
 use Rattle.image.specs.Records.{curveSize}
-use Rattle.rows.specs.Rows.{rowsIn, rowIn, idsIn, curvesIn, HoldsCurves}
-use Rattle.rows.proofs.Rows.{length-rows-in}
+use Rattle.rows.specs.Rows.{HoldsCurves, RecordOf}
+use Rattle.rows.proofs.RecordById.{record-there, record-missing}
 use Rattle.rows.proofs.Holds.{held-curve, curve-here, curve-missing}
 use Rattle.sketch_geometry.specs.Geometry.{positionOf, shapeOf, shapeFrom, shapeIn}
 use Rattle.sketch_geometry.proofs.Shapes.{of-freeform}
@@ -45,19 +45,16 @@ module _ (ps : List Point) (s : CurveData) (kind : CurveKind) where
 
 -- ---- by id
 
-module _ {cs : List Curve} {curves : List ℕ} (w : HoldsCurves cs curves) {id k n : ℕ} (f : Found id (idsIn curveSize curves) k) (e : n ≡ length (curvesIn curves)) (ps : List Point) (s : CurveData) where
-  as-many : n ≡ length curves / curveSize
-  as-many = e ∙ length-map (rowsIn curveSize curves) readCurve ∙ length-rows-in curveSize curves
-
-  pub data-there : {c : Curve} → k < n → c ≡ readCurve (rowIn curveSize curves k) → wholeOf s ≡ whole (shapeOf ps (c .kind)) → wholeOf s ≡ whole (shapeIn ps cs id)
+module _ {cs : List Curve} {curves : List ℕ} (w : HoldsCurves cs curves) {id : ℕ} {r : List ℕ} (f : RecordOf curveSize curves id r) (ps : List Point) (s : CurveData) where
+  pub data-there : {kind : CurveKind} → curveSize ≤ length r → kind ≡ readCurve r .kind → wholeOf s ≡ whole (shapeOf ps kind) → wholeOf s ≡ whole (shapeIn ps cs id)
   unfolding shapeFrom
   data-there q u h =
-      let l : k < length curves / curveSize = omega (arith, as-many) in
-      let g = u ∙ held-curve w k l in
-      h ∙ rw (g, curve-here w f l)
+      let l = record-there curveSize curves id f (omega arith) q in
+      let g : readCurve r ≡ getD cs (f .place) noCurve = ap readCurve (f .is) ∙ held-curve w (f .place) l in
+      h ∙ ap (λ (k : CurveKind). whole (shapeOf ps k)) (u ∙ ap (λ (c : Curve). c .kind) g) ∙ rw (curve-here w (f .found) l)
 
-  pub data-missing : n ≤ k → s .kind ≡ 0 → wholeOf s ≡ whole (shapeIn ps cs id)
+  pub data-missing : length r < curveSize → s .kind ≡ 0 → wholeOf s ≡ whole (shapeIn ps cs id)
   unfolding shapeFrom whole
   data-missing q h =
-      let l : length curves / curveSize ≤ k = omega (arith, as-many) in
-      whole-none s (λ z. omega arith) (λ z. omega arith) (λ z. omega arith) ∙ rw (curve-missing w f l)
+      let l = record-missing curveSize curves id f q in
+      whole-none s (λ z. omega arith) (λ z. omega arith) (λ z. omega arith) ∙ rw (curve-missing w (f .found) l)

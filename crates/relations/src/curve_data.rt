@@ -1,9 +1,9 @@
 // What relations measure of a curve, straight from an image's records, once a point has moved.
 use crate::CurveData;
 use geom::Vec2;
-use rows::curve_at;
-use rows::curve_count;
-use rows::curve_place;
+use image::CURVE_SIZE;
+use image::read_kind;
+use rows::curve_record_of;
 use sketch::CurveKind;
 use sketch::Id;
 use sketch_geometry::Moved;
@@ -63,11 +63,9 @@ pub(crate) fn curve_data<'a>(
 ) -> CurveData
     ensures { λ r. ⌜ DataOf (now (points .entry)) (now (curves .entry)) moved id r ⌝ }
 {
-    let k = curve_place(curves, near, id);
-    if k < curve_count(curves) {
-        let c = curve_at(curves, k);
-        let kind = c.kind;
-        return data_of_kind(kind, points, near, moved);
+    let r = curve_record_of(curves, near, id);
+    if r.len() < CURVE_SIZE {
+        return unmeasured(0);
     }
-    unmeasured(0)
+    data_of_kind(read_kind(r), points, near, moved)
 }

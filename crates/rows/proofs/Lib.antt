@@ -1,3 +1,4 @@
+pub mod RecordById
 pub mod Rows
 pub mod RunBytes
 pub mod GoodTables

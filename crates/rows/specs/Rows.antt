@@ -7,7 +7,7 @@ use Rattle.big_endian.specs.Fields.{part}
 use Rattle.sketch.specs.declared.Point.{Point}
 use Rattle.sketch.specs.declared.Curve.{Curve}
 use Rattle.sketch.specs.declared.Relation.{Relation}
-use Rattle.sketch.specs.Lookup.{noted, Ascends}
+use Rattle.sketch.specs.Lookup.{noted, Ascends, Found}
 use Rattle.image.specs.Records.{pointSize, curveSize, relationSize}
 use Rattle.image.specs.Image.{headerSize, pointCount, curveCount, relationCount, curvesFrom, relationsFrom, rowsAt, rowId, imageFault}
 use Rattle.image.specs.Decode.{readPoint, readCurve, readRelation}
@@ -45,6 +45,12 @@ relationsIn t = map readRelation (rowsIn relationSize t)
 -- the ids that the records begin with
 abbrev pub idsIn : ℕ → List ℕ → List ℕ
 idsIn size t = map rowId (rowsIn size t)
+
+-- the record with an id: that at a place where a look-up finds it, an empty one where it is missing
+pub record RecordOf (size : ℕ) (t : List ℕ) (id : ℕ) (r : List ℕ) : Type 0 where
+  pub place : ℕ
+  pub found : Found id (idsIn size t) place
+  pub is : r ≡ rowIn size t place
 
 -- ---- tables that hold lists, whose ids rise
 

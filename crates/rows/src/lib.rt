@@ -9,9 +9,12 @@ mod tables;
 
 pub use faults::image_fault;
 pub use places::curve_place;
+pub use places::curve_record_of;
 pub use places::point_place;
+pub use places::point_record_of;
 pub use records::curve_at;
 pub use records::curve_count;
+pub use records::curve_record;
 pub use records::point_at;
 pub use records::point_count;
 pub use records::relation_at;

@@ -43,15 +43,22 @@ pub fn point_at(points: &[u8], i: usize) -> Point
     read_point(&points[..0])
 }
 
-pub fn curve_at(curves: &[u8], i: usize) -> Curve
-    ensures { λ v. ⌜ v ≡ readCurve (rowIn curveSize (now (curves .entry)) i) ⌝ }
+// A curve's record as it is, for a caller that needs a part of it.
+pub fn curve_record(curves: &[u8], i: usize) -> &[u8]
+    ensures { λ r. ⌜ now r ≡ rowIn curveSize (now (curves .entry)) i ⌝ }
 {
     if i < curves.len() / CURVE_SIZE {
         let at = i * CURVE_SIZE;
         let end = at + CURVE_SIZE;
-        return read_curve(&curves[at..end]);
+        return &curves[at..end];
     }
-    read_curve(&curves[..0])
+    &curves[..0]
+}
+
+pub fn curve_at(curves: &[u8], i: usize) -> Curve
+    ensures { λ v. ⌜ v ≡ readCurve (rowIn curveSize (now (curves .entry)) i) ⌝ }
+{
+    read_curve(curve_record(curves, i))
 }
 
 pub fn relation_at(relations: &[u8], i: usize) -> Relation

@@ -92,15 +92,22 @@ pub fn direction_of(sh: Shape) -> Direction
     }
 }
 
+// The crossings of the endless line through a and b, whose direction is given.
+pub fn line_crossings(a: Vec2, b: Vec2, d: Direction, other: Shape) -> Crossings
+    ensures { λ o. ⌜ o ≡ crossingsBy d (Shape.Line a b) other ⌝ }
+{
+    match other {
+        Shape::Line(p, q) => lines(a, Vec2::from_points(a, b), p, Vec2::from_points(p, q)),
+        Shape::Round(c, r, _, _) => line_and_round(a, d, c, r),
+    }
+}
+
 // The crossings, given the direction of the first where it is a line.
 pub fn intersections_by(sh: Shape, d: Direction, other: Shape) -> Crossings
     ensures { λ o. ⌜ o ≡ crossingsBy d sh other ⌝ }
 {
-    let Shape::Line(a, _) = sh else {
-        return intersections(sh, other);
-    };
-    let Shape::Round(c, r, _, _) = other else {
-        return intersections(sh, other);
-    };
-    line_and_round(a, d, c, r)
+    match sh {
+        Shape::Line(a, b) => line_crossings(a, b, d, other),
+        Shape::Round(_, _, _, _) => intersections(sh, other),
+    }
 }

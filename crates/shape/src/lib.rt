@@ -8,6 +8,7 @@ mod turning;
 pub use crossing::direction_of;
 pub use crossing::intersections;
 pub use crossing::intersections_by;
+pub use crossing::line_crossings;
 pub use turning::turn;
 
 // A line from one point to another; or a round, an arc or a circle: centre, radius, the turn at which it starts, and how far it sweeps.

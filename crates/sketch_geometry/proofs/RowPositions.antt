@@ -55,6 +55,16 @@ module _ (i : ℕ) (v : Vec2) where
         go true e w = let q : i ≡ p .id → ⊥ = (λ z. n (z ∙ sym (eqb-true id (p .id) e))) in rw (ne-eqb i (p .id) q)
         go false e w = w
 
+-- every other point stays
+module _ (ps : List Point) (id : ℕ) {m : Moved} where
+  pub none-moved : m ≡ Nothing → positionOf ps id ≡ positionOf (pointsAfterMove m ps) id
+  unfolding pointsAfterMove
+  none-moved e = rw e
+
+  pub another-moved : {i : ℕ} {v : Vec2} → m ≡ To i v → (i ≡ id → ⊥) → positionOf ps id ≡ positionOf (pointsAfterMove m ps) id
+  unfolding pointsAfterMove
+  another-moved {i} {v} e h = rw e (sym (moved-other i v id h ps))
+
 -- ---- a point by its id
 
 module _ {ps : List Point} {points : List ℕ} (w : HoldsPoints ps points) {id k : ℕ} (f : Found id (idsIn pointSize points) k) where
@@ -69,19 +79,9 @@ module _ {ps : List Point} {points : List ℕ} (w : HoldsPoints ps points) {id k
     there : among id (pointIds ps) ≡ true
     there = among-at id (pointIds ps) k (rw (length-map ps (λ (p : Point). p .id)) within) (getD-mapped (λ (p : Point). p .id) 0 noPoint ps k within ∙ H.point-here w f q)
 
-    module _ {m : Moved} where
-      pub unmoved-row : m ≡ Nothing → vec (readPoint (rowIn pointSize points k) .x) (readPoint (rowIn pointSize points k) .y) ≡ positionOf (pointsAfterMove m ps) id
-      unfolding pointsAfterMove
-      unmoved-row e = rw e position-row
-
-      module _ {i : ℕ} {v : Vec2} (e : m ≡ To i v) where
-        pub moved-there : i ≡ id → v ≡ positionOf (pointsAfterMove m ps) id
-        unfolding pointsAfterMove
-        moved-there h = rw (e, h) (sym (moved-itself id v ps there))
-
-        pub other-row : (i ≡ id → ⊥) → vec (readPoint (rowIn pointSize points k) .x) (readPoint (rowIn pointSize points k) .y) ≡ positionOf (pointsAfterMove m ps) id
-        unfolding pointsAfterMove
-        other-row h = rw e (position-row ∙ sym (moved-other i v id h ps))
+    pub moved-there : {m : Moved} {i : ℕ} {v : Vec2} → m ≡ To i v → i ≡ id → v ≡ positionOf (pointsAfterMove m ps) id
+    unfolding pointsAfterMove
+    moved-there {v = v} e h = rw (e, h) (sym (moved-itself id v ps there))
 
   module _ (q : length points / pointSize ≤ k) where
     pub position-missing : nowhere ≡ positionOf ps id

@@ -3,16 +3,15 @@ use crate::Moved;
 use crate::Outline;
 use geom::Vec2;
 use image::POINT_SIZE;
-use rows::point_at;
-use rows::point_place;
+use image::read_x;
+use image::read_y;
+use rows::point_record_of;
 use shape::Shape;
 use sketch::CurveKind;
 use sketch::Id;
 ghost use mathlib.Core.Path.{_≡_};
 ghost use Rattle.geom.specs.Plane.{vec};
 ghost use Rattle.image.specs.Decode.{readPoint};
-ghost use Rattle.image.specs.Records.{pointSize};
-ghost use Rattle.rows.specs.Rows.{rowIn};
 ghost use Rattle.sketch_geometry.specs.Geometry.{nowhere};
 ghost use Rattle.sketch_geometry.specs.Positions.{PositionIn, PositionAfter, ShapeFrom};
 
@@ -23,40 +22,39 @@ fn nowhere() -> Vec2
     Vec2::new(0.0 / 0.0, 0.0 / 0.0)
 }
 
-// The point at a place.
-fn position_at(points: &[u8], k: usize) -> Vec2
-    ensures { λ r. ⌜ r ≡ vec (readPoint (rowIn pointSize (now (points .entry)) k) .x) (readPoint (rowIn pointSize (now (points .entry)) k) .y) ⌝ }
+// Where the point of a record lies.
+fn coordinates(r: &[u8]) -> Vec2
+    ensures { λ v. ⌜ v ≡ vec (readPoint (now (r .entry)) .x) (readPoint (now (r .entry)) .y) ⌝ }
 {
-    let p = point_at(points, k);
-    Vec2::new(p.x, p.y)
+    Vec2::new(read_x(r), read_y(r))
 }
 
 // The point with an id; `near` guesses its place.
 pub fn position_of<'a>(id: Id, points: &'a [u8], near: &'a [u16]) -> Vec2
     ensures { λ r. ⌜ PositionIn (now (points .entry)) id r ⌝ }
 {
-    let k = point_place(points, near, id);
-    if k < points.len() / POINT_SIZE {
-        return position_at(points, k);
+    let r = point_record_of(points, near, id);
+    if r.len() < POINT_SIZE {
+        return nowhere();
     }
-    nowhere()
+    coordinates(r)
 }
 
 // The point with an id, once a point has moved.
 pub fn position_after<'a>(id: Id, points: &'a [u8], near: &'a [u16], moved: Moved) -> Vec2
     ensures { λ r. ⌜ PositionAfter (now (points .entry)) moved id r ⌝ }
 {
-    let k = point_place(points, near, id);
-    if points.len() / POINT_SIZE <= k {
-        return nowhere();
-    }
     match moved {
-        Moved::Nothing => position_at(points, k),
+        Moved::Nothing => position_of(id, points, near),
         Moved::To(i, v) => {
             if i == id {
+                let r = point_record_of(points, near, id);
+                if r.len() < POINT_SIZE {
+                    return nowhere();
+                }
                 return v;
             }
-            position_at(points, k)
+            position_of(id, points, near)
         }
     }
 }

@@ -6,7 +6,7 @@ mod distance;
 mod freeform;
 mod points;
 pub mod search;
-mod shapes;
+pub mod shapes;
 
 pub use boundary::endless;
 

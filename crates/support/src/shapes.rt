@@ -16,7 +16,7 @@ use shape::Crossings;
 use shape::Shape;
 
 // Whether the piece is a line that lies along the support, from a in its direction: both its ends are within 1e-9 of it.
-fn overlaps(a: Vec2, along: Direction, sh: Shape) -> bool
+pub fn overlaps(a: Vec2, along: Direction, sh: Shape) -> bool
     ensures { λ r. ⌜ r ≡ Defs.overlaps a along sh ⌝ }
 {
     let Shape::Line(p, q) = sh else {
@@ -31,7 +31,7 @@ fn overlaps(a: Vec2, along: Direction, sh: Shape) -> bool
 }
 
 // Whether q lies within the ends of the piece, but for 1e-10 of the parameter.
-fn on_piece(sh: Shape, q: Vec2) -> bool
+pub fn on_piece(sh: Shape, q: Vec2) -> bool
     ensures { λ r. ⌜ r ≡ onPiece sh q ⌝ }
 {
     let t = sh.param(q);
@@ -106,7 +106,7 @@ pub(crate) fn shape_hits_along<'a>(
     if overlaps(a, along, sh) {
         return Hits::Refused(15, budget);
     }
-    let all = shape::intersections_by(Shape::Line(a, b), along, sh);
+    let all = shape::line_crossings(a, b, along, sh);
     kept(sh, all, hx, hy, budget)
 }
 
