@@ -1,5 +1,6 @@
 // Worked examples that no theorem states, run on the engine.
 use bernstein::Roots;
+use image::MAX_IMAGE_SIZE;
 use libc::STDOUT_FILENO;
 use message::MESSAGE_SIZE;
 use message::Operation;
@@ -42,12 +43,14 @@ fn extend(words: &[u8], path: &[u8], x: f64, y: f64) {
         return;
     }
     let mut bytes = [0u8; IMAGE];
+    let mut buffer = [0u8; MAX_IMAGE_SIZE];
     let mut message = [0u8; MESSAGE_SIZE];
     let n = io::read_full(fd, &mut bytes);
     libc::close(fd);
-    let started = replication::start(&bytes[..n]);
+    let started = replication::start(&bytes[..n], &mut buffer);
     let replica = started.replica;
-    let answer = replication::desk_edit(replica, Operation::Extend, 3, x, y, &mut message);
+    let extend = Operation::Extend;
+    let answer = replication::desk_edit(replica, &mut buffer, extend, 3, x, y, &mut message);
     let reply = answer.reply;
     io::write_all(STDOUT_FILENO, words);
     match reply {

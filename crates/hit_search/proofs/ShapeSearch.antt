@@ -22,7 +22,7 @@ use Rattle.rows.specs.Rows.{HoldsPoints}
 use Rattle.sketch_geometry.specs.declared.Outline.{Outline}
 use Rattle.sketch_geometry.specs.declared.Outline.the-variants.{Analytic}
 use Rattle.sketch_geometry.specs.Geometry.{shapeOf}
-use Rattle.sketch_geometry.specs.Columns.{shapeOfOutline}
+use Rattle.sketch_geometry.specs.Positions.{shapeOfOutline}
 use Rattle.sketch_geometry.specs.Positions.{ShapeFrom}
 use Rattle.support.specs.Hits as H
 use Rattle.support.specs.Hits.{onPiece, overlaps, shapeHits}
@@ -30,7 +30,7 @@ use Rattle.support.proofs.Answers.{overlapping-along, clear-along}
 use Rattle.hit_search.specs.declared.Nearest.{Nearest}
 use Rattle.hit_search.specs.declared.SearchStep.the-variants as L
 use Rattle.hit_search.specs.NearestHit.{Support, Best, Search, gapOf, better, boundary, bestOf, curveHits, continueWith, nearestHit}
-use Rattle.hit_search.specs.Columns.{support, bestIn}
+use Rattle.hit_search.specs.Values.{support, bestIn}
 use Rattle.hit_search.specs.ImageContracts.{SearchesCurveIn}
 use Rattle.hit_search.proofs.CurveHits.{meets-along}
 

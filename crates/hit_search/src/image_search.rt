@@ -2,7 +2,7 @@
 use crate::Nearest;
 use crate::SearchResult;
 use crate::SearchStep;
-use crate::curve_hits::boundary;
+use crate::boundaries::boundary;
 use crate::image_hits::curve_hits;
 use crate::search::BUDGET;
 use crate::search::best_along;
@@ -34,7 +34,7 @@ ghost use Rattle.sketch.specs.Lists.{keep};
 ghost use Rattle.shape.specs.Intersections.{points};
 ghost use Rattle.support.specs.Hits.{onPiece};
 ghost use Rattle.hit_search.specs.NearestHit.{bestOf};
-ghost use Rattle.hit_search.specs.Columns.{support, bestIn};
+ghost use Rattle.hit_search.specs.Values.{support, bestIn};
 ghost use Rattle.geom.specs.Plane.{_-ᵥ_, normalized, distance};
 ghost use Rattle.hit_search.specs.ImageContracts.{SearchesCurveIn};
 ghost use Rattle.hit_search.specs.ImageSearch.{FindsNearestHitIn};

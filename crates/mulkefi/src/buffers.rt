@@ -18,11 +18,7 @@ pub(crate) fn refusal(number: u8, place: usize) -> u32
 }
 
 // The count, the image's size and the report; the answer is 0.
-pub(crate) fn write_answer(
-    replica: Replica,
-    removed: Removed,
-    answer: &mut [AnswerField; 5],
-) -> u32
+pub(crate) fn write_answer(replica: Replica, removed: Removed, answer: &mut [AnswerField; 5]) -> u32
     requires { ⌜ replica .size ≤ maxImageSize ⌝ }
     ensures { λ r. ⌜ (r ≡ 0) × (now (answer .exit) ≡ answerWith (now (answer .entry)) (replica .count) (replica .size) removed) ⌝ }
 {

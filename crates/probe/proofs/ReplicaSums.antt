@@ -4,23 +4,31 @@ use mathlib.Core.List.{List}
 use Prim.Native.Nat.{ℕ, _+_, _%_, _^_, _≤_}
 use native.Mathlib.Omega.{arith}
 use lib.ListN.{length, take}
-use lib.Seq.{take-all}
+use lib.Seq.{take-all, take-at}
 use lib.Ieee.{Float}
-use Rattle.sketch.specs.Drawing.{Drawing}
-use Rattle.image.specs.Image.{drawingOf}
+use Rattle.big_endian.specs.Fields.{over, overIfFits}
+use Rattle.big_endian.specs.Laws.{Bytes, over-fits, length-over}
+use Rattle.sketch.specs.Drawing.{Drawing, limits}
+use Rattle.sketch.proofs.Facts.{fault-valid}
+use Rattle.image.specs.Image as I
+use Rattle.image.specs.Image.{drawingOf, imageFault, maxImageSize, parse}
+use Rattle.image.proofs.RoundTrips.{result-none, valid}
+use Rattle.sketch_image.specs.SketchImage.{drawingIn}
 use Rattle.message.specs.Message.{operationOf}
 use Rattle.message.specs.declared.Operation.{Operation}
 use Rattle.edit_plan.specs.declared.Removed.{Removed}
 use Rattle.edit_plan.specs.Outcome.{Outcome, refused, accepted}
 use Rattle.agreement.specs.Machines as M
-use Rattle.agreement.specs.Machines.{State, stateAfter}
+use Rattle.agreement.specs.Machines.{State, stateAfter, DeskStepValid, WallStepValid}
 use Rattle.replication.specs.declared.DeskReply.{DeskReply}
 use Rattle.replication.specs.declared.DeskReply.the-variants as Desk
 use Rattle.replication.specs.declared.WallReply.{WallReply}
 use Rattle.replication.specs.declared.WallReply.the-variants as Wall
 use Rattle.replication.specs.Protocol.{Edit, protocol}
-use Rattle.replication.specs.Transitions.{deskReply, wallReply}
+use Rattle.replication.specs.Transitions.{Memory, memory, DeskCall, deskReply, deskStep, DeskEdits, WallCall, wallReply, wallStep, WallDelivers}
 use Rattle.replication.specs.Program.{programOutcome, WritesOutcome}
+use Rattle.replication.proofs.StartCases.{good-size}
+use Rattle.replication.proofs.Steps.{Holding, ready-by, desk-step, wall-step}
 use Rattle.probe.specs.Edits.{repeated}
 use Rattle.probe.specs.Replicas.{imageState, deskTally, deskAdds, wallTally, wallAdds}
 
@@ -84,19 +92,38 @@ module _ (reply : WallReply) where
       absurd (omega arith)
   wall-applied (s, M.wallApplied r) now gone q h g f = f ∙ ap (λ (x : State Drawing). (x .count + 256) % 2 ^ 32) g
 
--- ---- so many on one replica, with what an image gives
+-- ---- so many on one image
+
+-- an image put to a buffer's front is a replica's
+module _ (image : List ℕ) (are : Bytes image) (good : imageFault image ≡ 0) (count : ℕ) (b : List ℕ) (room : maxImageSize ≤ length b) (b′ : List ℕ) (put : b′ ≡ overIfFits b 0 image) where
+  abbrev found : Memory
+  found = memory (record { size = length image; count = count }) b′
+
+  held : Holding found (imageState image count)
+  unfolding over
+  held =
+      let l = good-size image good in
+      let fits : 0 + length image ≤ length b = omega (arith, l, room) in
+      let is : b′ ≡ over b 0 image = put ∙ over-fits b 0 image fits in
+      let front : take (length image) b′ ≡ image = ap (take (length image)) is ∙ take-at image _ (length image) refl in
+      let read = result-none (imageFault image) (drawingOf image) good in
+      let e : parse (take (length image) b′) ≡ I.accepted (drawingOf image) = ap parse front ∙ read in
+      let long : maxImageSize ≤ length b′ = subst (λ (n : ℕ). maxImageSize ≤ n) (sym (ap length is ∙ length-over b 0 image fits)) room in
+      record {
+        ready = ready-by found (drawingOf image) e (fault-valid limits (drawingOf image) (valid image (drawingOf image) are read)) long;
+        state = λ i. record { drawing = ap drawingIn e i; count = count };
+      }
+
+  pub desk-valid : (c : DeskCall) → DeskEdits found c → DeskStepValid protocol (imageState image count) (deskStep c)
+  desk-valid c w = subst (λ (s : State Drawing). DeskStepValid protocol s (deskStep c)) (held .state) (desk-step found (held .ready) c w .0)
+
+  pub wall-valid : (c : WallCall) → WallDelivers found c → WallStepValid protocol (imageState image count) (wallStep c)
+  wall-valid c w = subst (λ (s : State Drawing). WallStepValid protocol s (wallStep c)) (held .state) (wall-step found (held .ready) c w .0)
 
 pub desk-read :
-    (s : List ℕ) (count op t : ℕ) (x y : Float) (times : ℕ) {d : Drawing} {op′ : Operation} {n : ℕ} → d ≡ drawingOf s → op′ ≡ operationOf op
-    → n ≡ repeated times (deskAdds op′ t x y (record { drawing = d; count = count })) → n ≡ repeated times (deskAdds (operationOf op) t x y (imageState s count))
-desk-read s count op t x y times {d} {op′} v e q =
-    q ∙ ap (λ o. repeated times (deskAdds o t x y (record { drawing = d; count = count }))) e
-    ∙ ap (λ z. repeated times (deskAdds (operationOf op) t x y (record { drawing = z; count = count }))) v
-
-pub wall-read :
-    (s : List ℕ) (count : ℕ) (m : List ℕ) (times : ℕ) {d : Drawing} {n : ℕ} → d ≡ drawingOf s
-    → n ≡ repeated times (wallAdds m (record { drawing = d; count = count })) → n ≡ repeated times (wallAdds m (imageState s count))
-wall-read s count m times v q = q ∙ ap (λ z. repeated times (wallAdds m (record { drawing = z; count = count }))) v
+    (s : List ℕ) (count op t : ℕ) (x y : Float) (times : ℕ) {op′ : Operation} {n : ℕ} → op′ ≡ operationOf op
+    → n ≡ repeated times (deskAdds op′ t x y (imageState s count)) → n ≡ repeated times (deskAdds (operationOf op) t x y (imageState s count))
+desk-read s count op t x y times e q = q ∙ ap (λ o. repeated times (deskAdds o t x y (imageState s count))) e
 
 -- ---- the wall's program looks at 65,536 bytes
 

@@ -1,4 +1,5 @@
 // Desk and wall: the wall's program as one call, and a desk's edit and a delivery many times over for timing.
+use image::MAX_IMAGE_SIZE;
 use message::EditNumber;
 use message::MESSAGE_SIZE;
 use message::Operation;
@@ -7,14 +8,16 @@ use message::operation_of;
 use replication::DeskReply;
 use replication::Replica;
 use replication::WallReply;
+use replication::first_fault;
+use rows::put_run;
 use sketch::Id;
 ghost use mathlib.Core.Path.{_≡_};
-ghost use lib.ListN.{take};
-ghost use Rattle.sketch.specs.Valid.{sketchFault};
-ghost use Rattle.replication.specs.Transitions.{stateOf};
+ghost use Prim.Native.Nat.{_≤_};
+ghost use lib.ListN.{length, take};
+ghost use Rattle.image.specs.Image.{imageFault, maxImageSize};
 ghost use Rattle.replication.specs.Program.{programOutcome, WritesOutcome};
 ghost use Rattle.probe.specs.Edits.{repeated};
-ghost use Rattle.probe.specs.Replicas.{deskAdds, desksSum, wallAdds, wallsSum};
+ghost use Rattle.probe.specs.Replicas.{imageState, deskAdds, desksSum, wallAdds, wallsSum};
 
 // As much of its input as the wall's program looks at.
 const INPUT: usize = 65536;
@@ -30,37 +33,58 @@ pub extern "C" fn mulkefi_wall(input: &[u8], out: &mut [u8]) -> usize
     replication::run_program(&input[..INPUT], out)
 }
 
-// What one edit at the desk adds to a sum: a refusal's number, or 256 and the count.
-fn desk_adds(replica: Replica, operation: Operation, curve: Id, x: f64, y: f64) -> u32
-    requires { ⌜ sketchFault (replica .sketch) ≡ 0 ⌝ }
-    ensures { λ r. ⌜ r ≡ deskAdds operation curve x y (stateOf replica) ⌝ }
+// What one edit at a desk that has an image and a count adds to a sum: a refusal's number, or 256 and the count. `buffer` is for the desk's image.
+fn desk_adds(
+    image: &[u8],
+    count: EditNumber,
+    operation: Operation,
+    curve: Id,
+    x: f64,
+    y: f64,
+    buffer: &mut [u8],
+) -> u32
+    requires { ⌜ (imageFault (now image) ≡ 0) × (maxImageSize ≤ length (now buffer)) ⌝ }
+    ensures { λ r. ⌜ r ≡ deskAdds operation curve x y (imageState (now (image .entry)) count) ⌝ }
 {
+    put_run(image, buffer, 0);
+    let replica = Replica {
+        size: image.len(),
+        count,
+    };
     let mut message = [0u8; MESSAGE_SIZE];
-    let answer = replication::desk_edit(replica, operation, curve, x, y, &mut message);
+    let answer = replication::desk_edit(replica, buffer, operation, curve, x, y, &mut message);
+    let after = answer.replica;
     let reply = answer.reply;
     match reply {
         DeskReply::Refused(number, _) => number as u32,
-        DeskReply::Accepted(_) => {
-            let after = answer.replica;
-            std::num::wrapping_add_u32(after.count, 256)
-        }
+        DeskReply::Accepted(_) => std::num::wrapping_add_u32(after.count, 256),
     }
 }
 
-fn desks_sum(replica: Replica, operation: Operation, curve: Id, x: f64, y: f64, times: u32) -> u32
-    requires { ⌜ sketchFault (replica .sketch) ≡ 0 ⌝ }
-    ensures { λ r. ⌜ r ≡ repeated times (deskAdds operation curve x y (stateOf replica)) ⌝ }
+fn desks_sum(
+    image: &[u8],
+    count: EditNumber,
+    operation: Operation,
+    curve: Id,
+    x: f64,
+    y: f64,
+    times: u32,
+) -> u32
+    requires { ⌜ imageFault (now image) ≡ 0 ⌝ }
+    ensures { λ r. ⌜ r ≡ repeated times (deskAdds operation curve x y (imageState (now (image .entry)) count)) ⌝ }
 {
+    let mut buffer = [0u8; MAX_IMAGE_SIZE];
     let mut sum = 0u32;
     let mut i = 0u32;
     while i < times {
-        sum = std::num::wrapping_add_u32(sum, desk_adds(replica, operation, curve, x, y));
+        let more = desk_adds(image, count, operation, curve, x, y, &mut buffer);
+        sum = std::num::wrapping_add_u32(sum, more);
         i += 1;
     }
     sum
 }
 
-// Reads an image and makes an edit at a desk with its sketch and a count so many times, each on what was read.
+// Makes an edit at a desk with an image and a count so many times, each on that image.
 #[no_mangle]
 pub extern "C" fn mulkefi_desk_repeated(
     bytes: &[u8],
@@ -73,49 +97,52 @@ pub extern "C" fn mulkefi_desk_repeated(
 ) -> u32
     ensures { λ r. ⌜ r ≡ desksSum (now (bytes .entry)) count operation curve x y times ⌝ }
 {
-    let r = sketch_image::read(bytes);
-    if r.refusal != 0 {
-        return r.refusal as u32;
+    let fault = first_fault(bytes, 0);
+    if fault != 0 {
+        return fault as u32;
     }
     if !is_operation(operation) {
         return 6;
     }
-    let sketch = r.sketch;
-    let replica = Replica { sketch, count };
-    desks_sum(replica, operation_of(operation), curve, x, y, times)
+    desks_sum(bytes, count, operation_of(operation), curve, x, y, times)
 }
 
-// What one delivery adds to a sum: a refusal's number, 256 for an old message, or 256 and the count.
-fn wall_adds(replica: Replica, message: &[u8]) -> u32
-    requires { ⌜ sketchFault (replica .sketch) ≡ 0 ⌝ }
-    ensures { λ r. ⌜ r ≡ wallAdds (now (message .entry)) (stateOf replica) ⌝ }
+// What one delivery to a wall that has an image and a count adds to a sum: a refusal's number, 256 for an old message, or 256 and the count.
+fn wall_adds(image: &[u8], count: EditNumber, message: &[u8], buffer: &mut [u8]) -> u32
+    requires { ⌜ (imageFault (now image) ≡ 0) × (maxImageSize ≤ length (now buffer)) ⌝ }
+    ensures { λ r. ⌜ r ≡ wallAdds (now (message .entry)) (imageState (now (image .entry)) count) ⌝ }
 {
-    let answer = replication::wall_deliver(replica, message);
+    put_run(image, buffer, 0);
+    let replica = Replica {
+        size: image.len(),
+        count,
+    };
+    let answer = replication::wall_deliver(replica, buffer, message);
+    let after = answer.replica;
     let reply = answer.reply;
     match reply {
         WallReply::Refused(number, _) => number as u32,
         WallReply::Old => 256,
-        WallReply::Applied(_) => {
-            let after = answer.replica;
-            std::num::wrapping_add_u32(after.count, 256)
-        }
+        WallReply::Applied(_) => std::num::wrapping_add_u32(after.count, 256),
     }
 }
 
-fn walls_sum(replica: Replica, message: &[u8], times: u32) -> u32
-    requires { ⌜ sketchFault (replica .sketch) ≡ 0 ⌝ }
-    ensures { λ r. ⌜ r ≡ repeated times (wallAdds (now (message .entry)) (stateOf replica)) ⌝ }
+fn walls_sum(image: &[u8], count: EditNumber, message: &[u8], times: u32) -> u32
+    requires { ⌜ imageFault (now image) ≡ 0 ⌝ }
+    ensures { λ r. ⌜ r ≡ repeated times (wallAdds (now (message .entry)) (imageState (now (image .entry)) count)) ⌝ }
 {
+    let mut buffer = [0u8; MAX_IMAGE_SIZE];
     let mut sum = 0u32;
     let mut i = 0u32;
     while i < times {
-        sum = std::num::wrapping_add_u32(sum, wall_adds(replica, message));
+        let more = wall_adds(image, count, message, &mut buffer);
+        sum = std::num::wrapping_add_u32(sum, more);
         i += 1;
     }
     sum
 }
 
-// Reads an image and delivers a message to a wall with its sketch and a count so many times, each on what was read.
+// Delivers a message to a wall with an image and a count so many times, each on that image.
 #[no_mangle]
 pub extern "C" fn mulkefi_deliver_repeated(
     bytes: &[u8],
@@ -125,11 +152,9 @@ pub extern "C" fn mulkefi_deliver_repeated(
 ) -> u32
     ensures { λ r. ⌜ r ≡ wallsSum (now (bytes .entry)) count (now (message .entry)) times ⌝ }
 {
-    let r = sketch_image::read(bytes);
-    if r.refusal != 0 {
-        return r.refusal as u32;
+    let fault = first_fault(bytes, 0);
+    if fault != 0 {
+        return fault as u32;
     }
-    let sketch = r.sketch;
-    let replica = Replica { sketch, count };
-    walls_sum(replica, message, times)
+    walls_sum(bytes, count, message, times)
 }

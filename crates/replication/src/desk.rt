@@ -35,10 +35,18 @@ pub fn desk_edit<'a>(
     ensures { λ r. ⌜ DeskEdits (memory replica (now (buffer .entry))) (deskCall operation curve x y (now (message .entry)) (now (message .exit)) (now (buffer .exit)) r) ⌝ }
 {
     if message.len() < MESSAGE_SIZE {
-        return refuse(replica, first_fault(front(&buffer[..], replica.size), 25), 0);
+        return refuse(
+            replica,
+            first_fault(front(&buffer[..], replica.size), 25),
+            0,
+        );
     }
     if MAX_EDIT_NUMBER <= replica.count {
-        return refuse(replica, first_fault(front(&buffer[..], replica.size), 23), 0);
+        return refuse(
+            replica,
+            first_fault(front(&buffer[..], replica.size), 23),
+            0,
+        );
     }
     let e = modify::edit_in_place(operation, buffer, replica.size, curve, Vec2 { x, y });
     if e.refusal != 0 {

@@ -59,7 +59,15 @@ fn desk_edit_at<'a>(
     let operation = operation_of(get1(entries, at) as u32);
     let x = coordinate(get8(entries, at + X_AT));
     let y = coordinate(get8(entries, at + Y_AT));
-    desk_edit(replica, buffer, operation, get4(entries, at + CURVE_AT), x, y, out)
+    desk_edit(
+        replica,
+        buffer,
+        operation,
+        get4(entries, at + CURVE_AT),
+        x,
+        y,
+        out,
+    )
 }
 
 // Runs each call on the replica that the one before left, and writes the messages one after the other to the log.
@@ -86,13 +94,7 @@ fn run_desk<'a>(
 
 // Delivers each of the log's n messages that `order` names to the replica that the one before left. A place without a message is
 // passed over.
-fn run_wall(
-    replica: Replica,
-    buffer: &mut [u8],
-    log: &[u8],
-    order: &[usize],
-    n: usize,
-) -> Replica
+fn run_wall(replica: Replica, buffer: &mut [u8], log: &[u8], order: &[usize], n: usize) -> Replica
     requires { ⌜ Ready (memory replica (now buffer)) × (messageSize * n ≤ length (now log)) ⌝ }
     ensures { λ r. ⌜ WallRan (memory replica (now (buffer .entry))) (messagesInLog n (now (log .entry)) (now (order .entry))) (memory r (now (buffer .exit))) ⌝ }
 {
@@ -126,7 +128,11 @@ fn not_run(refusal: u8) -> RunResult
 {
     let desk = Replica { size: 0, count: 0 };
     let wall = Replica { size: 0, count: 0 };
-    RunResult { desk, wall, refusal }
+    RunResult {
+        desk,
+        wall,
+        refusal,
+    }
 }
 
 // Both lists whole, from one image: the calls in `entries` to the desk, then to the wall the messages at the places in `order`. The log takes the
@@ -144,8 +150,7 @@ pub fn run_both<'a>(
 {
     if !(has_room(entries.len(), log.len())
         & (MAX_IMAGE_SIZE <= desk.len())
-        & (MAX_IMAGE_SIZE <= wall.len()))
-    {
+        & (MAX_IMAGE_SIZE <= wall.len())) {
         return not_run(first_fault(image, 25));
     }
     let at_desk = start(image, desk);

@@ -93,7 +93,11 @@ pub fn wall_deliver(replica: Replica, buffer: &mut [u8], bytes: &[u8]) -> WallTr
 {
     match message::read_message(bytes) {
         MessageRead::Refused(number) => {
-            refuse(replica, first_fault(front(&buffer[..], replica.size), number), 0)
+            refuse(
+                replica,
+                first_fault(front(&buffer[..], replica.size), number),
+                0,
+            )
         }
         MessageRead::Accepted(m) => deliver_message(replica, buffer, m),
     }

@@ -1,4 +1,4 @@
-use Rattle.hit_search.specs.Columns.{support}
+use Rattle.hit_search.specs.Values.{support}
 use Rattle.hit_search.proofs.ShapeSearch.{kept-on, kept-off}
 use borrow.Author.Needs.{needs}
 use Rattle.hit_search.proofs.image_search.consider_on.Statement.{statement}

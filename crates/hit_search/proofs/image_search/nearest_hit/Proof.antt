@@ -21,7 +21,7 @@ use Rattle.hit_search.proofs.image_search.nearest_hit.Lts as lts
 use Rattle.geom.proofs.Vec2.dist.Reads as dist-reads
 use Rattle.geom.proofs.Vec2.from_points.Reads as from-points-reads
 use Rattle.geom.proofs.Vec2.normalized.Reads as normalized-reads
-use Rattle.hit_search.proofs.curve_hits.boundary.Reads as boundary-reads
+use Rattle.hit_search.proofs.boundaries.boundary.Reads as boundary-reads
 use Rattle.hit_search.proofs.image_search.consider_all.Reads as consider-all-reads
 use Rattle.hit_search.proofs.image_search.nothing.Reads as nothing-reads
 use Rattle.hit_search.proofs.image_search.search_curve.Reads as search-curve-reads

@@ -51,7 +51,7 @@ same-length-2 : tie.Need-same-length-2
 same-length-2 c = search needs
 
 returns : tie.Need-returns
-returns c = 
+returns c =
     same-edit (memory (c .before .before .before .before .before .before .before .before .before .before .before .before .before .before .before .before .before .args .replica) (c .before .before .before .before .before .before .before .before .before .before .before .before .before .before .before .before .before .args .buffer .now)) _ _ _ _ _ _
     (c .before .before .before .before .before .before .before .before .before .before .before .before .operation-of .ensures ∙ ap operationOf (c .before .before .before .before .before .before .before .before .before .before .before .before .before .get1 .ensures))
     (c .before .before .before .before .before .before .get4 .ensures)
