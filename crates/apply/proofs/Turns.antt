@@ -32,7 +32,7 @@ use Rattle.edit_plan.specs.Tables.{uses, others}
 use Rattle.edit_plan.specs.Changes.{keptOf, leftOf, orphanList, staying, unusedBy, pointsNew, curvesNew, relationsNew}
 use Rattle.edit_plan.proofs.Loops.{single, keep-is}
 use Rattle.edit_plan.proofs.Unused.{uses-append, unusedIn, unused-on, unused-past, none-go}
-use Rattle.edit_plan.proofs.Leaves.{among-append}
+use Rattle.edit_plan.proofs.Leaves.{among-append, or-false}
 use Rattle.apply.specs.Contracts.{rowBytes, concerned, leftRow, stayingRows, TablesWithin}
 use Rattle.apply.proofs.RowRuns.{Long, rows-long, each-take, each-all, each-map}
 use Rattle.apply.proofs.Walks.{upTo}
@@ -105,6 +105,14 @@ all-put os t l at m end h e f =
 pub concerned-is : (e : Extent) (os r row : List ℕ) (a b : ℕ) (p q : Bool) → r ≡ row → a ≡ field r 1 4 → b ≡ field r 5 4 → p ≡ among a os → q ≡ among b os
     → ((eqb a (e .id) || eqb b (e .id)) || p) || q ≡ concerned e os row
 concerned-is e os r row a b p q f ea eb ep eq = rw (ep, eq, ea, eb, f)
+
+-- where no point goes only the curve counts
+pub concerned-alone : (e : Extent) (os : Orphans) (r row : List ℕ) (a b : ℕ) → r ≡ row → a ≡ field r 1 4 → b ≡ field r 5 4 → ((os .pgoes || os .qgoes) || os .rgoes) ≡ false
+    → (eqb a (e .id) || eqb b (e .id)) ≡ concerned e (orphanList os) row
+concerned-alone e os r row a b f ea eb h =
+    let z = none-go os h in
+    let g = concerned-is e (orphanList os) r row a b false false f ea eb (sym (ap (among a) z)) (sym (ap (among b) z)) in
+    sym (or-false (eqb a (e .id) || eqb b (e .id))) ∙ sym (or-false ((eqb a (e .id) || eqb b (e .id)) || false)) ∙ g
 
 pub left-stays : (e : Extent) (os r : List ℕ) → concerned e os r ≡ false → leftRow e os r ≡ r ∷ []
 unfolding leftRow

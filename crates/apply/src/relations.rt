@@ -34,7 +34,11 @@ fn is_concerned(relations: &[u8], i: usize, e: Extent, os: Orphans) -> bool
     let r = &relations[at..end];
     let a = get4(r, FIRST_ID_AT);
     let b = get4(r, SECOND_ID_AT);
-    (a == e.id) | (b == e.id) | is_orphan(os, a) | is_orphan(os, b)
+    let named = (a == e.id) | (b == e.id);
+    if !(os.pgoes | os.qgoes | os.rgoes) {
+        return named;
+    }
+    named | is_orphan(os, a) | is_orphan(os, b)
 }
 
 // How many rows are left of the relation at a place.

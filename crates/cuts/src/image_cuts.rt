@@ -118,6 +118,35 @@ fn bracket_of_few<'a>(
     )
 }
 
+fn bracket_of_some<'a>(
+    sh: Shape,
+    tq: f64,
+    id: Id,
+    n: usize,
+    image: &'a [u8],
+    near: &'a [u16],
+) -> Neighbours
+    requires { ⌜ n ≤ 64 ⌝ }
+    ensures { λ r. ⌜ BracketOfFirst (now (image .entry)) n sh tq id r ⌝ }
+{
+    let mut ts = [0.0; 256];
+    let mut px = [0.0; 256];
+    let mut py = [0.0; 256];
+    let mut who: [Id; 256] = [0; 256];
+    bracket_in(
+        sh,
+        tq,
+        id,
+        n,
+        image,
+        near,
+        &mut ts,
+        &mut px,
+        &mut py,
+        &mut who,
+    )
+}
+
 fn bracket_of_many<'a>(
     sh: Shape,
     tq: f64,
@@ -156,6 +185,9 @@ pub fn bracket<'a>(sh: Shape, tq: f64, id: Id, image: &'a [u8], near: &'a [u16])
     let n = curve_count(curves_of(image));
     if n <= 16 {
         return bracket_of_few(sh, tq, id, n, image, near);
+    }
+    if n <= 64 {
+        return bracket_of_some(sh, tq, id, n, image, near);
     }
     if n > 128 {
         return Neighbours::Zero;

@@ -61,13 +61,20 @@ pub fn curve_at(curves: &[u8], i: usize) -> Curve
     read_curve(curve_record(curves, i))
 }
 
-pub fn relation_at(relations: &[u8], i: usize) -> Relation
-    ensures { λ v. ⌜ v ≡ readRelation (rowIn relationSize (now (relations .entry)) i) ⌝ }
+// A relation's record as it is. It is read in one place: the reading is then compiled in place, with its length known.
+fn relation_record(relations: &[u8], i: usize) -> &[u8]
+    ensures { λ r. ⌜ now r ≡ rowIn relationSize (now (relations .entry)) i ⌝ }
 {
     if i < relations.len() / RELATION_SIZE {
         let at = i * RELATION_SIZE;
         let end = at + RELATION_SIZE;
-        return read_relation(&relations[at..end]);
+        return &relations[at..end];
     }
-    read_relation(&relations[..0])
+    &relations[..0]
+}
+
+pub fn relation_at(relations: &[u8], i: usize) -> Relation
+    ensures { λ v. ⌜ v ≡ readRelation (rowIn relationSize (now (relations .entry)) i) ⌝ }
+{
+    read_relation(relation_record(relations, i))
 }
