@@ -78,7 +78,7 @@ module _ (op : Operation) (s : Sketch) (t : ℕ) (p : Vec2) where
       room = omega (arith, long)
 
       image-is : editImage op image t p ≡ editOf op limits (view s) t p
-      image-is = good-edit op image t p w (read .0) valid room ∙ ap (λ (d : Drawing). editOf op limits d t p) (read .1)
+      image-is = good-edit op image t p w (read .0) valid ∙ ap (λ (d : Drawing). editOf op limits d t p) (read .1)
 
       written : (o : Outcome Drawing Removed) → editOf op limits (view s) t p ≡ o → OutcomeWritten o before after x
       written o e =

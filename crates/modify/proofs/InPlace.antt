@@ -14,7 +14,6 @@ use Rattle.geom.specs.declared.Vec2.{Vec2}
 use Rattle.sketch.specs.Drawing.{Drawing, limits}
 use Rattle.image.specs.Image as I
 use Rattle.image.specs.Encode.{encode}
-use Rattle.image.proofs.Sizes.{image-size}
 use Rattle.image.proofs.Tables.{bytes-take}
 use Rattle.message.specs.declared.Operation.{Operation}
 use Rattle.edit_plan.specs.declared.Removed.{Removed}
@@ -25,7 +24,8 @@ use Rattle.extend.proofs.ImageMoves.{image-valid}
 use Rattle.modify.specs.Edits.{editOf}
 use Rattle.modify.specs.ImageEdits.{editImage, EditWritten}
 use Rattle.modify.specs.ImageContracts.{FrontReplaced, EditedThrough}
-use Rattle.modify.proofs.Planned.{guard-accepted, edit-valid}
+use Rattle.modify.proofs.Planned.{guard-accepted}
+use Rattle.modify.proofs.WholeOutcomes.{fits-largest}
 use Rattle.modify.proofs.Numbered.{image-edit-numbered}
 
 -- ---- the ways out of taking over
@@ -64,8 +64,8 @@ module _ (op : Operation) (s : List ℕ) (t : ℕ) (p : Vec2) where
     pub fits-any : Bytes s → room ≡ I.maxImageSize → Fits room
     fits-any are h d q g =
         let (f, made-is) = guard-accepted (eqb (I.imageFault s) 0) (I.imageFault s) (editOf op limits (I.drawingOf s) t p) d q g in
-        let v = edit-valid op limits (I.drawingOf s) t p d q (image-valid s (eqb-true (I.imageFault s) 0 f) are) made-is in
-        omega (arith, x .written .sound d q g .0, image-size d v)
+        let z = eqb-true (I.imageFault s) 0 f in
+        omega (arith, fits-largest op s t p (x .written) z (image-valid s z are) d q made-is)
 
     -- what was not refused by 25 had room
     pub fits-if : (r .refusal ≡ 25 → ⊥) → Fits room

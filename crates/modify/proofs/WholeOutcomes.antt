@@ -22,26 +22,27 @@ use Rattle.modify.specs.ImageEdits.{editImage, EditWritten}
 use Rattle.modify.proofs.Planned.{edit-valid}
 
 module _ (op : Operation) (s : List ℕ) (t : ℕ) (p : Vec2) {before after : List ℕ} {x : EditedImage} (w : EditWritten op s t p before after x)
-    (e : I.imageFault s ≡ 0) (v : Valid limits (I.drawingOf s)) (room : I.maxImageSize ≤ length before)
+    (e : I.imageFault s ≡ 0) (v : Valid limits (I.drawingOf s))
   where
     pub good-edit : editImage op s t p ≡ editOf op limits (I.drawingOf s) t p
     unfolding guard
     good-edit = rw e
 
-    fits : (d : Drawing) (q : Removed) → editOf op limits (I.drawingOf s) t p ≡ accepted d q → length (encode d) ≤ length before
-    fits d q o = omega (arith, w .sound d q (good-edit ∙ o) .0, image-size d (edit-valid op limits (I.drawingOf s) t p d q v o))
+    pub fits-largest : (d : Drawing) (q : Removed) → editOf op limits (I.drawingOf s) t p ≡ accepted d q → length (encode d) ≤ I.maxImageSize
+    fits-largest d q o = omega (arith, w .sound d q (good-edit ∙ o) .0, image-size d (edit-valid op limits (I.drawingOf s) t p d q v o))
 
-    pub whole-outcome : OutcomeWritten (editOf op limits (I.drawingOf s) t p) before after x
-    unfolding guard
-    whole-outcome = go (editOf op limits (I.drawingOf s) t p) refl (subst (λ (y : Outcome Drawing Removed). OutcomeWritten (ifFits (length before) y) before after x) good-edit (w .written))
-      where
-        go : (o : Outcome Drawing Removed) → editOf op limits (I.drawingOf s) t p ≡ o → OutcomeWritten (ifFits (length before) o) before after x → OutcomeWritten o before after x
-        go (refused n) h u = u
-        go (accepted d q) h u = subst (λ (b : Bool). OutcomeWritten (guard b 25 (accepted d q)) before after x) (le-leb (length (encode d)) (length before) (fits d q h)) u
+    module _ (room : I.maxImageSize ≤ length before) where
+      pub whole-outcome : OutcomeWritten (editOf op limits (I.drawingOf s) t p) before after x
+      unfolding guard
+      whole-outcome = go (editOf op limits (I.drawingOf s) t p) refl (subst (λ (y : Outcome Drawing Removed). OutcomeWritten (ifFits (length before) y) before after x) good-edit (w .written))
+        where
+          go : (o : Outcome Drawing Removed) → editOf op limits (I.drawingOf s) t p ≡ o → OutcomeWritten (ifFits (length before) o) before after x → OutcomeWritten o before after x
+          go (refused n) h u = u
+          go (accepted d q) h u = subst (λ (b : Bool). OutcomeWritten (guard b 25 (accepted d q)) before after x) (le-leb (length (encode d)) (length before) (omega (arith, fits-largest d q h))) u
 
-    pub size-fits : x .size ≤ length before
-    size-fits = go (editOf op limits (I.drawingOf s) t p) refl whole-outcome
-      where
-        go : (o : Outcome Drawing Removed) → editOf op limits (I.drawingOf s) t p ≡ o → OutcomeWritten o before after x → x .size ≤ length before
-        go (refused n) h u = omega (arith, u .size)
-        go (accepted d q) h u = omega (arith, u .size, fits d q h)
+      pub size-fits : x .size ≤ length before
+      size-fits = go (editOf op limits (I.drawingOf s) t p) refl whole-outcome
+        where
+          go : (o : Outcome Drawing Removed) → editOf op limits (I.drawingOf s) t p ≡ o → OutcomeWritten o before after x → x .size ≤ length before
+          go (refused n) h u = omega (arith, u .size)
+          go (accepted d q) h u = omega (arith, u .size, fits-largest d q h)

@@ -110,7 +110,7 @@ module _ (op : Operation) (s : List ℕ) (t : ℕ) (p : Vec2) {before after : Li
 
   module _ (i : imageFault s ≡ 0) (room : maxImageSize ≤ length before) where
     made : M.editImage op s t p ≡ outcome
-    made = good-edit op s t p a i (image-valid s i b) room
+    made = good-edit op s t p a i (image-valid s i b)
 
     written : OutcomeWritten outcome before after r
     written = whole-outcome op s t p a i (image-valid s i b) room

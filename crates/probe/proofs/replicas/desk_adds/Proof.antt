@@ -1,3 +1,4 @@
+use Rattle.agreement.specs.Machines.{callOutcome}
 -- `probe::replicas::desk_adds` meets its contract.
 use Rattle.probe.proofs.ReplicaSums.{desk-valid, desk-refused, desk-done}
 use Rattle.probe.specs.Replicas.{imageState}

@@ -1,3 +1,4 @@
+use Rattle.agreement.specs.Machines.{wallTransition}
 -- `probe::replicas::wall_adds` meets its contract.
 use Rattle.probe.proofs.ReplicaSums.{wall-valid, wall-refused, wall-old, wall-applied}
 use Rattle.probe.specs.Replicas.{imageState}
