@@ -1,31 +1,25 @@
-use native.Mathlib.Omega.{arith}
+-- `probe::mulkefi_deliver_repeated` meets its contract.
+use Rattle.probe.proofs.Sums.{image-refused, image-passed}
+use Rattle.replication.proofs.CallOutcomes.{first-fault-own}
+use mathlib.Core.Path.{sym, _∙_}
 use borrow.Author.Needs.{needs}
 use Rattle.probe.proofs.replicas.mulkefi_deliver_repeated.Statement.{statement}
 use Rattle.probe.proofs.replicas.mulkefi_deliver_repeated.Tie as tie
-use Rattle.probe.proofs.replicas.mulkefi_deliver_repeated.Reads as reads
-use Rattle.probe.proofs.replicas.mulkefi_deliver_repeated.Lts as lts
-use Rattle.probe.proofs.replicas.walls_sum.Reads as walls-sum-reads
-use Rattle.replication.proofs.first_fault.Reads as first-fault-reads
 
--- src/replicas.rt:155:9
 first-fault-requires : tie.Need-first-fault-requires
 first-fault-requires c κs = search needs
 
--- src/replicas.rt:157:16
 cast-result : tie.Need-cast-result
 cast-result c = search needs
 
--- src/replicas.rt:157:9
 returns : tie.Need-returns
-returns c = search needs
+returns c = image-refused (c .before .before .before .before .args .bytes .now) _ (first-fault-own (c .before .before .before .before .args .bytes .now) (c .before .first-fault .ensures)) (c .if1 .taken)
 
--- src/replicas.rt:159:5
 walls-sum-requires : tie.Need-walls-sum-requires
-walls-sum-requires c κs = search needs
+walls-sum-requires c κs = sym (first-fault-own (c .before .before .before .before .args .bytes .now) (c .before .first-fault .ensures)) ∙ c .if1 .left
 
--- src/replicas.rt:146:1
 returns-2 : tie.Need-returns-2
-returns-2 c = search needs
+returns-2 c = image-passed (c .before .before .before .before .before .args .bytes .now) _ (sym (first-fault-own (c .before .before .before .before .before .args .bytes .now) (c .before .before .first-fault .ensures)) ∙ c .before .if1 .left) (c .walls-sum .ensures)
 
 pub mulkefi-deliver-repeated-spec : {M : Type 1} → statement M
 mulkefi-deliver-repeated-spec =
