@@ -39,10 +39,10 @@ pub struct Sample {
     pub call: Call,
     /// What one edit adds to the sum of the engine's repeated call.
     pub checksum: u32,
+    pub edit: Edit,
     drawing: Drawing,
     sketch: Sketch,
     place: usize,
-    edit: Edit,
 }
 
 impl Sample {

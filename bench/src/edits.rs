@@ -1,8 +1,8 @@
 //! One edit of a bridge: the engine from image to image and by its typed call, beside the Rust with the
 //! same tests and beside its bare edit.
 
-use crate::bridge::{samples, Sample, SIZES, WORKS};
-use crate::timing::medians_in_turn;
+use bench::bridge::{samples, Sample, SIZES, WORKS};
+use bench::timing::medians_in_turn;
 use engine::edits::{repeated, typed_repeated};
 use oracle::upstream;
 use std::hint::black_box;

@@ -1,7 +1,7 @@
 //! Reading an image, and writing it back.
 
 use crate::inputs::Inputs;
-use crate::timing::{Rounds, Times};
+use bench::timing::{Rounds, Times};
 use oracle::drawing::Drawing;
 use oracle::generate::bridges::Size;
 use oracle::image;

@@ -1,7 +1,7 @@
 //! The largest magnitude of a list, by its length.
 
 use crate::samples::Samples;
-use crate::timing::{measure, Times};
+use bench::timing::{measure, Times};
 use oracle::generate::random::Random;
 use oracle::magnitude::largest_magnitude;
 use std::hint::black_box;

@@ -3,7 +3,6 @@
 //! `bench [subject]`: all of them, or one of images, sketches, relations, numbers,
 //! shapes, magnitudes, roots, edits and replicas.
 
-mod bridge;
 mod edits;
 mod images;
 mod inputs;
@@ -15,8 +14,8 @@ mod roots;
 mod samples;
 mod shapes;
 mod sketches;
-mod timing;
 
+use bench::timing;
 use oracle::generate::bridges::Size;
 
 fn main() {

@@ -1,7 +1,7 @@
 //! Square roots.
 
 use crate::samples::Samples;
-use crate::timing::measure;
+use bench::timing::measure;
 use oracle::generate::random::Random;
 use std::hint::black_box;
 

@@ -1,7 +1,7 @@
 //! Looking for a relation that is not met, in drawings of 60 curves in which all are met, so that the
 //! whole table is gone through.
 
-use crate::timing::{measure, Times};
+use bench::timing::{measure, Times};
 use cad_sketch::{first_unmet, Sketch};
 use oracle::convert::to_sketch;
 use oracle::drawing::{Drawing, Relation, MAX_RELATIONS};

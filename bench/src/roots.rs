@@ -1,7 +1,7 @@
 //! The root search, by the number of coefficients.
 
 use crate::samples::Samples;
-use crate::timing::{measure, Times};
+use bench::timing::{measure, Times};
 use oracle::generate::random::Random;
 use oracle::roots::BUFFER;
 use oracle::upstream;

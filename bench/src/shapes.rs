@@ -1,7 +1,7 @@
 //! Crossings of two shapes, and the projection of a point. Both sides start from plain numbers.
 
 use crate::samples::Samples;
-use crate::timing::{measure, Times};
+use bench::timing::{measure, Times};
 use cad_geom::Vec2;
 use oracle::figure::{Figure, Kind};
 use oracle::generate::random::Random;

@@ -2,7 +2,7 @@
 
 use crate::images;
 use crate::inputs::Inputs;
-use crate::timing::{Rounds, Times};
+use bench::timing::{Rounds, Times};
 use oracle::generate::bridges::Size;
 use oracle::validity;
 use std::hint::black_box;

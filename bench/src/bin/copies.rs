@@ -1,11 +1,7 @@
 //! Counts the large copies and fills in one edit, by side: calls of memcpy, memmove and memset of at
 //! least a kilobyte, which the linker leads here first. Not timed.
 
-#[path = "../bridge.rs"]
-#[allow(dead_code)] // the bare edit is timed, not counted
-mod bridge;
-
-use bridge::{samples, Sample, SIZES, WORKS};
+use bench::bridge::{samples, Sample, SIZES, WORKS};
 use std::hint::black_box;
 use std::sync::atomic::{AtomicUsize, Ordering::Relaxed};
 
