@@ -36,7 +36,7 @@ use Rattle.replication.proofs.CallOutcomes.{first-of, first-early, on-first, un
 use Rattle.replication.proofs.StartCases.{good-size}
 use Rattle.replication.proofs.Steps.{length-parsed}
 use Rattle.replication.proofs.WallCases.{WallCase, is-refused, is-old, is-applied, wall-case}
-use Rattle.mulkefi.specs.Calls.{bufferAfter, answerAfter, CallWritten, deskByNumber, deskCallOutcome, DeskCallWritten, wallCallOutcome, WallCallWritten}
+use Rattle.mulkefi.specs.Calls.{bufferAfter, answerAfter, CallWritten, deskByNumber, deskOutcomeByNumber, DeskCallWritten, WallCallWritten}
 use Rattle.mulkefi.specs.Contracts.{answerWith}
 use Rattle.mulkefi.proofs.Places.{unmet-whole}
 
@@ -156,7 +156,7 @@ module _ (b : List ℕ) (len count operation : ℕ) (e : Edit) (l a : List ℕ) 
   call = record { edit = e; room = length l }
 
   abbrev outcome : CallOutcome
-  outcome = deskCallOutcome b len count operation e (length l)
+  outcome = deskOutcomeByNumber b len count operation e (length l)
 
   pub desk-unknown : isOperation operation ≡ false → {image : List ℕ} {n : ℕ} → image ≡ take len b → n ≡ firstFault image 6 → DeskCallWritten len count operation e b b l l a a n
   desk-unknown k {image} {n} is f =
@@ -267,7 +267,7 @@ module _ (b : List ℕ) (len count : ℕ) (bytes a : List ℕ) (left : Memory) (
   found = record { buffer = b; size = len; count = count }
 
   abbrev walls : CallOutcome
-  walls = wallCallOutcome b len count bytes
+  walls = R.wallCallOutcome found bytes
 
   pub wall-refused : (n place : ℕ) → reply ≡ Wall.Refused n place → Bytes b → (r : ℕ) → r % 65536 ≡ n → r / 65536 ≡ place % 65536 → WallCallWritten len count bytes b (left .buffer) a a r
   wall-refused n place q are r low high =

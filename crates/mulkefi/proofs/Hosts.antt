@@ -26,7 +26,7 @@ use Rattle.replication.specs.Replication.{ReplicationCorrect}
 use Rattle.replication.proofs.Demand3.{demand-3}
 use Rattle.replication.proofs.StartCases.{held-at-start}
 use Rattle.replication.proofs.Steps.{Holding, after-old, after-updated, DeskCase, desk-refused, desk-updated, desk-case, DeliveryCase, delivery-refused, delivery-old, delivery-updated, delivery-case, message-front}
-use Rattle.mulkefi.specs.Calls.{answerFor, CallWritten, deskByNumber, deskCallOutcome, DeskCallWritten, wallCallOutcome, WallCallWritten}
+use Rattle.mulkefi.specs.Calls.{answerFor, CallWritten, deskByNumber, deskOutcomeByNumber, DeskCallWritten, WallCallWritten}
 use Rattle.mulkefi.specs.Hosts.{afterCall, reportIn, DeskUse, editOfUse, afterDesk, deskReplyIn, deskStepIn, deskStepsIn, DeskUses, WallUse, afterWall, wallReplyIn, wallStepIn, wallStepsIn, WallUses}
 
 -- ---- what a host takes over
@@ -68,7 +68,7 @@ module _ (m : Memory) (h : Ready m) (u : DeskUse)
     (l : length (u .before) ≡ 5)
   where
     abbrev outcome : CallOutcome
-    outcome = deskCallOutcome (m .buffer) (m .size) (m .count) (u .operation) (editOfUse u) (length (u .lent))
+    outcome = deskOutcomeByNumber (m .buffer) (m .size) (m .count) (u .operation) (editOfUse u) (length (u .lent))
 
     -- by the operation's number
     by-number : (b : Bool) → isOperation (u .operation) ≡ b → outcome ≡ ite b (R.deskCallOutcome m (editOfUse u) (length (u .lent))) (refused 6)
@@ -135,7 +135,7 @@ desk-run m h (u ∷ us) w =
 module _ (m : Memory) (h : Ready m) (u : WallUse)
     (w : WallCallWritten (m .size) (m .count) (u .bytes) (m .buffer) (u .buffer) (u .before) (u .answer) (u .result)) (l : length (u .before) ≡ 5)
   where
-    wall-served : (v : CallOutcome) → wallCallOutcome (m .buffer) (m .size) (m .count) (u .bytes) ≡ v → CallWritten v (m .buffer) (u .buffer) (u .before) (u .answer) (u .result)
+    wall-served : (v : CallOutcome) → R.wallCallOutcome m (u .bytes) ≡ v → CallWritten v (m .buffer) (u .buffer) (u .before) (u .answer) (u .result)
     wall-served v g = subst (λ (v : CallOutcome). CallWritten v (m .buffer) (u .buffer) (u .before) (u .answer) (u .result)) g (w .served)
 
     -- by what is left, and the reply

@@ -16,8 +16,8 @@ use Rattle.edit_plan.specs.Steps.{nothing}
 use Rattle.extend.specs.ExtendAnswer.{NoPlace}
 use Rattle.agreement.specs.Machines.{State, Call, message}
 use Rattle.replication.specs.Protocol.{Edit, protocol}
-use Rattle.replication.specs.Outcomes.{CallOutcome, refused, old, updated, onImage, deskOn, wallOn, numberOf, OutcomeSound, messageAfter}
-use Rattle.replication.specs.Transitions.{UnmetPlace}
+use Rattle.replication.specs.Outcomes.{CallOutcome, refused, old, updated, onImage, deskOn, numberOf, OutcomeSound, messageAfter}
+use Rattle.replication.specs.Transitions.{UnmetPlace, wallCallOutcome}
 
 -- the new image at the buffer's front, the rest as it was
 abbrev pub bufferAfter : CallOutcome → List ℕ → List ℕ
@@ -58,23 +58,19 @@ abbrev pub deskByNumber : ℕ → ℕ → Call Edit → State Drawing → CallOu
 deskByNumber room operation call s = ite (isOperation operation) (deskOn room call s) (refused 6)
 
 -- the image is the first `len` bytes of the buffer, all of it where it is shorter; `room` is lent for the message
-abbrev pub deskCallOutcome : List ℕ → ℕ → ℕ → ℕ → Edit → ℕ → CallOutcome
-deskCallOutcome buffer len count operation e room =
+abbrev pub deskOutcomeByNumber : List ℕ → ℕ → ℕ → ℕ → Edit → ℕ → CallOutcome
+deskOutcomeByNumber buffer len count operation e room =
     onImage (I.parse (take len buffer)) count (deskByNumber (length buffer) operation (record { edit = e; room = room }))
 
 -- the outcome's answer; the message; and the place that comes with 13 or 19
 pub record DeskCallWritten (len count operation : ℕ) (e : Edit) (buffer buffer′ message message′ answer answer′ : List ℕ) (r : ℕ) : Type 0 where
-  pub served : CallWritten (deskCallOutcome buffer len count operation e (length message)) buffer buffer′ answer answer′ r
-  pub written : message′ ≡ messageAfter (deskCallOutcome buffer len count operation e (length message)) e message
+  pub served : CallWritten (deskOutcomeByNumber buffer len count operation e (length message)) buffer buffer′ answer answer′ r
+  pub written : message′ ≡ messageAfter (deskOutcomeByNumber buffer len count operation e (length message)) e message
   pub place : (d : Drawing) → I.parse (take len buffer) ≡ I.accepted d → UnmetPlace e d (r % 65536) (r / 65536)
 
 -- ---- the wall
 
--- the image as at the desk, and a message's bytes
-abbrev pub wallCallOutcome : List ℕ → ℕ → ℕ → List ℕ → CallOutcome
-wallCallOutcome buffer len count bytes = onImage (I.parse (take len buffer)) count (wallOn (length buffer) bytes)
-
 -- the outcome's answer, and the place that comes with 13 or 19
 pub record WallCallWritten (len count : ℕ) (bytes buffer buffer′ answer answer′ : List ℕ) (r : ℕ) : Type 0 where
-  pub served : CallWritten (wallCallOutcome buffer len count bytes) buffer buffer′ answer answer′ r
+  pub served : CallWritten (wallCallOutcome (record { buffer = buffer; size = len; count = count }) bytes) buffer buffer′ answer answer′ r
   pub place : (d : Drawing) → I.parse (take len buffer) ≡ I.accepted d → (n : ℕ) (e : Edit) → protocol .decode bytes ≡ message n e → UnmetPlace e d (r % 65536) (r / 65536)
