@@ -1,4 +1,4 @@
-//! Desk and wall of a sketch by value, which the probe reads from its image once.
+//! Desk and wall as the probe calls them, each on an image in a buffer of its own.
 
 use bench::bridge::Sample;
 use bench::desk_and_wall::{self, Calls, Request, COUNT, REPEATS};

@@ -26,7 +26,9 @@ fn nowhere() -> Vec2
 fn coordinates(r: &[u8]) -> Vec2
     ensures { λ v. ⌜ v ≡ vec (readPoint (now (r .entry)) .x) (readPoint (now (r .entry)) .y) ⌝ }
 {
-    Vec2::new(read_x(r), read_y(r))
+    let x = read_x(r);
+    let y = read_y(r);
+    Vec2::new(x, y)
 }
 
 // The point with an id; `near` guesses its place.
