@@ -5,7 +5,7 @@ use mathlib.Core.List.{List, _∷_, _++_, map}
 use Prim.Native.Nat.{ℕ}
 use native.Mathlib.Omega.{arith}
 use lib.ListN.{take}
-use Rattle.agreement.specs.Machines.{State, initial, Protocol, Entry, callOutcome, acceptedLog, DeskStep, calls, messages, replyTo, DeskRun, WallStep, wallAfter, Delivered, WallRun}
+use Rattle.agreement.specs.Machines.{State, initial, Protocol, Entry, callOutcome, acceptedLog, DeskStep, calls, messages, replyTo, DeskRun, WallStep, wallTransition, wallAfter, Delivered, WallRun}
 use Rattle.agreement.specs.Agreement.{appliedReplies, Subsequence, WallAt, CountStep, Agreement}
 use Rattle.agreement.proofs.Reference.{Linked, linked, reference-at}
 use Rattle.agreement.proofs.Runs.{written, desk-messages, desk-state, desk-front, desk-rest, wall-parts, delivered-parts}
@@ -22,9 +22,12 @@ module _ {D E R : Type 0} (p : Protocol D E R) (Valid : D → Type 0) (keeps : K
         desk-reply = λ before later x e.
             let run = subst (DeskRun p S) e dr in
             desk-rest p S before (x ∷ later) run .0 .reply
-            ∙ ap (λ (s : State D). replyTo p (x .call .edit) (callOutcome p s (x .call))) (desk-state p S before (desk-front p S before (x ∷ later) run));
+            ∙ ap (λ (s : State D). replyTo p (s .drawing) (x .call .edit) (callOutcome p s (x .call))) (desk-state p S before (desk-front p S before (x ∷ later) run));
         desk-messages = mm;
         always = λ before later e. at before later e;
+        wall-reply = λ before later x e.
+            run before (x ∷ later) e .1 .0 .reply
+            ∙ ap (λ (s : State D). wallTransition p s (p .decode (x .bytes)) .1) (there before (x ∷ later) e .0 .0);
         rises = λ before later x e. up before later x e;
       }
     where

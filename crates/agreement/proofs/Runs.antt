@@ -11,15 +11,15 @@ module _ {D E R : Type 0} (p : Protocol D E R) where
   written x = p .encode (x .after .count) (x .edit)
 
   messages-step :
-      (x : DeskStep D E R) (o : Outcome (State D) R) (ms : List (List ℕ)) (l : List (Entry D E R)) → x .reply ≡ replyTo p (x .call .edit) o → ms ≡ map written l
+      (d : D) (x : DeskStep D E R) (o : Outcome (State D) R) (ms : List (List ℕ)) (l : List (Entry D E R)) → x .reply ≡ replyTo p d (x .call .edit) o → ms ≡ map written l
       → prependMessage (x .reply) ms ≡ map written (appendAccepted (x .call .edit) o l)
-  messages-step x (refused k) ms l e h = rw e h
-  messages-step x (accepted t r) ms l e h = rw (e, h)
+  messages-step d x (refused k) ms l e h = rw e h
+  messages-step d x (accepted t r) ms l e h = rw (e, h)
 
   pub desk-messages : (s : State D) (xs : List (DeskStep D E R)) → DeskRun p s xs → messages xs ≡ map written (acceptedLog p s (calls xs))
   desk-messages s [] h = refl
   desk-messages s (x ∷ xs) h =
-      messages-step x (callOutcome p s (x .call)) (messages xs) (acceptedLog p (stateAfter s (callOutcome p s (x .call))) (calls xs)) (h .0 .reply)
+      messages-step (s .drawing) x (callOutcome p s (x .call)) (messages xs) (acceptedLog p (stateAfter s (callOutcome p s (x .call))) (calls xs)) (h .0 .reply)
       (rw (← h .0 .state) (desk-messages (x .state) xs (h .1)))
 
   pub desk-state : (s : State D) (xs : List (DeskStep D E R)) → DeskRun p s xs → deskAfter s xs ≡ referenceAfter p s (calls xs)

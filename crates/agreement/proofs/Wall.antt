@@ -176,7 +176,7 @@ module _ {D E R : Type 0} (p : Protocol D E R) (Valid : D → Type 0) (keeps : K
             (y .reply ∙ ap (λ (u : State D × WallReply R). u .1) (reading ∙ u))
             (ap (getElem? (map appliedReply l)) (sym k) ∙ f .tells)
             (ap (getElem? (map (written p) l)) (sym k) ∙ f .place)
-        new-case nb (no ne) = stay (wallRefused 7) (rw (lt-leb (f .i + 1) (w .count) (omega arith), ne-eqb (f .i + 1) (w .count + 1) ne)) (λ i. ne (omega arith))
+        new-case nb (no ne) = stay (wallRefused 7 0) (rw (lt-leb (f .i + 1) (w .count) (omega arith), ne-eqb (f .i + 1) (w .count + 1) ne)) (λ i. ne (omega arith))
 
         old-case : Dec (f .i + 1 ≤ w .count) → Moved w x
         old-case (yes b) = stay wallOld (rw (le-leb (f .i + 1) (w .count) b)) (λ i. omega arith)

@@ -7,7 +7,7 @@ use Prim.Native.Nat.{ℕ, zero, suc, _+_, _≤_}
 use lib.ListN.{length, take, getElem?}
 use lib.Dec.{ltb}
 use Rattle.sketch.specs.Lists.{ite}
-use Rattle.agreement.specs.Machines.{State, initial, Protocol, Call, Entry, callOutcome, referenceAfter, acceptedLog, DeskStep, calls, deskAfter, messages, replyTo, WallReply, wallApplied, WallStep, wallAfter}
+use Rattle.agreement.specs.Machines.{State, initial, Protocol, Call, Entry, callOutcome, referenceAfter, acceptedLog, DeskStep, calls, deskAfter, messages, replyTo, WallReply, wallApplied, WallStep, wallTransition, wallAfter}
 
 -- the reference machine's state at count k, by its log
 abbrev pub stateAt : {D E R : Type 0} → State D → List (Entry D E R) → ℕ → State D
@@ -51,14 +51,18 @@ module _ {D E R : Type 0} (p : Protocol D E R) where
     pub desk-state :
         (before later : List (DeskStep D E R)) → desk ≡ before ++ later
         → deskAfter (initial start) before ≡ referenceAfter p (initial start) (calls before)
-    -- a call's reply is the reference machine's refusal, or its report and the message of that edit and number
+    -- a call's reply is the reference machine's refusal with its place, or its report and the message of that edit and number
     pub desk-reply :
         (before later : List (DeskStep D E R)) (x : DeskStep D E R) → desk ≡ before ++ (x ∷ later)
-        → x .reply ≡ replyTo p (x .call .edit) (callOutcome p (referenceAfter p (initial start) (calls before)) (x .call))
+        → x .reply ≡ replyTo p (referenceAfter p (initial start) (calls before) .drawing) (x .call .edit) (callOutcome p (referenceAfter p (initial start) (calls before)) (x .call))
     -- so its messages are those of the reference machine's log, in order
     pub desk-messages : messages desk ≡ map (λ (x : Entry D E R). p .encode (x .after .count) (x .edit)) (acceptedLog p (initial start) (calls desk))
     -- the wall, at the start and after every delivery
     pub always : (before later : List (WallStep D R)) → wall ≡ before ++ later → WallAt (initial start) desk before
+    -- a delivery's reply is that to the reference machine's state at the wall's count: a refusal's place too is the reference machine's
+    pub wall-reply :
+        (before later : List (WallStep D R)) (x : WallStep D R) → wall ≡ before ++ (x ∷ later)
+        → x .reply ≡ wallTransition p (stateAt (initial start) (acceptedLog p (initial start) (calls desk)) (wallAfter (initial start) before .count)) (p .decode (x .bytes)) .1
     -- its count rises exactly when the next message is delivered
     pub rises :
         (before later : List (WallStep D R)) (x : WallStep D R) → wall ≡ before ++ (x ∷ later)

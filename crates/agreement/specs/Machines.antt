@@ -21,9 +21,11 @@ pub data Decoded (E : Type 0) : Type 0 where
   invalid : ℕ → Decoded E
   message : ℕ → E → Decoded E
 
--- what the machines are built over: the edit function, and the message format's size, encoder and decoder
+-- what the machines are built over: the edit function with the places of its refusals, and the message format's size, encoder and decoder
 pub record Protocol (D E R : Type 0) : Type 0 where
   pub edit : D → E → Outcome D R
+  -- the place of a relation that comes with an edit's refusal by a number
+  pub place : D → E → ℕ → ℕ
   pub messageSize : ℕ
   pub encode : ℕ → E → List ℕ
   pub decode : List ℕ → Decoded E
@@ -39,9 +41,9 @@ pub record Call (E : Type 0) : Type 0 where
   pub edit : E
   pub room : ℕ
 
--- the desk's reply: refused by a number, or accepted with a report and a message
+-- the desk's reply: refused by a number, with a relation's place or 0, or accepted with a report and a message
 pub data DeskReply (R : Type 0) : Type 0 where
-  deskRefused : ℕ → DeskReply R
+  deskRefused : ℕ → ℕ → DeskReply R
   deskAccepted : R → List ℕ → DeskReply R
 
 -- one step of the desk: the call, the state after it, the reply
@@ -66,15 +68,15 @@ module _ {D E R : Type 0} (p : Protocol D E R) where
   callOutcome s c =
       guard (leb (p .messageSize) (c .room)) 25 (guard (ltb (s .count) maxEditNumber) 23 (withCount (s .count + 1) (p .edit (s .drawing) (c .edit))))
 
-  -- an accepted call replies with its report, and the message of its edit and number
-  abbrev pub replyTo : E → Outcome (State D) R → DeskReply R
-  replyTo e (refused k) = deskRefused k
-  replyTo e (accepted t r) = deskAccepted r (p .encode (t .count) e)
+  -- a refused call replies with the place in the drawing that it found; an accepted one with its report, and the message of its edit and number
+  abbrev pub replyTo : D → E → Outcome (State D) R → DeskReply R
+  replyTo d e (refused k) = deskRefused k (p .place d e k)
+  replyTo d e (accepted t r) = deskAccepted r (p .encode (t .count) e)
 
   -- a step is valid: its state and its reply are those of the call's outcome
   pub record DeskStepValid (s : State D) (x : DeskStep D E R) : Type 0 where
     pub state : x .state ≡ stateAfter s (callOutcome s (x .call))
-    pub reply : x .reply ≡ replyTo (x .call .edit) (callOutcome s (x .call))
+    pub reply : x .reply ≡ replyTo (s .drawing) (x .call .edit) (callOutcome s (x .call))
 
   -- calls one after the other, each on what the last one left
   abbrev pub DeskRun : State D → List (DeskStep D E R) → Type 0
@@ -86,7 +88,7 @@ deskAfter s [] = s
 deskAfter s (x ∷ xs) = deskAfter (x .state) xs
 
 abbrev pub prependMessage : {R : Type 0} → DeskReply R → List (List ℕ) → List (List ℕ)
-prependMessage (deskRefused k) ms = ms
+prependMessage (deskRefused k place) ms = ms
 prependMessage (deskAccepted r m) ms = m ∷ ms
 
 -- the messages that some calls wrote, in order
@@ -96,9 +98,9 @@ messages (x ∷ xs) = prependMessage (x .reply) (messages xs)
 
 -- ---- the wall
 
--- the wall's reply: refused by a number, old, or applied with a report
+-- the wall's reply: refused by a number, with a relation's place or 0, old, or applied with a report
 pub data WallReply (R : Type 0) : Type 0 where
-  wallRefused : ℕ → WallReply R
+  wallRefused : ℕ → ℕ → WallReply R
   wallOld : WallReply R
   wallApplied : R → WallReply R
 
@@ -109,16 +111,17 @@ pub record WallStep (D R : Type 0) : Type 0 where
   pub reply : WallReply R
 
 module _ {D E R : Type 0} (p : Protocol D E R) where
-  abbrev pub wallApply : State D → ℕ → Outcome D R → State D × WallReply R
-  wallApply s n (refused k) = (s, wallRefused k)
-  wallApply s n (accepted d r) = (record { drawing = d; count = n }, wallApplied r)
+  -- an edit's refusal comes with the place that the desk would give
+  abbrev pub wallApply : State D → ℕ → E → Outcome D R → State D × WallReply R
+  wallApply s n e (refused k) = (s, wallRefused k (p .place (s .drawing) e k))
+  wallApply s n e (accepted d r) = (record { drawing = d; count = n }, wallApplied r)
 
   -- old (01's term) at or below the count, the edit at the next number, 7 (ahead, 01's term) beyond it
   abbrev pub wallTransition : State D → Decoded E → State D × WallReply R
-  wallTransition s (invalid k) = (s, wallRefused k)
+  wallTransition s (invalid k) = (s, wallRefused k 0)
   wallTransition s (message n e) =
       ite (leb n (s .count)) (s, wallOld)
-      (ite (eqb n (s .count + 1)) (wallApply s n (p .edit (s .drawing) e)) (s, wallRefused 7))
+      (ite (eqb n (s .count + 1)) (wallApply s n e (p .edit (s .drawing) e)) (s, wallRefused 7 0))
 
   -- a step is valid: its state and its reply are those of the wall's transition
   pub record WallStepValid (s : State D) (x : WallStep D R) : Type 0 where

@@ -76,7 +76,7 @@ decode (n ∷ c ∷ b ∷ []) = message n (record { curve = c; by = b })
 decode (n ∷ c ∷ b ∷ x ∷ xs) = invalid 1
 
 abbrev rules : Protocol Drawing Order Removed
-rules = record { edit = edit; messageSize = 3; encode = encode; decode = decode }
+rules = record { edit = edit; place = λ d e n. 0; messageSize = 3; encode = encode; decode = decode }
 
 read : Read rules (Valid limits)
 read d e d′ r v q n a b = refl
@@ -154,14 +154,14 @@ call e room = record { edit = e; room = room }
 abbrev desk : List (DeskStep Drawing Order Removed)
 desk =
     record { call = call trim 3; state = state trimmed 1; reply = deskAccepted (record { curve = 8; from = 1; to = 7 }) (1 ∷ 3 ∷ 6 ∷ []) }
-    ∷ record { call = call divide 2; state = state trimmed 1; reply = deskRefused 25 }
+    ∷ record { call = call divide 2; state = state trimmed 1; reply = deskRefused 25 0 }
     ∷ record { call = call divide 3; state = state divided 2; reply = deskAccepted nothing (2 ∷ 3 ∷ 0 ∷ []) }
     ∷ []
 
 -- the second message, ahead; the first; the first again, old; the second
 abbrev wall : List (WallStep Drawing Removed)
 wall =
-    record { bytes = 2 ∷ 3 ∷ 0 ∷ []; state = state crossed 0; reply = wallRefused 7 }
+    record { bytes = 2 ∷ 3 ∷ 0 ∷ []; state = state crossed 0; reply = wallRefused 7 0 }
     ∷ record { bytes = 1 ∷ 3 ∷ 6 ∷ []; state = state trimmed 1; reply = wallApplied (record { curve = 8; from = 1; to = 7 }) }
     ∷ record { bytes = 1 ∷ 3 ∷ 6 ∷ []; state = state trimmed 1; reply = wallOld }
     ∷ record { bytes = 2 ∷ 3 ∷ 0 ∷ []; state = state divided 2; reply = wallApplied nothing }

@@ -6,7 +6,7 @@ use mathlib.Core.Option.{some}
 use Prim.Native.Nat.{ℕ, zero, suc, _+_, _≤_, _<_}
 use native.Mathlib.Omega.{arith}
 use lib.Dec.{eqb, ltb, leb}
-use lib.ListN.{length, getD}
+use lib.ListN.{length, getD, length-append}
 use types.Run.{OneOf}
 use denote.Enum.Declared.{tagOf}
 use borrow.Author.Tests.{ne-eqb, not-true, not-false}
@@ -34,9 +34,9 @@ use Rattle.image.proofs.GoodImages.{drawing-good}
 use Rattle.rows.specs.Rows.{pointTable, curveTable, relationTable, rowIn, relationsIn}
 use Rattle.rows.proofs.GoodTables.{relations-in}
 use Rattle.rows.proofs.Holds.{holds-points, held-points, held-point, holds-curves, held-curves, held-curve}
-use Rattle.relations.specs.Met.{met, allMet, failsAt, unmetAt, firstFailing, firstUnmet}
+use Rattle.relations.specs.Met.{met, allMet, firstFailing, firstUnmet}
 use Rattle.relations.specs.Moves.{firstNamedUnmet}
-use Rattle.relations.proofs.Failing.{none-fails, fails-there}
+use Rattle.relations.proofs.Failing.{none-fails, some-fails, first-in-front, first-behind}
 use Rattle.relations.proofs.Unmoved.{named-enough}
 use Rattle.edit_plan.specs.declared.Pin.{Pin}
 use Rattle.edit_plan.specs.declared.Plan.the-variants as P
@@ -62,34 +62,27 @@ use Rattle.extend.specs.declared.EndPlan.{EndPlan}
 use Rattle.extend.specs.declared.EndPlan.the-variants as N
 use Rattle.extend.specs.declared.EditedImage.{EditedImage}
 use Rattle.extend.specs.Extend.{extendCurve}
-use Rattle.extend.specs.ExtendAnswer.{applyPlanned, NoPlace}
+use Rattle.extend.specs.ExtendAnswer.{applyPlanned, reportedPlace}
 use Rattle.extend.specs.ExtendContracts.{planOf}
 use Rattle.extend.specs.ImageExtend.{ifFits, OutcomeWritten, refusedAt, extendIn, ExtendWritten}
 use Rattle.extend.specs.ImageExtendContracts.{FreeEnd, MovesEnd, ExtendIn, PlansExtendIn, moveIn, MoveAnswer, MovesIfMet}
-use Rattle.extend.proofs.Refusing as F
+use Rattle.extend.proofs.Places.{Placeless, placeless-below, placeless-above, place-none, place-13, place-after}
 use Rattle.extend.proofs.Refusing.{extend-number}
 use Rattle.extend.proofs.ExtendPlans.{others-than-line, not-line, unmet-line}
-use Rattle.extend.proofs.Extends.{not-all}
 use Rattle.extend.proofs.Moves.{extend-moves-end}
 use Rattle.extend.proofs.OutcomesWritten.{editedBy, answered-outcome, refused-outcome, not-accepted}
 
 -- ---- lists of which one more entry stands last
 
 module _ {A : Type 0} (f : A → Bool) where
-  fails-before : (xs ys : List A) (k : ℕ) → failsAt f xs k ≡ true → failsAt f (xs ++ ys) k ≡ true
-  fails-before [] ys k h = never h
-  fails-before (x ∷ xs) ys zero h = h
-  fails-before (x ∷ xs) ys (suc k) h = fails-before xs ys k h
-
-  fails-last : (xs ys : List A) → length ys ≤ 1 → every f ys ≡ false → failsAt f (xs ++ ys) (length xs) ≡ true
-  fails-last [] [] l h = never (sym h)
-  fails-last [] (y ∷ []) l h = go (f y) h
+  first-of-few : (ys : List A) → length ys ≤ 1 → every f ys ≡ false → firstFailing f ys ≡ 0
+  first-of-few [] l h = never (sym h)
+  first-of-few (y ∷ []) l h = go (f y) h
     where
-      go : (b : Bool) → (b && true) ≡ false → not b ≡ true
+      go : (b : Bool) → (b && true) ≡ false → ite b (suc zero) zero ≡ zero
       go true h = never (sym h)
       go false h = refl
-  fails-last [] (y ∷ z ∷ ys) l h = absurd (omega arith)
-  fails-last (x ∷ xs) ys l h = fails-last xs ys l h
+  first-of-few (y ∷ z ∷ ys) l h = absurd (omega arith)
 
   every-both : (xs ys : List A) → every f xs ≡ true → every f ys ≡ true → every f (xs ++ ys) ≡ true
   every-both [] ys h k = k
@@ -111,15 +104,23 @@ module _ (w : Pin) (p : ℕ) (f : Relation → Bool) {n : ℕ} (e : n ≡ length
 -- ---- the move
 
 -- 8, 24 or 22
-move-number : (ps : List Point) (rs : List Relation) (k : ℕ) (v : Vec2) (w : Pin) → (moveRefusal ps rs k v w ≡ 13 → ⊥) × (moveRefusal ps rs k v w ≡ 19 → ⊥)
+move-number : (ps : List Point) (rs : List Relation) (k : ℕ) (v : Vec2) (w : Pin) → Placeless (moveRefusal ps rs k v w)
 unfolding guardNumber
 move-number ps rs k v w = go (ltb k (length ps)) (okPosition v) (leb (length rs + length (pinnedBy w (getD ps k noPoint .id))) (limits .relations))
   where
-    go : (a b c : Bool) → (guardNumber a 8 (guardNumber b 24 (guardNumber c 22 0)) ≡ 13 → ⊥) × (guardNumber a 8 (guardNumber b 24 (guardNumber c 22 0)) ≡ 19 → ⊥)
-    go false b c = (λ e. omega arith, λ e. omega arith)
-    go true false c = (λ e. omega arith, λ e. omega arith)
-    go true true false = (λ e. omega arith, λ e. omega arith)
-    go true true true = (λ e. omega arith, λ e. omega arith)
+    go : (a b c : Bool) → Placeless (guardNumber a 8 (guardNumber b 24 (guardNumber c 22 0)))
+    go false b c = placeless-below (omega arith)
+    go true false c = placeless-above (omega arith)
+    go true true false = placeless-above (omega arith)
+    go true true true = placeless-below (omega arith)
+
+-- a place is that of a drawing's first unmet relation
+pub record FirstIn (d : Drawing) (j : ℕ) : Type 0 where
+  pub unmet : allMet d ≡ false
+  pub first : j ≡ firstUnmet d
+
+first-in : (d : Drawing) (j : ℕ) → j ≡ firstUnmet d → j < length (d .relations) → FirstIn d j
+first-in d j e h = record { unmet = some-fails (met (d .points) (d .curves)) (d .relations) (omega (arith, e)); first = e }
 
 module _ (d : Drawing) (k : ℕ) (v : Vec2) (w : Pin) where
   abbrev number : ℕ
@@ -134,35 +135,31 @@ module _ (d : Drawing) (k : ℕ) (v : Vec2) (w : Pin) where
   pub move-refused-by : {n : ℕ} (l : List ℕ) → n ≡ number → (n ≡ 0 → ⊥) → MoveAnswer d k v w l l (refusedAt n 0)
   move-refused-by {n} l e h =
       let o : moveIn allMet d k v w ≡ refused n = ap (λ x. ite (eqb x 0) (checkMet allMet after-move) (refused x)) (sym e) ∙ ap (λ b. ite b (checkMet allMet after-move) (refused n)) (ne-eqb n 0 h) in
-      let m = move-number (d .points) (d .relations) k v w in
-      record { written = refused-outcome n 0 o; no-place = λ x y. refl; not-13 = λ z. m .0 (sym e ∙ z); unmet-after = λ z. absurd (m .1 (sym e ∙ z)) }
+      record { written = refused-outcome n 0 o; place = place-none d _ (subst Placeless (sym e) (move-number (d .points) (d .relations) k v w)) }
 
   module _ (z : number ≡ 0) where
     moves : (f : Drawing → Bool) → moveIn f d k v w ≡ checkMet f after-move
     moves f = ap (λ x. ite (eqb x 0) (checkMet f after-move) (refused x)) z
 
-    pub move-unmet : (l : List ℕ) {j : ℕ} → unmetAt after-move j ≡ true → MoveAnswer d k v w l l (refusedAt 19 j)
+    pub move-unmet : (l : List ℕ) {j : ℕ} → FirstIn after-move j → MoveAnswer d k v w l l (refusedAt 19 j)
     unfolding checkMet guard
     move-unmet l {j} u =
-        let o : moveIn allMet d k v w ≡ refused 19 = moves allMet ∙ ap (λ b. guard b 19 (accepted after-move nothing)) (not-all after-move j u) in
-        record { written = refused-outcome 19 j o; no-place = λ x y. absurd (y refl); not-13 = λ x. omega arith; unmet-after = λ x. u }
+        let o : moveIn allMet d k v w ≡ refused 19 = moves allMet ∙ ap (λ b. guard b 19 (accepted after-move nothing)) (u .unmet) in
+        record { written = refused-outcome 19 j o; place = u .first ∙ sym (place-after d _ after-move nothing (moves (λ d′. true))) }
 
     pub move-met : allMet after-move ≡ true → (before after : List ℕ) (a : Applied) → Answered number (encode after-move) nothing before after a → MoveAnswer d k v w before after (editedBy a)
     unfolding checkMet guard
     move-met u before after a g =
         let o : moveIn allMet d k v w ≡ accepted after-move nothing = moves allMet ∙ ap (λ b. guard b 19 (accepted after-move nothing)) u in
         let t : Answered 0 (encode after-move) nothing before after a = subst (λ x. Answered x (encode after-move) nothing before after a) z g in
-        let few = go (leb (length (encode after-move)) (length before)) (t .refusal) in
         record {
           written = subst (λ x. OutcomeWritten (ifFits (length before) x) before after (editedBy a)) (sym o) (answered-outcome after-move nothing t);
-          no-place = λ x y. refl;
-          not-13 = few .0;
-          unmet-after = λ x. absurd (few .1 x);
+          place = place-none d _ (go (leb (length (encode after-move)) (length before)) (t .refusal));
         }
       where
-        go : (b : Bool) → a .refusal ≡ ite b 0 25 → (a .refusal ≡ 13 → ⊥) × (a .refusal ≡ 19 → ⊥)
-        go true e = (λ x. omega arith, λ x. omega arith)
-        go false e = (λ x. omega arith, λ x. omega arith)
+        go : (b : Bool) → a .refusal ≡ ite b 0 25 → Placeless (a .refusal)
+        go true e = placeless-below (omega arith)
+        go false e = placeless-above (omega arith)
 
 -- ---- which relations are met then
 
@@ -181,11 +178,17 @@ module _ {d : Drawing} (valid : Valid limits d) (k : ℕ) (below : k < length (d
   is-moved = drawing-moved valid k below v w
 
   module _ {j : ℕ} (e : j ≡ firstNamedUnmet q v id d) where
-    first : j ≡ firstUnmet shifted (d .curves) (d .relations)
+    first : j ≡ firstFailing f (d .relations)
     first = e ∙ named-enough q v id d all alone
 
-    pub named-unmet : j < length (d .relations) → unmetAt (drawingMoved d k v w) j ≡ true
-    named-unmet h = ap (λ (x : Drawing). unmetAt x j) is-moved ∙ fails-before f (d .relations) (pinnedBy w q) j (rw first (fails-there f (d .relations) (omega (arith, first))))
+    -- there are as many relations as before, and at most the pin's own
+    relations-then : length (drawingMoved d k v w .relations) ≡ length (d .relations) + length (pinnedBy w q)
+    relations-then = ap (λ (x : Drawing). length (x .relations)) is-moved ∙ length-append (d .relations) (pinnedBy w q)
+
+    pub named-unmet : j < length (d .relations) → FirstIn (drawingMoved d k v w) j
+    named-unmet h =
+        let t : firstUnmet (drawingMoved d k v w) ≡ j = ap firstUnmet is-moved ∙ first-in-front f (d .relations) (pinnedBy w q) (omega (arith, first)) ∙ sym first in
+        first-in (drawingMoved d k v w) j (sym t) (omega (arith, relations-then))
 
     old-met : length (d .relations) ≤ j → every f (d .relations) ≡ true
     old-met h = none-fails f (d .relations) (omega (arith, first))
@@ -194,8 +197,12 @@ module _ {d : Drawing} (valid : Valid limits d) (k : ℕ) (below : k < length (d
       pub pin-met : b ≡ true → allMet (drawingMoved d k v w) ≡ true
       pin-met t = ap allMet is-moved ∙ every-both f (d .relations) (pinnedBy w q) (old-met h) (sym c ∙ t)
 
-      pub pin-unmet : b ≡ false → unmetAt (drawingMoved d k v w) (length (d .relations)) ≡ true
-      pin-unmet t = ap (λ (x : Drawing). unmetAt x (length (d .relations))) is-moved ∙ fails-last f (d .relations) (pinnedBy w q) (pinned-few w q) (sym c ∙ t)
+      pub pin-unmet : b ≡ false → FirstIn (drawingMoved d k v w) (length (d .relations))
+      pin-unmet t =
+          let few = first-of-few f (pinnedBy w q) (pinned-few w q) (sym c ∙ t) in
+          let u : firstUnmet (drawingMoved d k v w) ≡ length (d .relations) + firstFailing f (pinnedBy w q) = ap firstUnmet is-moved ∙ first-behind f (d .relations) (pinnedBy w q) (old-met h) in
+          let some : length (pinnedBy w q) ≡ 0 → ⊥ = λ z. never (sym (sym c ∙ t) ∙ ap (every f) (pinned-none w q z)) in
+          first-in (drawingMoved d k v w) (length (d .relations)) (omega (arith, u, few)) (omega (arith, relations-then, some))
 
 -- ---- what is read of a good image
 
@@ -237,7 +244,7 @@ module _ (s : List ℕ) (b : Bytes s) (id k : ℕ) (v : Vec2) (w : Pin) (e : ima
     pub answer-pin-unmet : (l : List ℕ) → not m ≡ true → MoveAnswer (drawingOf s) k v w l l (refusedAt 19 n)
     answer-pin-unmet l x =
         move-unmet (drawingOf s) k v w (sym u ∙ z) l
-        (ap (unmetAt (drawingMoved (drawingOf s) k v w)) count-so ∙ pin-unmet (image-valid s e b) k below v w all id alone first-so (omega (arith, count-so)) pin-so (not-true m x))
+        (subst (FirstIn (drawingMoved (drawingOf s) k v w)) (sym count-so) (pin-unmet (image-valid s e b) k below v w all id alone first-so (omega (arith, count-so)) pin-so (not-true m x)))
 
     pub answer-met : not m ≡ false → (before after : List ℕ) (a : Applied) → Answered (moveRefusal (drawingOf s .points) (drawingOf s .relations) k v w) (encode (drawingMoved (drawingOf s) k v w)) nothing before after a → MoveAnswer (drawingOf s) k v w before after (editedBy a)
     answer-met x before after a g = move-met (drawingOf s) k v w (sym u ∙ z) (pin-met (image-valid s e b) k below v w all id alone first-so (omega (arith, count-so)) pin-so (not-false m x)) before after a g
@@ -248,27 +255,25 @@ module _ (d : Drawing) (k : ℕ) (at : Vec2) where
   abbrev target : Curve
   target = getD (d .curves) k noCurve
 
-  refused-by : (l : List ℕ) (n : ℕ) → F.Told n → extendIn allMet d k at ≡ refused n → ((d′ : Drawing) (removed : Removed) → n ≡ 19 → extendIn (λ d′. true) d k at ≡ accepted d′ removed → ⊥) → ExtendWritten d k at l l (refusedAt n 0)
-  refused-by l n h o u =
-      record { written = refused-outcome n 0 o; sound = λ d′ removed a. not-accepted o a; no-place = λ x y. refl; unmet-before = λ x. absurd (h .not-13 x); unmet-after = λ x d′ removed a. absurd (u d′ removed x a) }
+  refused-by : (l : List ℕ) (n : ℕ) → Placeless n → extendIn allMet d k at ≡ refused n → ExtendWritten d k at l l (refusedAt n 0)
+  refused-by l n h o = record { written = refused-outcome n 0 o; sound = λ d′ removed a. not-accepted o a; place = place-none d _ h }
 
   pub no-line : (l : List ℕ) → OneOf others-than-line (tagOf K.the-type (target .kind)) → ExtendWritten d k at l l (refusedAt 10 0)
   unfolding applyPlanned
-  no-line l h = refused-by l 10 (record { some-number = λ z. omega arith; not-13 = λ z. omega arith }) (ap (applyPlanned allMet limits d (target .id)) (sym (not-line d at target (target .kind) h))) (λ d′ removed z a. omega arith)
+  no-line l h = refused-by l 10 (placeless-below (omega arith)) (ap (applyPlanned allMet limits d (target .id)) (sym (not-line d at target (target .kind) h)))
 
-  pub unmet-first : (l : List ℕ) {j : ℕ} → isLine (target .kind) ≡ true → unmetAt d j ≡ true → ExtendWritten d k at l l (refusedAt 13 j)
+  pub unmet-first : (l : List ℕ) {j : ℕ} → isLine (target .kind) ≡ true → FirstIn d j → ExtendWritten d k at l l (refusedAt 13 j)
   unfolding applyPlanned
   unmet-first l {j} q u =
-      let o : extendIn allMet d k at ≡ refused 13 = ap (applyPlanned allMet limits d (target .id)) (sym (unmet-line d at target (target .kind) q (not-all d j u))) in
-      record { written = refused-outcome 13 j o; sound = λ d′ removed a. not-accepted o a; no-place = λ x y. absurd (x refl); unmet-before = λ x. u; unmet-after = λ x. absurd (omega arith) }
+      let o : extendIn allMet d k at ≡ refused 13 = ap (applyPlanned allMet limits d (target .id)) (sym (unmet-line d at target (target .kind) q (u .unmet))) in
+      record { written = refused-outcome 13 j o; sound = λ d′ removed a. not-accepted o a; place = u .first ∙ sym (place-13 d _) }
 
   module _ (all : allMet d ≡ true) {y : EndPlan} (i : ExtendIn d target at y) where
     pub plan-refused : (l : List ℕ) {n : ℕ} → y ≡ N.Refused n → ExtendWritten d k at l l (refusedAt n 0)
     unfolding applyPlanned
     plan-refused l {n} g =
         let u : extendCurve d at target (target .kind) ≡ Refused n = sym (i .plan) ∙ ap planOf g in
-        refused-by l n (extend-number d at target (target .kind) n all u) (ap (applyPlanned allMet limits d (target .id)) u)
-        (λ d′ removed z a. not-accepted (ap (applyPlanned (λ x. true) limits d (target .id)) u) a)
+        refused-by l n (extend-number d at target (target .kind) n all u .1) (ap (applyPlanned allMet limits d (target .id)) u)
 
     module _ {atB : Bool} {j : ℕ} {v : Vec2} {w : Pin} (g : y ≡ N.Move atB j v w) where
       ends : MovesEnd d target (N.Move atB j v w)
@@ -309,19 +314,12 @@ module _ (d : Drawing) (k : ℕ) (at : Vec2) where
             (subst Numbers (sym (new-drawing d′ removed a)) (move-numbers d j v w ns (fits .0) (fits .1)))
 
         pub move-extends : Numbers d → VecNumbers v → (before after : List ℕ) (r : EditedImage) → MoveAnswer d j v w before after r → ExtendWritten d k at before after r
-        unfolding checkMet guard
         move-extends ns fits before after r m =
             record {
               written = subst (λ x. OutcomeWritten (ifFits (length before) x) before after r) (sym (extends-so allMet)) (m .written);
               sound = new-sound ns fits;
-              no-place = m .no-place;
-              unmet-before = λ x. absurd (m .not-13 x);
-              unmet-after = λ x d′ removed a. go (eqb (moveRefusal (d .points) (d .relations) j v w) 0) x d′ removed (sym (extends-so (λ d′. true)) ∙ a);
+              place = m .place ∙ ap (λ x. reportedPlace d x (r .refusal)) (sym (extends-so (λ d′. true)));
             }
-          where
-            go : (b : Bool) → r .refusal ≡ 19 → (d′ : Drawing) (removed : Removed) → ite b (checkMet (λ d′. true) (drawingMoved d j v w)) (refused (moveRefusal (d .points) (d .relations) j v w)) ≡ accepted d′ removed → unmetAt d′ (r .place) ≡ true
-            go true x d′ removed a = let h : drawingMoved d j v w ≡ d′ = cc in ap (λ (t : Drawing). unmetAt t (r .place)) (sym h) ∙ m .unmet-after x
-            go false x d′ removed a = let z : _≡_ {A = ℕ} 0 1 = cc in absurd (omega arith)
 
 -- ---- the extend in an image
 
@@ -335,12 +333,10 @@ module _ (s : List ℕ) (b : Bytes s) (k : ℕ) (at : Vec2) (e : imageFault s �
   pub image-no-line : (l : List ℕ) → OneOf others-than-line (tagOf K.the-type (c .kind)) → ExtendWritten (drawingOf s) k at l l (refusedAt 10 0)
   image-no-line l h = no-line (drawingOf s) k at l (subst (λ (x : Curve). OneOf others-than-line (tagOf K.the-type (x .kind))) curve-so h)
 
-  module _ {u : ℕ} (eu : u ≡ firstUnmet (drawingOf s .points) (drawingOf s .curves) (drawingOf s .relations)) {r : List ℕ} {n : ℕ} (er : r ≡ relationTable s) (en : n ≡ length (relationsIn r)) where
+  module _ {u : ℕ} (eu : u ≡ firstUnmet (drawingOf s)) {r : List ℕ} {n : ℕ} (er : r ≡ relationTable s) (en : n ≡ length (relationsIn r)) where
     pub image-unmet : (l : List ℕ) {i j : ℕ} → c .kind ≡ Line i j → u < n → ExtendWritten (drawingOf s) k at l l (refusedAt 13 u)
     image-unmet l q h =
-        let f = met (drawingOf s .points) (drawingOf s .curves) in
-        let m : firstUnmet (drawingOf s .points) (drawingOf s .curves) (drawingOf s .relations) < length (drawingOf s .relations) = omega (arith, eu, counted-relations s e er en) in
-        unmet-first (drawingOf s) k at l (sym (ap (λ (x : Curve). isLine (x .kind)) curve-so) ∙ line-so q) (ap (failsAt f (drawingOf s .relations)) eu ∙ fails-there f (drawingOf s .relations) m)
+        unmet-first (drawingOf s) k at l (sym (ap (λ (x : Curve). isLine (x .kind)) curve-so) ∙ line-so q) (first-in (drawingOf s) u eu (omega (arith, counted-relations s e er en)))
 
     module _ (h : n ≤ u) where
       pub all-so : allMet (drawingOf s) ≡ true

@@ -36,14 +36,19 @@ use Rattle.planning.specs.declared.PlanResult.the-variants.{Refused, Accepted}
 use Rattle.planning.specs.Planning.{guardPlan}
 use Rattle.hit_search.specs.NearestHit.{Support, curveHits, Best, bestOf, Search, stopped, finished, continueWith, nearestHit}
 use Rattle.extend.specs.Extend.{planMove, isFixed, extendEnd, extendCurve}
+use Rattle.extend.proofs.Places.{Placeless, placeless-below}
 
 -- ---- 15 and 16 in the search for hits, 20 and 21 in that for roots
 
+-- 14 or above, without 19, which comes after a move alone
+abbrev OfSearch : ℕ → Type 0
+OfSearch n = (14 ≤ n) × (n ≡ 19 → ⊥)
+
 abbrev Later : H.HitsResult → Type 0
 Later (H.found l b) = Unit {0}
-Later (H.refused n b) = 14 ≤ n
+Later (H.refused n b) = OfSearch n
 
-later-need : (t : Bool) (n b : ℕ) (o : H.HitsResult) → 14 ≤ n → Later o → Later (H.guardHits t n b o)
+later-need : (t : Bool) (n b : ℕ) (o : H.HitsResult) → OfSearch n → Later o → Later (H.guardHits t n b o)
 unfolding H.guardHits
 later-need true n b o h k = k
 later-need false n b o h k = h
@@ -52,22 +57,22 @@ later-resolved : (line : Shape) (f : Freeform) (hits : List Vec2) (ts : List Flo
 unfolding resolved
 later-resolved line f hits [] b = tt
 later-resolved line f hits (t ∷ ts) b =
-    later-need (le (dist line (pointAt f t)) 1e-7) 16 b _ (omega arith) (later-resolved line f (cond (hasNearHit (pointAt f t) hits) hits (hits ++ pointAt f t ∷ [])) ts b)
+    later-need (le (dist line (pointAt f t)) 1e-7) 16 b _ (omega arith, λ z. omega arith) (later-resolved line f (cond (hasNearHit (pointAt f t) hits) hits (hits ++ pointAt f t ∷ [])) ts b)
 
 later-at : (line : Shape) (f : Freeform) (o : R.RootsResult) → By20Or21 o → Later (resolvedAt line f o)
 unfolding resolvedAt
 later-at line f (R.found ts b) h = later-resolved line f [] ts b
-later-at line f (R.refused n b) h = omega (arith, h .0)
+later-at line f (R.refused n b) h = (omega (arith, h .0), λ z. omega (arith, h .0))
 
 later-along : (a b : Vec2) (d : Direction) (f : Freeform) (budget : ℕ) → Later (freeformAlong a b d f budget)
 unfolding freeformAlong freeformBy
-later-along a b D.None f budget = omega arith
+later-along a b D.None f budget = (omega arith, λ z. omega arith)
 later-along a b (D.Unit d) f budget =
-    later-need (not (every (λ x. lt (abs x) 1e-28) (polynomial d a f))) 15 budget _ (omega arith) (later-at (S.Line a b) f (rootsOf (polynomial d a f) budget) (roots-refused (polynomial d a f) budget))
+    later-need (not (every (λ x. lt (abs x) 1e-28) (polynomial d a f))) 15 budget _ (omega arith, λ z. omega arith) (later-at (S.Line a b) f (rootsOf (polynomial d a f) budget) (roots-refused (polynomial d a f) budget))
 
 later-shape : (a b : Vec2) (piece : Shape) (budget : ℕ) → Later (shapeHits a b piece budget)
 unfolding shapeHits
-later-shape a b piece budget = later-need _ 15 budget _ (omega arith) tt
+later-shape a b piece budget = later-need _ 15 budget _ (omega arith, λ z. omega arith) tt
 
 later-meets : (ps : List Point) (s : Support) (foot : Vec2) (o : Curve) (k : CurveKind) (budget : ℕ) → Later (curveHits ps s foot o k budget)
 unfolding curveHits
@@ -80,7 +85,7 @@ later-meets ps s foot o (Conic a m b rho) budget = later-along (s .a) (s .b) (no
 -- ---- the search over the curves, and the plan
 
 abbrev Stops : Search → Type 0
-Stops (stopped n) = 14 ≤ n
+Stops (stopped n) = OfSearch n
 Stops (finished best) = Unit {0}
 
 stops : (ps : List Point) (s : Support) (foot : Vec2) (os : List Curve) (best : Option Best) (budget : ℕ) → Stops (nearestHit ps s foot os best budget)
@@ -96,10 +101,10 @@ stops ps s foot (o ∷ os) best budget =
     go ih (H.refused n b) h = h
 
 abbrev From14 : PlanResult → Type 0
-From14 (Refused n) = 14 ≤ n
+From14 (Refused n) = OfSearch n
 From14 (Accepted plan) = Unit {0}
 
-from-guard : (b : Bool) (n : ℕ) (o : PlanResult) → 14 ≤ n → From14 o → From14 (guardPlan b n o)
+from-guard : (b : Bool) (n : ℕ) (o : PlanResult) → OfSearch n → From14 o → From14 (guardPlan b n o)
 unfolding guardPlan
 from-guard true n o h k = k
 from-guard false n o h k = h
@@ -107,22 +112,18 @@ from-guard false n o h k = h
 from-move : (d : Drawing) (atB : Bool) (r : Search) → Stops r → From14 (planMove d atB r)
 unfolding planMove
 from-move d atB (stopped n) h = h
-from-move d atB (finished none) h = omega arith
-from-move d atB (finished (some b)) h = from-guard (not (b .tied)) 17 _ (omega arith) tt
+from-move d atB (finished none) h = (omega arith, λ z. omega arith)
+from-move d atB (finished (some b)) h = from-guard (not (b .tied)) 17 _ (omega arith, λ z. omega arith) tt
 
 from-end : (d : Drawing) (c : ℕ) (p : Vec2) (s : Support) (end : ℕ) → From14 (extendEnd d c p s end)
 unfolding extendEnd
 from-end d c p s end =
-    from-guard (not (among end (uses (others c (d .curves))) || isFixed (d .points) end)) 14 _ (omega arith)
+    from-guard (not (among end (uses (others c (d .curves))) || isFixed (d .points) end)) 14 _ (omega arith, λ z. omega arith)
     (from-move d (s .atB) (nearestHit (d .points) s (point (S.Line (s .a) (s .b)) (param (S.Line (s .a) (s .b)) p)) (others c (d .curves)) none 1000000)
     (stops (d .points) s (point (S.Line (s .a) (s .b)) (param (S.Line (s .a) (s .b)) p)) (others c (d .curves)) none 1000000))
 
-pub record Told (n : ℕ) : Type 0 where
-  pub some-number : n ≡ 0 → ⊥
-  pub not-13 : n ≡ 13 → ⊥
-
--- where all relations are met it is not refused by 13
-pub extend-number : (d : Drawing) (p : Vec2) (c : Curve) (k : CurveKind) (n : ℕ) → allMet d ≡ true → extendCurve d p c k ≡ Refused n → Told n
+-- where all relations are met it is refused by a number above 0, and neither by 13 nor by 19
+pub extend-number : (d : Drawing) (p : Vec2) (c : Curve) (k : CurveKind) (n : ℕ) → allMet d ≡ true → extendCurve d p c k ≡ Refused n → (n ≡ 0 → ⊥) × Placeless n
 unfolding extendCurve guardPlan
 extend-number d p c (Line i j) n m e =
     let a = positionOf (d .points) i in
@@ -130,9 +131,9 @@ extend-number d p c (Line i j) n m e =
     let atB = le (distance p b) (distance p a) in
     let x : PlanResult = extendEnd d (c .id) p (record { a = a; b = b; atB = atB }) (cond atB j i) in
     let q : x ≡ Refused n = sym (ap (λ t. guardPlan t 13 x) m) ∙ e in
-    let h : 14 ≤ n = subst From14 q (from-end d (c .id) p (record { a = a; b = b; atB = atB }) (cond atB j i)) in
-    record { some-number = λ z. omega arith; not-13 = λ z. omega arith }
-extend-number d p c (Arc m i j) n h e = let z : 10 ≡ n = cc in record { some-number = λ q. omega arith; not-13 = λ q. omega arith }
-extend-number d p c (Circle m r) n h e = let z : 10 ≡ n = cc in record { some-number = λ q. omega arith; not-13 = λ q. omega arith }
-extend-number d p c (Bezier m) n h e = let z : 10 ≡ n = cc in record { some-number = λ q. omega arith; not-13 = λ q. omega arith }
-extend-number d p c (Conic i m j rho) n h e = let z : 10 ≡ n = cc in record { some-number = λ q. omega arith; not-13 = λ q. omega arith }
+    let h : OfSearch n = subst From14 q (from-end d (c .id) p (record { a = a; b = b; atB = atB }) (cond atB j i)) in
+    (λ z. omega (arith, h .0), record { not-13 = λ z. omega (arith, h .0); not-19 = h .1 })
+extend-number d p c (Arc m i j) n h e = let z : 10 ≡ n = cc in (λ q. omega arith, placeless-below (omega arith))
+extend-number d p c (Circle m r) n h e = let z : 10 ≡ n = cc in (λ q. omega arith, placeless-below (omega arith))
+extend-number d p c (Bezier m) n h e = let z : 10 ≡ n = cc in (λ q. omega arith, placeless-below (omega arith))
+extend-number d p c (Conic i m j rho) n h e = let z : 10 ≡ n = cc in (λ q. omega arith, placeless-below (omega arith))

@@ -13,14 +13,14 @@ use Rattle.sketch.specs.Blanks.{noCurve}
 use Rattle.image.specs.Image.{drawingOf, imageFault, parse}
 use Rattle.image.specs.Image as I
 use Rattle.image.specs.Encode.{encode, drawingSize}
-use Rattle.relations.specs.Met.{allMet, unmetAt}
+use Rattle.relations.specs.Met.{allMet}
 use Rattle.edit_plan.specs.declared.Removed.{Removed}
 use Rattle.edit_plan.specs.Outcome.{Outcome, refused, accepted, guard}
 use Rattle.edit_plan.specs.Steps.{nothing}
 use Rattle.edit_plan.specs.Suited.{reportOf}
 use Rattle.extend.specs.declared.EditedImage.{EditedImage}
 use Rattle.extend.specs.Extend.{extendCurve}
-use Rattle.extend.specs.ExtendAnswer.{applyPlanned, NoPlace}
+use Rattle.extend.specs.ExtendAnswer.{applyPlanned, reportedPlace}
 
 -- ---- an outcome, written
 
@@ -61,14 +61,12 @@ extendIn met d k p =
     let c : Curve = getD (d .curves) k noCurve in
     applyPlanned met limits d (c .id) (extendCurve d p c (c .kind))
 
--- the outcome, and with 13 and 19 the place of a relation that is not met, or would not be
+-- the outcome, and the place that comes with its number
 pub record ExtendWritten (d : Drawing) (k : ℕ) (p : Vec2) (before after : List ℕ) (r : EditedImage) : Type 0 where
   pub written : OutcomeWritten (ifFits (length before) (extendIn allMet d k p)) before after r
   -- a new image is as long as it says, and is read as the new drawing
   pub sound : (d′ : Drawing) (removed : Removed) → extendIn allMet d k p ≡ accepted d′ removed → (length (encode d′) ≡ drawingSize d′) × (parse (encode d′) ≡ I.accepted d′)
-  pub no-place : NoPlace (r .refusal) (r .place)
-  pub unmet-before : r .refusal ≡ 13 → unmetAt d (r .place) ≡ true
-  pub unmet-after : r .refusal ≡ 19 → (d′ : Drawing) (removed : Removed) → extendIn (λ d′. true) d k p ≡ accepted d′ removed → unmetAt d′ (r .place) ≡ true
+  pub place : r .place ≡ reportedPlace d (extendIn (λ d′. true) d k p) (r .refusal)
 
 -- of a curve of a good image
 abbrev pub ExtendsImage : List ℕ → ℕ → Vec2 → List ℕ → List ℕ → EditedImage → Type 0

@@ -14,7 +14,7 @@ use Rattle.sketch.specs.Lookup.{among}
 use Rattle.sketch.specs.Drawing.{Drawing, pointIds}
 use Rattle.image.specs.Image.{drawingOf, imageFault}
 use Rattle.image.specs.Stored.{Binary64}
-use Rattle.relations.specs.Met.{met, allMet, unmetAt}
+use Rattle.relations.specs.Met.{met, allMet}
 use Rattle.edit_plan.specs.Tables.{moved, uses, others}
 use Rattle.edit_plan.specs.declared.Pin.{Pin}
 use Rattle.edit_plan.specs.declared.Removed.{Removed}
@@ -23,7 +23,7 @@ use Rattle.edit_plan.specs.Steps.{endsOf}
 use Rattle.edit_plan.specs.ApplyPlan.{checkMet}
 use Rattle.apply.specs.Moved.{pinnedBy, pointAtPlace, drawingMoved, moveRefusal}
 use Rattle.extend.specs.declared.EditedImage.{EditedImage}
-use Rattle.extend.specs.ExtendAnswer.{NoPlace}
+use Rattle.extend.specs.ExtendAnswer.{reportedPlace}
 use Rattle.extend.specs.ImageExtend.{ifFits, OutcomeWritten}
 use Rattle.hit_search.specs.declared.Nearest.{Nearest}
 use Rattle.hit_search.specs.NearestHit.{Support, finished}
@@ -84,9 +84,7 @@ PinMet s w p v r = imageFault s ≡ 0 → r ≡ every (met (map (moved p v) (dra
 
 pub record MoveAnswer (d : Drawing) (k : ℕ) (v : Vec2) (w : Pin) (before after : List ℕ) (r : EditedImage) : Type 0 where
   pub written : OutcomeWritten (ifFits (length before) (moveIn allMet d k v w)) before after r
-  pub no-place : NoPlace (r .refusal) (r .place)
-  pub not-13 : r .refusal ≡ 13 → ⊥
-  pub unmet-after : r .refusal ≡ 19 → unmetAt (drawingMoved d k v w) (r .place) ≡ true
+  pub place : r .place ≡ reportedPlace d (moveIn (λ d′. true) d k v w) (r .refusal)
 
 -- of a point of a good image, whose relations are met, that no curve but `id` uses; v is of the code's own type
 abbrev pub MovesIfMet : List ℕ → ℕ → ℕ → Vec2 → Pin → List ℕ → List ℕ → EditedImage → Type 0

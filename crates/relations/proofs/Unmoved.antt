@@ -22,7 +22,7 @@ use Rattle.edit_plan.specs.Tables.{moved, curvesOf, uses, others}
 use Rattle.edit_plan.proofs.Leaves.{among-append}
 use Rattle.sketch_geometry.specs.Geometry.{positionOf, shapeOf, shapeFrom, shapeIn}
 use Rattle.sketch_geometry.proofs.RowPositions.{moved-other}
-use Rattle.relations.specs.Met.{met, allMet, firstFailing, firstUnmet}
+use Rattle.relations.specs.Met.{met, allMet, firstFailing}
 use Rattle.relations.specs.Moves.{names, metIfNamed, firstNamedUnmet}
 
 in-neither : (p : ℕ) (a b : List ℕ) → among p (a ++ b) ≡ false → (among p a ≡ false) × (among p b ≡ false)
@@ -112,7 +112,7 @@ module _ (p : ℕ) (v : Vec2) (ps : List Point) where
           go true e = refl
           go false e = sym (kept-met r e ∙ h)
 
-      same-first : (rs : List Relation) → every (met ps cs) rs ≡ true → firstFailing (metIfNamed p v c ps cs) rs ≡ firstUnmet after cs rs
+      same-first : (rs : List Relation) → every (met ps cs) rs ≡ true → firstFailing (metIfNamed p v c ps cs) rs ≡ firstFailing (met after cs) rs
       same-first [] h = refl
       same-first (r ∷ rs) h =
           let a = same-test r (and-left (met ps cs r) _ h) in
@@ -121,5 +121,5 @@ module _ (p : ℕ) (v : Vec2) (ps : List Point) where
 
 -- the search among those that name the point or the curve finds what the search among all finds
 pub named-enough : (p : ℕ) (v : Vec2) (c : ℕ) (d : Drawing) → allMet d ≡ true → among p (uses (others c (d .curves))) ≡ false
-    → firstNamedUnmet p v c d ≡ firstUnmet (map (moved p v) (d .points)) (d .curves) (d .relations)
+    → firstNamedUnmet p v c d ≡ firstFailing (met (map (moved p v) (d .points)) (d .curves)) (d .relations)
 named-enough p v c d m u = same-first p v (d .points) c (d .curves) u (d .relations) m

@@ -73,6 +73,17 @@ met ps cs (ArcSweep c v) = true
 abbrev pub allMet : Drawing → Bool
 allMet d = every (met (d .points) (d .curves)) (d .relations)
 
+-- ---- places, from 0 in table order
+
+-- the place of the first entry that fails the test; the number of entries where none does
+abbrev pub firstFailing : {A : Type 0} → (A → Bool) → List A → ℕ
+firstFailing f [] = 0
+firstFailing f (a ∷ l) = ite (f a) (suc (firstFailing f l)) 0
+
+-- the place of the first relation that is not met (02's, CR 6); their number where all are
+abbrev pub firstUnmet : Drawing → ℕ
+firstUnmet d = firstFailing (met (d .points) (d .curves)) (d .relations)
+
 -- there is an entry at the place, and it fails the test
 abbrev pub failsAt : {A : Type 0} → (A → Bool) → List A → ℕ → Bool
 failsAt f [] k = false
@@ -82,12 +93,3 @@ failsAt f (a ∷ l) (suc k) = failsAt f l k
 -- the relation at the place is not met
 abbrev pub unmetAt : Drawing → ℕ → Bool
 unmetAt d k = failsAt (met (d .points) (d .curves)) (d .relations) k
-
--- the place of the first entry that fails the test; the number of entries where none does
-abbrev pub firstFailing : {A : Type 0} → (A → Bool) → List A → ℕ
-firstFailing f [] = 0
-firstFailing f (a ∷ l) = ite (f a) (suc (firstFailing f l)) 0
-
--- the place of the first relation that is not met; their number where all are
-abbrev pub firstUnmet : List Point → List Curve → List Relation → ℕ
-firstUnmet ps cs rs = firstFailing (met ps cs) rs

@@ -89,7 +89,7 @@ fn names(relation: Relation, p: Id, c: Id) -> bool
 
 // The place of the first relation that is not met, their number where all are; `near` guesses places by id.
 pub fn first_unmet<'a>(image: &'a [u8], near: &'a [u16]) -> usize
-    ensures { λ r. ⌜ (imageFault (now (image .entry)) ≡ 0 → r ≡ firstUnmet (drawingOf (now (image .entry)) .points) (drawingOf (now (image .entry)) .curves) (drawingOf (now (image .entry)) .relations)) ⌝ }
+    ensures { λ r. ⌜ (imageFault (now (image .entry)) ≡ 0 → r ≡ firstUnmet (drawingOf (now (image .entry)))) ⌝ }
 {
     let points = points_of(image);
     let curves = curves_of(image);
