@@ -1,6 +1,6 @@
 -- A plan that suits its curve is refused by 22, 23 or 24 alone (`suited-refusals`), and the move of a line's end by 24, 22 or 19 (`move-refusals`): the other
 -- numbers in the definitions of applying are never met. Assumes nothing.
-use mathlib.Core.Path.{_≡_, refl, sym, ap, _∙_}
+use mathlib.Core.Path.{_≡_, refl, sym, ap, _∙_, subst}
 use mathlib.Core.Bool.{Bool, true, false}
 use mathlib.Core.List.{List, [], _∷_, map}
 use mathlib.Core.Option.{some}
@@ -24,9 +24,10 @@ use Rattle.edit_plan.specs.declared.Pin.the-variants.{On, At}
 use Rattle.edit_plan.specs.declared.PinnedPoint.{PinnedPoint}
 use Rattle.edit_plan.specs.declared.Plan.{Plan}
 use Rattle.edit_plan.specs.declared.Plan.the-variants.{Whole, Cut, CutTwo, Divide, DivideTwo, Move}
+use Rattle.edit_plan.specs.declared.Removed.{Removed}
 use Rattle.edit_plan.specs.Outcome.{Outcome, refused, accepted, _then_, guard}
-use Rattle.edit_plan.specs.Tables.{addPoint, addCurve, addRelation, setKind, movePoint}
-use Rattle.edit_plan.specs.Steps.{endsOf, isLine, releaseExtent, links, piecesOf, addPoints, addCurves, addPieces, splitAt, pin, pinAll, lineAt, tieRelation, tie, swap}
+use Rattle.edit_plan.specs.Tables.{okPosition, addPoint, addCurve, addRelation, setKind, movePoint}
+use Rattle.edit_plan.specs.Steps.{endsOf, isLine, releaseExtent, links, piecesOf, addPoints, addCurves, addPieces, splitAt, pin, pinAll, lineAt, tieRelation, tie, swap, nothing}
 use Rattle.edit_plan.specs.ApplyPlan.{removePiece, cut, divide, checkMet, moveEnd, applyPlanTo, applyPlanAt, applyPlan}
 use Rattle.edit_plan.specs.Suited.{suitsOpen, suitsClosed, suits}
 use Rattle.edit_plan.proofs.Tables.{Holds, holds-map, holds-then}
@@ -84,6 +85,33 @@ unfolding moveEnd checkMet
 by-extend met m d b v w e =
     let p : ℕ = ite b (e .1) (e .0) in
     by-guard moving _ 24 _ refl (by-next moving (pin m (movePoint p v d) p w) _ (by-pin moving refl m (movePoint p v d) p w) λ d′ u. by-guard moving _ 19 _ refl tt)
+
+-- what is refused by 19 after the pin was added fails the test
+pinned-fails :
+    (met : Drawing → Bool) (o : Outcome Drawing (Unit {0})) → By (22 ∷ []) o → (o then (λ d u. checkMet met d)) ≡ refused 19
+    → (d : Drawing) × ((o then (λ d u. checkMet (λ x. true) d)) ≡ accepted d nothing) × (met d ≡ false)
+unfolding checkMet guard
+pinned-fails met (refused n) t q = let z : n ≡ 19 = cc in never (subst (λ (k : ℕ). among k (22 ∷ []) ≡ true) z t)
+pinned-fails met (accepted d u) t q = go (met d) refl q
+  where
+    go : (b : Bool) → met d ≡ b → guard b 19 (accepted d nothing) ≡ refused 19 → (d′ : Drawing) × (_≡_ {A = Outcome Drawing Removed} (accepted d nothing) (accepted d′ nothing)) × (met d′ ≡ false)
+    go true e q = let z : _≡_ {A = ℕ} 0 1 = cc in absurd (omega arith)
+    go false e q = (d, refl, e)
+
+end-fails :
+    (met : Drawing → Bool) (m : Limits) (d : Drawing) (b : Bool) (v : Vec2) (w : Pin) (e : ℕ × ℕ) → moveEnd met m d b v w (some e) ≡ refused 19
+    → (d′ : Drawing) × (moveEnd (λ x. true) m d b v w (some e) ≡ accepted d′ nothing) × (met d′ ≡ false)
+unfolding moveEnd guard
+end-fails met m d b v w e q = go (okPosition v) q
+  where
+    p : ℕ
+    p = ite b (e .1) (e .0)
+
+    go :
+        (k : Bool) → guard k 24 (pin m (movePoint p v d) p w then (λ d′ u. checkMet met d′)) ≡ refused 19
+        → (d′ : Drawing) × (guard k 24 (pin m (movePoint p v d) p w then (λ d′ u. checkMet (λ x. true) d′)) ≡ accepted d′ nothing) × (met d′ ≡ false)
+    go true q = pinned-fails met (pin m (movePoint p v d) p w) (by-pin (22 ∷ []) refl m (movePoint p v d) p w) q
+    go false q = let z : _≡_ {A = ℕ} 24 19 = cc in absurd (omega arith)
 
 -- ---- cuts
 
@@ -252,3 +280,14 @@ module _ (m : Limits) where
   move-refusals met d t c b v w e h =
       let (x, q) = ended (c .kind) h in
       rw (e, q) (by-extend met m d b v w x)
+
+  -- 19 says that the drawing which the move leaves fails the test
+  pub move-fails :
+      (met : Drawing → Bool) (d : Drawing) (t : ℕ) (c : Curve) (b : Bool) (v : Vec2) (w : Pin) → curveIn (d .curves) t ≡ some c → isLine (c .kind) ≡ true → applyPlan met m d t (Move b v w) ≡ refused 19
+      → (d′ : Drawing) × (applyPlan (λ x. true) m d t (Move b v w) ≡ accepted d′ nothing) × (met d′ ≡ false)
+  unfolding applyPlanAt applyPlanTo
+  move-fails met d t c b v w e h q =
+      let (x, i) = ended (c .kind) h in
+      let to : (f : Drawing → Bool) → applyPlan f m d t (Move b v w) ≡ moveEnd f m d b v w (some x) = λ f. rw (e, i) in
+      let (d′, left, fails) = end-fails met m d b v w x (sym (to met) ∙ q) in
+      (d′, to (λ y. true) ∙ left, fails)

@@ -22,37 +22,31 @@ use Rattle.sketch_image.specs.declared.ImageRead.{ImageRead}
 use Rattle.sketch_image.specs.SketchImage.{writeFault, ReadAnswer}
 use Rattle.sketch_image.proofs.Written.{write-fault}
 use Rattle.message.specs.declared.Operation.{Operation}
-use Rattle.message.specs.declared.Operation.the-variants.{Extend}
-use Rattle.relations.specs.Met.{unmetAt}
 use Rattle.edit_plan.specs.declared.Removed.{Removed}
 use Rattle.edit_plan.specs.declared.Edited.{Edited}
 use Rattle.edit_plan.specs.Outcome.{Outcome, refused, accepted, guard}
 use Rattle.edit_plan.specs.Steps.{nothing}
 use Rattle.edit_plan.specs.Suited.{outcomeOf, reportOf}
 use Rattle.extend.specs.declared.EditedImage.{EditedImage}
-use Rattle.extend.specs.ExtendAnswer.{NoPlace}
 use Rattle.extend.specs.ImageExtend.{OutcomeWritten}
-use Rattle.modify.specs.Edits.{editOf, editUntested, editSketch, EditAnswer}
+use Rattle.extend.proofs.Places.{placeless-below, place-none}
+use Rattle.modify.specs.Edits.{editOf, editPlace, editSketch, EditAnswer}
 use Rattle.modify.specs.ImageEdits.{editImage, EditWritten}
 use Rattle.modify.proofs.ImageFaults.{sketch-fault-low}
 use Rattle.modify.proofs.Numbered.{edit-numbered}
 use Rattle.modify.proofs.WholeOutcomes.{good-edit, whole-outcome, size-fits}
 
 module _ (op : Operation) (s : Sketch) (t : ℕ) (p : Vec2) where
-  -- an outcome that is refused, with what is answered of places
-  answered-refused : {r : Edited} {n : ℕ} → editSketch op s t p ≡ refused n → (n ≡ 0 → ⊥) → r .sketch ≡ s → r .refusal ≡ n → r .removed ≡ nothing → NoPlace n (r .place)
-      → (op ≡ Extend → n ≡ 13 → unmetAt (view s) (r .place) ≡ true)
-      → (op ≡ Extend → n ≡ 19 → (d′ : Drawing) (removed : Removed) → editUntested op limits (view s) t p ≡ accepted d′ removed → unmetAt d′ (r .place) ≡ true)
-      → EditAnswer op s t p r
-  answered-refused {r} {n} o z kept is none place before after =
+  -- an outcome that is refused, with its place
+  answered-refused :
+      {r : Edited} {n : ℕ} → editSketch op s t p ≡ refused n → (n ≡ 0 → ⊥) → r .sketch ≡ s → r .refusal ≡ n → r .removed ≡ nothing → r .place ≡ editPlace op (view s) t p n → EditAnswer op s t p r
+  answered-refused {r} {n} o z kept is none place =
       record {
         outcome = rw is (ap (λ b. ite b (accepted (view (r .sketch)) (r .removed)) (refused n)) (ne-eqb n 0 z)) ∙ sym o;
         report = none ∙ sym (ap reportOf o);
         kept = λ h. kept;
         valid = λ h. absurd (z (sym is ∙ h));
-        no-place = λ i j. place (λ h. i (is ∙ h)) (λ h. j (is ∙ h));
-        unmet-before = λ e h. before e (sym is ∙ h);
-        unmet-after = λ e h. after e (sym is ∙ h);
+        place = place ∙ ap (editPlace op (view s) t p) (sym is);
       }
 
   -- a sketch that no image gives
@@ -61,7 +55,7 @@ module _ (op : Operation) (s : Sketch) (t : ℕ) (p : Vec2) where
   unwritten {r} {n} {room} e long z kept is place none =
       let f : n ≡ sketchFault s = e ∙ write-fault s room long in
       let low = sketch-fault-low s in
-      answered-refused (rw (← f, ne-eqb n 0 z)) z kept is none (λ i j. place) (λ h k. absurd (omega (arith, low, f, k))) (λ h k. absurd (omega (arith, low, f, k)))
+      answered-refused (rw (← f, ne-eqb n 0 z)) z kept is none (place ∙ place-none (view s) _ (placeless-below (omega (arith, low, f))))
 
   -- ---- from its image
 
@@ -96,9 +90,7 @@ module _ (op : Operation) (s : Sketch) (t : ℕ) (p : Vec2) where
           go (refused n) e =
               let f = written (refused n) e .refusal in
               answered-refused (sketch-is ∙ e) (λ h. z (f ∙ h)) kept (same ∙ f) none
-              (λ i j. place ∙ w .no-place (λ h. i (sym f ∙ h)) (λ h. j (sym f ∙ h)))
-              (λ h k. rw place (subst (λ (d : Drawing). unmetAt d (x .place) ≡ true) (read .1) (w .unmet-before h (f ∙ k))))
-              (λ h k d′ removed a. rw place (w .unmet-after h (f ∙ k) d′ removed (ap (λ (d : Drawing). editUntested op limits d t p) (read .1) ∙ a)))
+              (place ∙ w .place ∙ ap (editPlace op (I.drawingOf image) t p) f ∙ ap (λ (d : Drawing). editPlace op d t p n) (read .1))
 
       pub image-accepted : {r : Edited} {a : ImageRead} → x .refusal ≡ 0 → ReadAnswer (take (x .size) after) a → r .sketch ≡ a .sketch → r .refusal ≡ 0 → r .place ≡ 0 → r .removed ≡ x .removed → EditAnswer op s t p r
       unfolding over
@@ -116,7 +108,5 @@ module _ (op : Operation) (s : Sketch) (t : ℕ) (p : Vec2) where
                 report = report ∙ u .removed ∙ sym (ap reportOf (sketch-is ∙ e));
                 kept = λ h. absurd (h none);
                 valid = λ h. ap sketchFault same ∙ got .sound;
-                no-place = λ i j. place;
-                unmet-before = λ h k. absurd (omega (arith, none, k));
-                unmet-after = λ h k. absurd (omega (arith, none, k));
+                place = place ∙ place-none (view s) _ (placeless-below (omega (arith, none)));
               }

@@ -6,7 +6,7 @@ use mathlib.Core.Option.{some, none}
 use Prim.Native.Nat.{ℕ, _/_, _≤_, _<_}
 use native.Mathlib.Omega.{arith}
 use lib.ListN.{length, getD}
-use lib.Dec.{eqb}
+use lib.Dec.{eqb, leb}
 use borrow.Author.Tests.{eq-eqb, ne-eqb, not-true, not-false}
 use Rattle.big_endian.specs.Laws.{Bytes}
 use Rattle.geom.specs.declared.Vec2.{Vec2}
@@ -27,7 +27,7 @@ use Rattle.rows.proofs.Holds.{holds-curves, held-curves, curve-here, curve-miss
 use Rattle.message.specs.declared.Operation.{Operation}
 use Rattle.message.specs.declared.Operation.the-variants.{Trim, Split, Extend}
 use Rattle.sketch_geometry.specs.Geometry.{shapeOf}
-use Rattle.relations.specs.Met.{allMet, unmetAt}
+use Rattle.relations.specs.Met.{allMet}
 use Rattle.edit_plan.specs.declared.Plan.{Plan}
 use Rattle.edit_plan.specs.declared.Removed.{Removed}
 use Rattle.edit_plan.specs.Outcome.{Outcome, refused, accepted, guard}
@@ -48,14 +48,16 @@ use Rattle.planning.specs.declared.PlanResult.the-variants.{Refused, Accepted}
 use Rattle.planning.specs.Planning.{guardPlan, trimCurve, splitCurve}
 use Rattle.planning.proofs.Suits.{trim-curve-suited, split-curve-suited}
 use Rattle.extend.specs.declared.EditedImage.{EditedImage}
-use Rattle.extend.specs.ExtendAnswer.{applyPlanned, NoPlace}
-use Rattle.extend.specs.ImageExtend.{ifFits, OutcomeWritten, refusedAt, extendIn, ExtendWritten}
+use Rattle.extend.specs.ExtendAnswer.{applyPlanned, reportedPlace}
+use Rattle.extend.specs.ImageExtend.{ifFits, numberIn, OutcomeWritten, refusedAt, extendIn, ExtendWritten}
+use Rattle.extend.proofs.Places.{Placeless, placeless-below, placeless-above, place-none}
 use Rattle.extend.proofs.OutcomesWritten.{editedBy, written-outcome, refused-outcome, not-accepted}
 use Rattle.extend.proofs.ImageMoves.{image-valid}
-use Rattle.modify.specs.Edits.{planOnCurve, planOnFound, planEdit, editOf, editUntested}
+use Rattle.modify.specs.Edits.{planOnCurve, planOnFound, planEdit, editOf}
 use Rattle.modify.specs.ImageEdits.{editImage, EditWritten}
 use Rattle.modify.specs.ImageContracts.{PlanEdited}
 use Rattle.modify.proofs.ImageFaults.{image-fault-low}
+use Rattle.modify.proofs.Numbered.{cut-number}
 
 -- ---- a plan applied
 
@@ -122,15 +124,23 @@ module _ (s : List ℕ) (b : Bytes s) (k : ℕ) (e : I.imageFault s ≡ 0) (belo
     unfolding guardPlan planOnFound
     plan-is op f = rw (ok, found)
 
+    -- a cut's number comes with no place, nor do 0 and 25
+    cut-placeless : (op : Operation) → (op ≡ Extend → ⊥) → (o : Outcome Drawing Removed) → o ≡ editOf op limits d (c .id) p → (room : ℕ) → Placeless (numberIn (ifFits room o))
+    unfolding guard
+    cut-placeless op ne (refused n) h room = cut-number d (c .id) p op ne n (sym h) .1
+    cut-placeless op ne (accepted d′ removed) h room = go (leb (length (encode d′)) room)
+      where
+        go : (b : Bool) → Placeless (numberIn (guard b 25 (accepted d′ removed)))
+        go true = placeless-below (omega arith)
+        go false = placeless-above (omega arith)
+
     cut-edited : (op : Operation) → (op ≡ Extend → ⊥) → {planned : PlanResult} → planned ≡ planOnCurve op d p c → {before after : List ℕ} {r : EditedImage} → PlanEdited d k planned before after r → EditWritten op s (c .id) p before after r
     cut-edited op ne {planned} h {before} {after} {r} w =
         let o : editImage op s (c .id) p ≡ applyPlanned allMet limits d (c .id) planned = edit-is op allMet ∙ ap (applyPlanned allMet limits d (c .id)) (sym h) in
         record {
           written = subst (λ (x : Outcome Drawing Removed). OutcomeWritten (ifFits (length before) x) before after r) (sym o) (w .written);
           sound = λ d′ removed a. w .sound d′ removed (sym o ∙ a);
-          no-place = λ x y. w .no-place;
-          unmet-before = λ z. absurd (ne z);
-          unmet-after = λ z. absurd (ne z);
+          place = w .no-place ∙ place-none d _ (subst Placeless (sym (w .written .refusal)) (cut-placeless op ne (applyPlanned allMet limits d (c .id) planned) (sym (plan-is op allMet ∙ ap (applyPlanned allMet limits d (c .id)) (sym h))) (length before)));
         }
 
     module _ {op : Operation} {before after : List ℕ} {r : EditedImage} where
@@ -150,29 +160,20 @@ module _ (s : List ℕ) (b : Bytes s) (k : ℕ) (e : I.imageFault s ≡ 0) (belo
           rw q (record {
             written = subst (λ (x : Outcome Drawing Removed). OutcomeWritten (ifFits (length before) x) before after r) (sym (edit-is Extend allMet)) (w .written);
             sound = λ d′ removed a. w .sound d′ removed (sym (edit-is Extend allMet) ∙ a);
-            no-place = w .no-place;
-            unmet-before = λ z. w .unmet-before;
-            unmet-after = λ z n d′ removed a. w .unmet-after n d′ removed (sym (plan-is Extend (λ x. true)) ∙ a);
+            place = w .place ∙ ap (λ (x : Outcome Drawing Removed). reportedPlace d x (r .refusal)) (sym (plan-is Extend (λ x. true)));
           })
 
 -- ---- the tests that all edits begin with
 
 module _ (op : Operation) (s : List ℕ) (t : ℕ) (p : Vec2) (l : List ℕ) where
-  refused-edit : (n : ℕ) → editImage op s t p ≡ refused n → (n ≡ 13 → ⊥) → (n ≡ 19 → ⊥) → EditWritten op s t p l l (refusedAt n 0)
-  refused-edit n o x y =
-      record {
-        written = refused-outcome n 0 o;
-        sound = λ d′ removed a. not-accepted o a;
-        no-place = λ u v. refl;
-        unmet-before = λ z u. absurd (x u);
-        unmet-after = λ z u. absurd (y u);
-      }
+  refused-edit : (n : ℕ) → editImage op s t p ≡ refused n → n ≤ 12 → EditWritten op s t p l l (refusedAt n 0)
+  refused-edit n o h = record { written = refused-outcome n 0 o; sound = λ d′ removed a. not-accepted o a; place = place-none _ _ (placeless-below h) }
 
   pub fault-edit : {n : ℕ} → n ≡ I.imageFault s → (n ≡ 0 → ⊥) → EditWritten op s t p l l (refusedAt n 0)
   unfolding guard
   fault-edit {n} h z =
       let low = image-fault-low s in
-      refused-edit n (rw (ne-eqb (I.imageFault s) 0 (λ x. z (h ∙ x))) (ap refused (sym h))) (λ x. omega arith) (λ x. omega arith)
+      refused-edit n (rw (ne-eqb (I.imageFault s) 0 (λ x. z (h ∙ x))) (ap refused (sym h))) (omega (arith, low))
 
   module _ {n : ℕ} (h : n ≡ I.imageFault s) (z : n ≡ 0) where
     good : I.imageFault s ≡ 0
@@ -182,7 +183,7 @@ module _ (op : Operation) (s : List ℕ) (t : ℕ) (p : Vec2) (l : List ℕ) whe
     unfolding guard guardPlan applyPlanned
     pick-edit {x} {y} ex ey o =
         let q : okPosition p ≡ false = sym (rw (ex, ey)) ∙ not-true (x && y) o in
-        refused-edit 9 (rw (good, q)) (λ x. omega arith) (λ x. omega arith)
+        refused-edit 9 (rw (good, q)) (omega arith)
 
     module _ {x y : Bool} (ex : x ≡ okCoordinate (p .x)) (ey : y ≡ okCoordinate (p .y)) (o : not (x && y) ≡ false) {curves : List ℕ} (ec : curves ≡ curveTable s) {k : ℕ} (f : Found t (idsIn curveSize curves) k) where
       picked : okPosition p ≡ true
@@ -196,7 +197,7 @@ module _ (op : Operation) (s : List ℕ) (t : ℕ) (p : Vec2) (l : List ℕ) whe
 
       pub curve-edit : {m : ℕ} → m ≡ length (curvesIn curves) → m ≤ k → EditWritten op s t p l l (refusedAt 8 0)
       unfolding guard guardPlan planOnFound applyPlanned
-      curve-edit g q = refused-edit 8 (rw (good, picked, curve-missing (holds-curves s good) at-table (omega (arith, counted g)))) (λ x. omega arith) (λ x. omega arith)
+      curve-edit g q = refused-edit 8 (rw (good, picked, curve-missing (holds-curves s good) at-table (omega (arith, counted g)))) (omega arith)
 
       pub found-edit : {m : ℕ} → m ≡ length (curvesIn curves) → k < m → {after : List ℕ} {r : EditedImage}
           → (I.imageFault s ≡ 0 → okPosition p ≡ true → k < length (I.drawingOf s .curves) → EditWritten op s (targetIn (I.drawingOf s) k .id) p l after r) → EditWritten op s t p l after r

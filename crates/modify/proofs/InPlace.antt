@@ -20,6 +20,7 @@ use Rattle.edit_plan.specs.declared.Removed.{Removed}
 use Rattle.edit_plan.specs.Outcome.{Outcome, refused, accepted, guard}
 use Rattle.extend.specs.declared.EditedImage.{EditedImage}
 use Rattle.extend.specs.ImageExtend.{ifFits, OutcomeWritten, refusedAt}
+use Rattle.extend.proofs.Places.{placeless-above, place-none}
 use Rattle.extend.proofs.ImageMoves.{image-valid}
 use Rattle.modify.specs.Edits.{editOf}
 use Rattle.modify.specs.ImageEdits.{editImage, EditWritten}
@@ -87,7 +88,7 @@ module _ (op : Operation) (s : List ℕ) (t : ℕ) (p : Vec2) where
           let u : OutcomeWritten (ifFits (length b) made) b b e = subst (λ (o : Outcome Drawing Removed). OutcomeWritten (ifFits (length b) o) b b e) (sym g) (record { refusal = w .refusal; removed = w .removed; size = w .size; bytes = refl }) in
           subst (λ (l : List ℕ). EditWritten op s t p b l r) (sym kept)
           (subst (EditWritten op s t p b b) (sym same)
-          (record { written = u; sound = x .written .sound; no-place = x .written .no-place; unmet-before = x .written .unmet-before; unmet-after = x .written .unmet-after }))
+          (record { written = u; sound = x .written .sound; place = x .written .place }))
 
       module _ (d : Drawing) (q : Removed) (g : made ≡ accepted d q) (w : OutcomeWritten (accepted d q) (x .out) (x .out′) e) where
         image-is : take (e .size) (x .out′) ≡ encode d
@@ -103,13 +104,13 @@ module _ (op : Operation) (s : List ℕ) (t : ℕ) (p : Vec2) where
             let u : OutcomeWritten (ifFits (length b) made) b (over b 0 (encode d)) e = rw (g, h) (record { refusal = w .refusal; removed = w .removed; size = w .size; bytes = refl }) in
             subst (λ (l : List ℕ). EditWritten op s t p b l r) (sym is)
             (subst (EditWritten op s t p b (over b 0 (encode d))) (sym same)
-            (record { written = u; sound = x .written .sound; no-place = x .written .no-place; unmet-before = x .written .unmet-before; unmet-after = x .written .unmet-after }))
+            (record { written = u; sound = x .written .sound; place = x .written .place }))
         by-room false h =
             let (same, kept) = x .replaced .when-short (w .refusal) (omega (arith, w .size, leb-false (length (encode d)) (length b) h)) in
             let u : OutcomeWritten (ifFits (length b) made) b b (refusedAt 25 0) = rw (g, h) (record { refusal = refl; removed = refl; size = refl; bytes = refl }) in
             subst (λ (l : List ℕ). EditWritten op s t p b l r) (sym kept)
             (subst (EditWritten op s t p b b) (sym same)
-            (record { written = u; sound = x .written .sound; no-place = λ i j. refl; unmet-before = λ i j. absurd (omega arith); unmet-after = λ i j. absurd (omega arith) }))
+            (record { written = u; sound = x .written .sound; place = place-none _ _ (placeless-above (omega arith)) }))
 
       pub edited-in-place : EditWritten op s t p b b′ r
       unfolding guard

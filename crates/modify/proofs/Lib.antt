@@ -1,5 +1,4 @@
 -- What is proved of the definitions of edits.
-pub mod Untested
 pub mod Planned
 pub mod WholeOutcomes
 pub mod Answers
@@ -7,4 +6,5 @@ pub mod Extended
 pub mod ImageFaults
 pub mod ImageEdits
 pub mod Numbered
+pub mod Places
 pub mod InPlace

@@ -1,4 +1,4 @@
--- An accepted edit applied a plan whose pins are held; so it leaves a valid drawing, and has the shape that chains need.
+-- An accepted edit applied a plan whose pins are held, whatever test of relations ends it; so it leaves a valid drawing, and has the shape that chains need.
 use mathlib.Core.Path.{_≡_, refl, sym, subst}
 use mathlib.Core.Bool.{Bool, true, false}
 use mathlib.Core.Option.{Option, some, none}
@@ -10,7 +10,6 @@ use Rattle.sketch.specs.Drawing.{Drawing, Limits, curveIn}
 use Rattle.sketch.specs.Facts.{Valid}
 use Rattle.message.specs.declared.Operation.{Operation}
 use Rattle.message.specs.declared.Operation.the-variants.{Trim, Split, Extend}
-use Rattle.relations.specs.Met.{allMet}
 use Rattle.edit_plan.specs.declared.Plan.{Plan}
 use Rattle.edit_plan.specs.declared.Removed.{Removed}
 use Rattle.edit_plan.specs.Outcome.{Outcome, accepted, guard}
@@ -22,7 +21,7 @@ use Rattle.chains.proofs.Edits.{plan-valid}
 use Rattle.planning.specs.declared.PlanResult.{PlanResult}
 use Rattle.planning.specs.declared.PlanResult.the-variants.{Refused, Accepted}
 use Rattle.extend.specs.ExtendAnswer.{applyPlanned}
-use Rattle.modify.specs.Edits.{planOnCurve, planOnFound, planEdit, editOf}
+use Rattle.modify.specs.Edits.{planOnCurve, planOnFound, planEdit}
 use Rattle.planning.proofs.Suits.{guard-plan-accepted, trim-curve-suited, split-curve-suited}
 use Rattle.extend.proofs.Moves.{extend-moves-end}
 
@@ -47,15 +46,15 @@ found-pinned op d t p plan h = go (curveIn (d .curves) t) refl h
     go (some c) e h = subst (λ (i : ℕ). Pinned d i plan) (look-some (d .curves) t c e .1) (curve-pinned op d p c plan h)
 
 pub edit-planned :
-    (op : Operation) (m : Limits) (d : Drawing) (t : ℕ) (p : Vec2) (d′ : Drawing) (r : Removed) → editOf op m d t p ≡ accepted d′ r
-    → (plan : Plan) × Pinned d t plan × (applyPlan allMet m d t plan ≡ accepted d′ r)
+    (met : Drawing → Bool) (op : Operation) (m : Limits) (d : Drawing) (t : ℕ) (p : Vec2) (d′ : Drawing) (r : Removed) → applyPlanned met m d t (planEdit op d t p) ≡ accepted d′ r
+    → (plan : Plan) × Pinned d t plan × (applyPlan met m d t plan ≡ accepted d′ r)
 unfolding applyPlanned
-edit-planned op m d t p d′ r q = go (planEdit op d t p) refl q
+edit-planned met op m d t p d′ r q = go (planEdit op d t p) refl q
   where
-    go : (c : PlanResult) → planEdit op d t p ≡ c → applyPlanned allMet m d t c ≡ accepted d′ r → (plan : Plan) × Pinned d t plan × (applyPlan allMet m d t plan ≡ accepted d′ r)
+    go : (c : PlanResult) → planEdit op d t p ≡ c → applyPlanned met m d t c ≡ accepted d′ r → (plan : Plan) × Pinned d t plan × (applyPlan met m d t plan ≡ accepted d′ r)
     go (Refused n) e q = let z : _≡_ {A = ℕ} 0 1 = cc in absurd (omega arith)
     go (Accepted plan) e q = (plan, found-pinned op d t p plan (guard-plan-accepted (okPosition p) 9 (planOnFound op d p (curveIn (d .curves) t)) plan e .1), q)
 
 pub edit-valid :
-    (op : Operation) (m : Limits) (d : Drawing) (t : ℕ) (p : Vec2) (d′ : Drawing) (r : Removed) → Valid m d → editOf op m d t p ≡ accepted d′ r → Valid m d′
-edit-valid op m d t p d′ r v q = let (plan, h, o) = edit-planned op m d t p d′ r q in plan-valid allMet m d v t plan d′ r o h
+    (met : Drawing → Bool) (op : Operation) (m : Limits) (d : Drawing) (t : ℕ) (p : Vec2) (d′ : Drawing) (r : Removed) → Valid m d → applyPlanned met m d t (planEdit op d t p) ≡ accepted d′ r → Valid m d′
+edit-valid met op m d t p d′ r v q = let (plan, h, o) = edit-planned met op m d t p d′ r q in plan-valid met m d v t plan d′ r o h

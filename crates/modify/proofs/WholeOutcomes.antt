@@ -13,6 +13,7 @@ use Rattle.image.specs.Image as I
 use Rattle.image.specs.Encode.{encode}
 use Rattle.image.proofs.Sizes.{image-size}
 use Rattle.message.specs.declared.Operation.{Operation}
+use Rattle.relations.specs.Met.{allMet}
 use Rattle.edit_plan.specs.declared.Removed.{Removed}
 use Rattle.edit_plan.specs.Outcome.{Outcome, refused, accepted, guard}
 use Rattle.extend.specs.declared.EditedImage.{EditedImage}
@@ -29,7 +30,7 @@ module _ (op : Operation) (s : List ℕ) (t : ℕ) (p : Vec2) {before after : Li
     good-edit = rw e
 
     pub fits-largest : (d : Drawing) (q : Removed) → editOf op limits (I.drawingOf s) t p ≡ accepted d q → length (encode d) ≤ I.maxImageSize
-    fits-largest d q o = omega (arith, w .sound d q (good-edit ∙ o) .0, image-size d (edit-valid op limits (I.drawingOf s) t p d q v o))
+    fits-largest d q o = omega (arith, w .sound d q (good-edit ∙ o) .0, image-size d (edit-valid allMet op limits (I.drawingOf s) t p d q v o))
 
     module _ (room : I.maxImageSize ≤ length before) where
       pub whole-outcome : OutcomeWritten (editOf op limits (I.drawingOf s) t p) before after x

@@ -12,17 +12,17 @@ use Rattle.sketch.specs.Valid.{sketchFault}
 use Rattle.message.specs.declared.Operation.{Operation}
 use Rattle.message.specs.declared.Operation.the-variants.{Trim, Split, Extend}
 use Rattle.sketch_geometry.specs.Geometry.{shapeOf}
-use Rattle.relations.specs.Met.{allMet, unmetAt}
+use Rattle.relations.specs.Met.{allMet}
 use Rattle.edit_plan.specs.declared.Removed.{Removed}
 use Rattle.edit_plan.specs.declared.Edited.{Edited}
-use Rattle.edit_plan.specs.Outcome.{Outcome, accepted, guard}
+use Rattle.edit_plan.specs.Outcome.{Outcome, guard}
 use Rattle.edit_plan.specs.Tables.{okPosition}
 use Rattle.edit_plan.specs.Suited.{outcomeOf, reportOf}
 use Rattle.planning.specs.declared.PlanResult.{PlanResult}
 use Rattle.planning.specs.declared.PlanResult.the-variants.{Refused}
 use Rattle.planning.specs.Planning.{guardPlan, trimCurve, splitCurve}
 use Rattle.extend.specs.Extend.{extendCurve}
-use Rattle.extend.specs.ExtendAnswer.{applyPlanned, NoPlace}
+use Rattle.extend.specs.ExtendAnswer.{applyPlanned, reportedPlace}
 
 -- ---- the plan
 
@@ -50,19 +50,20 @@ editOf op m d t p = applyPlanned allMet m d t (planEdit op d t p)
 abbrev pub editUntested : Operation → Limits → Drawing → ℕ → Vec2 → Outcome Drawing Removed
 editUntested op m d t p = applyPlanned (λ d′. true) m d t (planEdit op d t p)
 
+-- the place that comes with its refusal by the number n
+abbrev pub editPlace : Operation → Drawing → ℕ → Vec2 → ℕ → ℕ
+editPlace op d t p n = reportedPlace d (editUntested op limits d t p) n
+
 -- ---- what is answered for a sketch
 
 -- a sketch that no image gives is refused first
 abbrev pub editSketch : Operation → Sketch → ℕ → Vec2 → Outcome Drawing Removed
 editSketch op s t p = guard (eqb (sketchFault s) 0) (sketchFault s) (editOf op limits (view s) t p)
 
--- the answer is the outcome with its report; on refusal the sketch is left as it was, and after an accepted edit it is one that an image gives
+-- the answer is the outcome with its report and its place; on refusal the sketch is left as it was, and after an accepted edit it is one that an image gives
 pub record EditAnswer (op : Operation) (s : Sketch) (t : ℕ) (p : Vec2) (r : Edited) : Type 0 where
   pub outcome : outcomeOf r ≡ editSketch op s t p
   pub report : r .removed ≡ reportOf (editSketch op s t p)
   pub kept : (r .refusal ≡ 0 → ⊥) → r .sketch ≡ s
   pub valid : r .refusal ≡ 0 → sketchFault (r .sketch) ≡ 0
-  pub no-place : NoPlace (r .refusal) (r .place)
-  -- an extend's 13 comes with the place of a relation that is not met, and its 19 with that of one that would not be met
-  pub unmet-before : op ≡ Extend → r .refusal ≡ 13 → unmetAt (view s) (r .place) ≡ true
-  pub unmet-after : op ≡ Extend → r .refusal ≡ 19 → (d′ : Drawing) (removed : Removed) → editUntested op limits (view s) t p ≡ accepted d′ removed → unmetAt d′ (r .place) ≡ true
+  pub place : r .place ≡ editPlace op (view s) t p (r .refusal)

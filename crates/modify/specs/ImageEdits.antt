@@ -1,7 +1,6 @@
 -- An edit of an image, written to a lent buffer: the outcome, and all that is answered and left. Definitions only.
 use Prim.Native.Nat.{ℕ}
 use mathlib.Core.Path.{_≡_}
-use mathlib.Core.Bool.{true}
 use mathlib.Core.List.{List}
 use lib.ListN.{length}
 use lib.Dec.{eqb}
@@ -10,14 +9,11 @@ use Rattle.sketch.specs.Drawing.{Drawing, limits}
 use Rattle.image.specs.Image as I
 use Rattle.image.specs.Encode.{encode, drawingSize}
 use Rattle.message.specs.declared.Operation.{Operation}
-use Rattle.message.specs.declared.Operation.the-variants.{Extend}
-use Rattle.relations.specs.Met.{unmetAt}
 use Rattle.edit_plan.specs.declared.Removed.{Removed}
 use Rattle.edit_plan.specs.Outcome.{Outcome, accepted, guard}
 use Rattle.extend.specs.declared.EditedImage.{EditedImage}
-use Rattle.extend.specs.ExtendAnswer.{NoPlace}
 use Rattle.extend.specs.ImageExtend.{ifFits, OutcomeWritten}
-use Rattle.modify.specs.Edits.{editOf, editUntested}
+use Rattle.modify.specs.Edits.{editOf, editPlace}
 
 -- an image's refusal comes before all else
 abbrev pub editImage : Operation → List ℕ → ℕ → Vec2 → Outcome Drawing Removed
@@ -28,7 +24,5 @@ pub record EditWritten (op : Operation) (s : List ℕ) (t : ℕ) (p : Vec2) (bef
   pub written : OutcomeWritten (ifFits (length before) (editImage op s t p)) before after r
   -- a new image is as long as it says, and is read as the new drawing
   pub sound : (d : Drawing) (removed : Removed) → editImage op s t p ≡ accepted d removed → (length (encode d) ≡ drawingSize d) × (I.parse (encode d) ≡ I.accepted d)
-  pub no-place : NoPlace (r .refusal) (r .place)
-  -- an extend's 13 comes with the place of a relation that is not met, and its 19 with that of one that would not be met
-  pub unmet-before : op ≡ Extend → r .refusal ≡ 13 → unmetAt (I.drawingOf s) (r .place) ≡ true
-  pub unmet-after : op ≡ Extend → r .refusal ≡ 19 → (d′ : Drawing) (removed : Removed) → editUntested op limits (I.drawingOf s) t p ≡ accepted d′ removed → unmetAt d′ (r .place) ≡ true
+  -- the place that comes with the number
+  pub place : r .place ≡ editPlace op (I.drawingOf s) t p (r .refusal)
