@@ -33,7 +33,7 @@ pub literal : (d : Drawing) (e : Edit) (d′ : Drawing) (r : Removed) → edit d
 literal d e d′ r q = guard-accepted (isPick (e .at)) 9 (editOf (e .operation) limits d (e .curve) (e .at)) d′ r q .1
 
 pub planned : Planned target allMet limits (protocol .edit)
-planned d e d′ r v q = edit-planned (e .operation) limits d (e .curve) (e .at) d′ r (literal d e d′ r q)
+planned d e d′ r v q = edit-planned allMet (e .operation) limits d (e .curve) (e .at) d′ r (literal d e d′ r q)
 
 -- a pick's bits give it back
 edit-in-message : (n : ℕ) (e : Edit) → T (fits binary64 (e .at .x)) → T (fits binary64 (e .at .y)) → editIn (messageFor n e) ≡ e

@@ -20,7 +20,7 @@ use Rattle.edit_plan.specs.Outcome as O
 use Rattle.edit_plan.specs.Outcome.{guard}
 use Rattle.edit_plan.specs.Tables.{okPosition}
 use Rattle.extend.specs.declared.EditedImage.{EditedImage}
-use Rattle.extend.specs.ExtendAnswer.{NoPlace}
+use Rattle.extend.proofs.Places.{placeless-above, place-none}
 use Rattle.modify.specs.Edits.{planOnFound, editOf}
 use Rattle.modify.specs.ImageEdits.{editImage, EditWritten}
 use Rattle.modify.proofs.Planned.{guard-accepted}
@@ -28,12 +28,12 @@ use Rattle.agreement.specs.Machines.{maxEditNumber, Call, withCount}
 use Rattle.replication.specs.declared.Replica.{Replica}
 use Rattle.replication.specs.declared.DeskReply.the-variants as Desk
 use Rattle.replication.specs.declared.DeskTransition.{DeskTransition}
-use Rattle.replication.specs.Protocol.{Edit, isPick, messageFor}
+use Rattle.replication.specs.Protocol.{Edit, isPick, place, messageFor}
 use Rattle.replication.specs.Outcomes.{CallOutcome, refused, updated, deskOutcome, deskOn, numberOf, OutcomeSound, messageAfter}
-use Rattle.replication.specs.Transitions.{Memory, memory, imageIn, UnmetPlace, firstFault, memoryAfter, deskReplyTo, deskCallOutcome, DeskEdits}
+use Rattle.replication.specs.Transitions.{Memory, memory, imageIn, firstFault, memoryAfter, deskReplyTo, deskCallOutcome, DeskEdits}
 use Rattle.replication.specs.Contracts.{deskRefusing}
 use Rattle.replication.proofs.Picks.{is-number, decided-place}
-use Rattle.replication.proofs.CallOutcomes.{Early, first-early, on-first, unmet-none, applied, on-image, EditOutcome, edit-outcome, edit-unmet}
+use Rattle.replication.proofs.CallOutcomes.{first-some, on-first, applied, on-image, EditOutcome, edit-outcome}
 
 module _ (s : Replica) (b : List ℕ) (e : Edit) (l : List ℕ) where
   abbrev m : Memory
@@ -50,49 +50,49 @@ module _ (s : Replica) (b : List ℕ) (e : Edit) (l : List ℕ) where
   Answers b′ l′ r = DeskEdits m (record { edit = e; before = l; after = l′; left = memory (r .replica) b′; reply = r .reply })
 
   -- a refusal leaves all
-  refusing : (n place : ℕ) → outcome ≡ refused n → (n ≡ 0 → ⊥) → NoPlace n place → ((d : Drawing) → I.parse (imageIn m) ≡ I.accepted d → UnmetPlace e d n place) → Answers b l (deskRefusing s n place)
-  refusing n place g z p u =
+  refusing : (n place : ℕ) → outcome ≡ refused n place → (n ≡ 0 → ⊥) → Answers b l (deskRefusing s n place)
+  refusing n place g z =
       record {
-        place = place;
-        reply-is = sym (ap (λ (v : CallOutcome). deskReplyTo v place) g);
+        reply-is = sym (ap deskReplyTo g);
         left-is = sym (ap (λ (v : CallOutcome). memoryAfter v m) g);
         message-is = sym (ap (λ (v : CallOutcome). messageAfter v e l) g);
         sound = subst OutcomeSound (sym g) z;
-        no-place = subst (λ (v : CallOutcome). NoPlace (numberOf v) place) (sym g) p;
-        unmet = λ d q. subst (λ (v : CallOutcome). UnmetPlace e d (numberOf v) place) (sym g) (u d q);
       }
 
   -- refused before the edit is looked at
-  first : (k : ℕ) → Early k → deskOn (length b) call (record { drawing = I.drawingOf (imageIn m); count = s .count }) ≡ refused k → {n : ℕ} → n ≡ firstFault (imageIn m) k → {r : DeskTransition} → r ≡ deskRefusing s n 0 → Answers b l r
+  first : (k : ℕ) → (k ≡ 0 → ⊥) → deskOn (length b) call (record { drawing = I.drawingOf (imageIn m); count = s .count }) ≡ refused k 0 → {n : ℕ} → n ≡ firstFault (imageIn m) k → {r : DeskTransition} → r ≡ deskRefusing s n 0 → Answers b l r
   first k h g {n} f q =
-      let i = first-early (imageIn m) k n h f in
-      subst (Answers b l) (sym q) (refusing n 0 (on-first (imageIn m) (s .count) (deskOn (length b) call) k n f g) (i .not-0) (λ x y. refl) (λ d p. unmet-none e d n 0 (i .not-13) (i .not-19)))
+      subst (Answers b l) (sym q) (refusing n 0 (on-first (imageIn m) (s .count) (deskOn (length b) call) k n f g) (first-some (imageIn m) k n h f))
+
+  -- 23 and 25 come with no place
+  placed-none : (k : ℕ) → 20 ≤ k → refused k (place (I.drawingOf (imageIn m)) e k) ≡ refused k 0
+  placed-none k h = ap (refused k) (sym (place-none (I.drawingOf (imageIn m)) _ (placeless-above h)))
 
   pub desk-short : length l < messageSize → {n : ℕ} → n ≡ firstFault (imageIn m) 25 → {r : DeskTransition} → r ≡ deskRefusing s n 0 → Answers b l r
   unfolding guard
-  desk-short h = first 25 (record { not-0 = λ z. omega arith; not-13 = λ z. omega arith; not-19 = λ z. omega arith }) (rw (lt-leb messageSize (length l) h))
+  desk-short h = first 25 (λ z. omega arith) (rw (lt-leb messageSize (length l) h) (placed-none 25 (omega arith)))
 
   module _ (room : messageSize ≤ length l) where
     pub desk-full : maxEditNumber ≤ s .count → {n : ℕ} → n ≡ firstFault (imageIn m) 23 → {r : DeskTransition} → r ≡ deskRefusing s n 0 → Answers b l r
     unfolding guard
-    desk-full h = first 23 (record { not-0 = λ z. omega arith; not-13 = λ z. omega arith; not-19 = λ z. omega arith }) (rw (le-leb messageSize (length l) room, le-ltb (s .count) maxEditNumber h))
+    desk-full h = first 23 (λ z. omega arith) (rw (le-leb messageSize (length l) room, le-ltb (s .count) maxEditNumber h) (placed-none 23 (omega arith)))
 
     module _ (low : s .count < maxEditNumber) (pick : isPick (e .at) ≡ true) (b′ : List ℕ) (x : EditedImage) (w : EditWritten (e .operation) (imageIn m) (e .curve) (e .at) b b′ x) where
-      counted : (n : ℕ) (o : O.Outcome Drawing Removed) → deskOutcome (length b) (withCount n o) ≡ applied (length b) n o
-      counted n (O.refused k) = refl
-      counted n (O.accepted d q) = refl
+      counted : (n : ℕ) (f : ℕ → ℕ) (o : O.Outcome Drawing Removed) → deskOutcome (length b) f (withCount n o) ≡ applied (length b) n f o
+      counted n f (O.refused k) = refl
+      counted n f (O.accepted d q) = refl
 
       came : EditOutcome (imageIn m) e b b′ x w (s .count + 1) outcome
       unfolding guard
       came =
           edit-outcome (imageIn m) e b b′ x w (s .count + 1) outcome
           (on-image (imageIn m) (s .count) (deskOn (length b) call) (length b) (s .count + 1) e
-          (rw (le-leb messageSize (length l) room, lt-ltb (s .count) maxEditNumber low, pick) (counted (s .count + 1) (editOf (e .operation) limits (I.drawingOf (imageIn m)) (e .curve) (e .at)))))
+          (rw (le-leb messageSize (length l) room, lt-ltb (s .count) maxEditNumber low, pick) (counted (s .count + 1) (place (I.drawingOf (imageIn m)) e) (editOf (e .operation) limits (I.drawingOf (imageIn m)) (e .curve) (e .at)))))
 
       pub desk-declined : (x .refusal ≡ 0 → ⊥) → {r : DeskTransition} → r ≡ deskRefusing s (x .refusal) (x .place) → Answers b′ l r
       desk-declined z q =
           let (g, same) = came .when-refused z in
-          let a = refusing (x .refusal) (x .place) g z (w .no-place) (edit-unmet (imageIn m) e b b′ x w (s .count + 1) outcome) in
+          let a = refusing (x .refusal) (x .place) g z in
           subst (Answers b′ l) (sym q) (subst (λ (t : List ℕ). Answers t l (deskRefusing s (x .refusal) (x .place))) (sym same) a)
 
       -- a pick that was accepted is one of numbers
@@ -114,11 +114,8 @@ module _ (s : Replica) (b : List ℕ) (e : Edit) (l : List ℕ) where
           let g = t .outcome in
           let sent : l′ ≡ over l 0 (encode (messageFor (s .count + 1) e)) = u .buffer ∙ rw (le-leb 1 (s .count + 1) (omega arith), le-leb messageSize (length l) room) in
           record {
-            place = 0;
-            reply-is = sym (ap (λ (v : CallOutcome). deskReplyTo v 0) g);
+            reply-is = sym (ap deskReplyTo g);
             left-is = (λ i. record { buffer = t .buffer-is i; size = t .size-is i; count = s .count + 1 }) ∙ sym (ap (λ (v : CallOutcome). memoryAfter v m) g);
             message-is = sent ∙ sym (ap (λ (v : CallOutcome). messageAfter v e l) g);
             sound = subst OutcomeSound (sym g) (t .sound);
-            no-place = λ i j. refl;
-            unmet = λ d q. subst (λ (v : CallOutcome). UnmetPlace e d (numberOf v) 0) (sym g) (unmet-none e d 0 0 (λ y. omega arith) (λ y. omega arith));
           }

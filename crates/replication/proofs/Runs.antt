@@ -118,7 +118,7 @@ messages-more [] x = refl
 messages-more (u ∷ xs) x = go (u .reply) (messages-more xs x)
   where
     go : (t : M.DeskReply Removed) → messages (xs ++ (x ∷ [])) ≡ messages xs ++ prependMessage (x .reply) [] → prependMessage t (messages (xs ++ (x ∷ []))) ≡ prependMessage t (messages xs) ++ prependMessage (x .reply) []
-    go (M.deskRefused k) h = h
+    go (M.deskRefused k place) h = h
     go (M.deskAccepted r m) h = ap (λ (l : List (List ℕ)). m ∷ l) h
 
 flat-append : (xs ys : List (List ℕ)) → concat (xs ++ ys) ≡ concat xs ++ concat ys
@@ -197,14 +197,14 @@ written (Desk.Accepted r) n e b = over b 0 (encode (messageFor n e))
 written-is : (m : Memory) → Ready m → (c : DeskCall) → DeskEdits m c → c .after ≡ written (c .reply) (c .left .count) (c .edit) (c .before)
 written-is m h c w = go (desk-case m h (c .edit) (length (c .before)))
   where
-    by : (v : CallOutcome) → deskCallOutcome m (c .edit) (length (c .before)) ≡ v → messageAfter v (c .edit) (c .before) ≡ written (deskReplyTo v (w .place)) (memoryAfter v m .count) (c .edit) (c .before)
+    by : (v : CallOutcome) → deskCallOutcome m (c .edit) (length (c .before)) ≡ v → messageAfter v (c .edit) (c .before) ≡ written (deskReplyTo v) (memoryAfter v m .count) (c .edit) (c .before)
         → c .after ≡ written (c .reply) (c .left .count) (c .edit) (c .before)
     by v g e =
         w .message-is ∙ ap (λ (v : CallOutcome). messageAfter v (c .edit) (c .before)) g ∙ e
-        ∙ sym (ap₂ (λ (r : DeskReply) (t : Memory). written r (t .count) (c .edit) (c .before)) (w .reply-is ∙ ap (λ (v : CallOutcome). deskReplyTo v (w .place)) g) (w .left-is ∙ ap (λ (v : CallOutcome). memoryAfter v m) g))
+        ∙ sym (ap₂ (λ (r : DeskReply) (t : Memory). written r (t .count) (c .edit) (c .before)) (w .reply-is ∙ ap deskReplyTo g) (w .left-is ∙ ap (λ (v : CallOutcome). memoryAfter v m) g))
 
     go : DeskCase m h (c .edit) (length (c .before)) → c .after ≡ written (c .reply) (c .left .count) (c .edit) (c .before)
-    go (desk-refused k g o) = by (refused k) g refl
+    go (desk-refused k g o) = by (refused k (protocol .place (stateIn m .drawing) (c .edit) k)) g refl
     go (desk-updated t q g o v) = by (updated t q) g refl
 
 -- what an accepted call needed
@@ -229,7 +229,7 @@ module _
     by-case :
         (y : Memory) (t : DeskReply) (p : List ℕ) (step : DeskEdits w (record { edit = e; before = lent; after = p; left = y; reply = t }))
         → (o : Outcome (State Drawing) Removed) → callOutcome protocol (stateIn w) (record { edit = e; room = length lent }) ≡ o
-        → stateIn y ≡ stateAfter (stateIn w) o → deskReply t (take messageSize p) ≡ M.replyTo protocol e o → p ≡ written t (y .count) e lent
+        → stateIn y ≡ stateAfter (stateIn w) o → deskReply t (take messageSize p) ≡ M.replyTo protocol (stateIn w .drawing) e o → p ≡ written t (y .count) e lent
         → DeskRan d (cs ++ (record { edit = e; room = length lent } ∷ [])) before (putMid from room log p) y × (length (putMid from room log p) ≡ length log)
     by-case y (Desk.Refused k place) p step (O.refused n) v sd td wr =
         let c : y .count ≡ w .count = ap (λ (u : State Drawing). u .count) sd in

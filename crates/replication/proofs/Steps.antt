@@ -93,18 +93,18 @@ module _ (m : Memory) (h : Ready m) where
 
     -- the outcome on the memory, by the machine's
     pub data DeskCase : Type 0 where
-      desk-refused : (k : ℕ) → deskCallOutcome m e room ≡ refused k → callOutcome protocol (stateIn m) call ≡ O.refused k → DeskCase
+      desk-refused : (k : ℕ) → deskCallOutcome m e room ≡ refused k (protocol .place (stateIn m .drawing) e k) → callOutcome protocol (stateIn m) call ≡ O.refused k → DeskCase
       desk-updated : (t : State Drawing) (q : Removed) → deskCallOutcome m e room ≡ updated t q → callOutcome protocol (stateIn m) call ≡ O.accepted t q → Valid limits (t .drawing) → DeskCase
 
     pub desk-case : DeskCase
     desk-case = go (callOutcome protocol (stateIn m) call) refl (ap (λ (o : I.ParseResult). onImage o (m .count) (deskOn (length (m .buffer)) call)) (h .image-is))
       where
-        go : (o : O.Outcome (State Drawing) Removed) → callOutcome protocol (stateIn m) call ≡ o → deskCallOutcome m e room ≡ deskOutcome (length (m .buffer)) (callOutcome protocol (stateIn m) call) → DeskCase
-        go (O.refused k) c g = desk-refused k (g ∙ ap (deskOutcome (length (m .buffer))) c) c
+        go : (o : O.Outcome (State Drawing) Removed) → callOutcome protocol (stateIn m) call ≡ o → deskCallOutcome m e room ≡ deskOutcome (length (m .buffer)) (protocol .place (stateIn m .drawing) e) (callOutcome protocol (stateIn m) call) → DeskCase
+        go (O.refused k) c g = desk-refused k (g ∙ ap (deskOutcome (length (m .buffer)) (protocol .place (stateIn m .drawing) e)) c) c
         go (O.accepted t q) c g =
             let step : Step protocol (stateIn m) e t q = subst (Holds (Step protocol (stateIn m) e)) c (called protocol (stateIn m) call) in
             let v : Valid limits (t .drawing) = edit-keeps-valid (stateIn m .drawing) e (t .drawing) q (h .valid) (step .gives) in
-            desk-updated t q (g ∙ ap (deskOutcome (length (m .buffer))) c ∙ fits-always t q v) c v
+            desk-updated t q (g ∙ ap (deskOutcome (length (m .buffer)) (protocol .place (stateIn m .drawing) e)) c ∙ fits-always t q v) c v
 
   -- ---- the wall
 
@@ -113,7 +113,7 @@ module _ (m : Memory) (h : Ready m) where
     moved = wallTransition protocol (stateIn m) (protocol .decode bytes)
 
     pub data DeliveryCase : Type 0 where
-      delivery-refused : (k : ℕ) → wallCallOutcome m bytes ≡ refused k → moved ≡ (stateIn m, M.wallRefused k) → DeliveryCase
+      delivery-refused : (k place : ℕ) → wallCallOutcome m bytes ≡ refused k place → moved ≡ (stateIn m, M.wallRefused k place) → DeliveryCase
       delivery-old : wallCallOutcome m bytes ≡ old (stateIn m) → moved ≡ (stateIn m, M.wallOld) → DeliveryCase
       delivery-updated : (t : State Drawing) (q : Removed) → wallCallOutcome m bytes ≡ updated t q → moved ≡ (t, M.wallApplied q) → t .count ≡ m .count + 1 → Valid limits (t .drawing) → DeliveryCase
 
@@ -126,7 +126,7 @@ module _ (m : Memory) (h : Ready m) where
             ∙ ap (λ (y : State Drawing × M.WallReply Removed). wallOutcome (length (m .buffer)) (y .0) (y .1)) e
 
         go : WallCase (stateIn m) moved → DeliveryCase
-        go (is-refused k e) = delivery-refused k (came (stateIn m, M.wallRefused k) e) e
+        go (is-refused k place e) = delivery-refused k place (came (stateIn m, M.wallRefused k place) e) e
         go (is-old e) = delivery-old (came (stateIn m, M.wallOld) e) e
         go (is-applied e d q g f) =
             let t : State Drawing = record { drawing = d; count = m .count + 1 } in
@@ -145,22 +145,22 @@ desk-step m h c w = go (desk-case m h (c .edit) (length (c .before)))
     go : DeskCase m h (c .edit) (length (c .before)) → DeskStepValid protocol (stateIn m) (deskStep c) × Ready (c .left)
     go (desk-refused k g o) =
         let left : c .left ≡ m = w .left-is ∙ ap (λ (v : CallOutcome). memoryAfter v m) g in
-        let reply = w .reply-is ∙ ap (λ (v : CallOutcome). deskReplyTo v (w .place)) g in (
+        let reply = w .reply-is ∙ ap deskReplyTo g in (
           record {
             state = ap stateIn left ∙ sym (ap (stateAfter (stateIn m)) o);
-            reply = ap (λ r. deskReply r (take messageSize (c .after))) reply ∙ sym (ap (M.replyTo protocol (c .edit)) o);
+            reply = ap (λ r. deskReply r (take messageSize (c .after))) reply ∙ sym (ap (M.replyTo protocol (stateIn m .drawing) (c .edit)) o);
           },
           subst Ready (sym left) h,
         )
     go (desk-updated t q g o v) =
         let a = after-updated m h t q (subst OutcomeSound g (w .sound)) v in
         let left : c .left ≡ memoryAfter (updated t q) m = w .left-is ∙ ap (λ (v : CallOutcome). memoryAfter v m) g in
-        let reply = w .reply-is ∙ ap (λ (v : CallOutcome). deskReplyTo v (w .place)) g in
+        let reply = w .reply-is ∙ ap deskReplyTo g in
         let sent : take messageSize (c .after) ≡ G.encode (messageFor (t .count) (c .edit)) =
         ap (take messageSize) (w .message-is ∙ ap (λ (v : CallOutcome). messageAfter v (c .edit) (c .before)) g) ∙ message-front (c .before) (messageFor (t .count) (c .edit)) in (
           record {
             state = ap stateIn left ∙ a .state ∙ sym (ap (stateAfter (stateIn m)) o);
-            reply = ap (λ r. deskReply r (take messageSize (c .after))) reply ∙ ap (M.deskAccepted q) sent ∙ sym (ap (M.replyTo protocol (c .edit)) o);
+            reply = ap (λ r. deskReply r (take messageSize (c .after))) reply ∙ ap (M.deskAccepted q) sent ∙ sym (ap (M.replyTo protocol (stateIn m .drawing) (c .edit)) o);
           },
           subst Ready (sym left) (a .ready),
         )
@@ -171,10 +171,10 @@ wall-step m h c w = go (delivery-case m h (c .bytes))
     -- what is left of an outcome, and the reply to it
     by :
         (v : CallOutcome) (s : State Drawing) (r : M.WallReply Removed) → wallCallOutcome m (c .bytes) ≡ v → wallTransition protocol (stateIn m) (protocol .decode (c .bytes)) ≡ (s, r)
-        → Holding (memoryAfter v m) s → wallReply (wallReplyTo v (w .place)) ≡ r → WallStepValid protocol (stateIn m) (wallStep c) × Ready (c .left)
+        → Holding (memoryAfter v m) s → wallReply (wallReplyTo v) ≡ r → WallStepValid protocol (stateIn m) (wallStep c) × Ready (c .left)
     by v s r g o a p =
         let left : c .left ≡ memoryAfter v m = w .left-is ∙ ap (λ (v : CallOutcome). memoryAfter v m) g in
-        let reply = w .reply-is ∙ ap (λ (v : CallOutcome). wallReplyTo v (w .place)) g in (
+        let reply = w .reply-is ∙ ap wallReplyTo g in (
           record {
             state = ap stateIn left ∙ a .state ∙ sym (ap (λ (y : State Drawing × M.WallReply Removed). y .0) o);
             reply = ap wallReply reply ∙ p ∙ sym (ap (λ (y : State Drawing × M.WallReply Removed). y .1) o);
@@ -183,6 +183,6 @@ wall-step m h c w = go (delivery-case m h (c .bytes))
         )
 
     go : DeliveryCase m h (c .bytes) → WallStepValid protocol (stateIn m) (wallStep c) × Ready (c .left)
-    go (delivery-refused k g o) = by (refused k) (stateIn m) (M.wallRefused k) g o (record { ready = h; state = refl }) refl
+    go (delivery-refused k place g o) = by (refused k place) (stateIn m) (M.wallRefused k place) g o (record { ready = h; state = refl }) refl
     go (delivery-old g o) = by (old (stateIn m)) (stateIn m) M.wallOld g o (after-old m h) refl
     go (delivery-updated t q g o n v) = by (updated t q) t (M.wallApplied q) g o (after-updated m h t q (subst OutcomeSound g (w .sound)) v) refl

@@ -11,6 +11,7 @@ use Rattle.sketch.specs.Facts.{Valid}
 use Rattle.edit_plan.specs.declared.Removed.{Removed}
 use Rattle.edit_plan.specs.Outcome as O
 use Rattle.modify.proofs.Planned.{edit-valid}
+use Rattle.relations.specs.Met.{allMet}
 use Rattle.agreement.specs.Machines as M
 use Rattle.agreement.specs.Machines.{State, Decoded, invalid, message, wallTransition}
 use Rattle.replication.specs.Protocol.{Edit, protocol}
@@ -18,28 +19,28 @@ use Rattle.replication.specs.Program.{wallAfterMessages}
 use Rattle.replication.proofs.Decoding.{literal}
 
 pub edit-keeps-valid : (d : Drawing) (e : Edit) (d′ : Drawing) (r : Removed) → Valid limits d → protocol .edit d e ≡ O.accepted d′ r → Valid limits d′
-edit-keeps-valid d e d′ r v q = edit-valid (e .operation) limits d (e .curve) (e .at) d′ r v (literal d e d′ r q)
+edit-keeps-valid d e d′ r v q = edit-valid allMet (e .operation) limits d (e .curve) (e .at) d′ r v (literal d e d′ r q)
 
 pub data WallCase (s : State Drawing) (x : State Drawing × M.WallReply Removed) : Type 0 where
-  is-refused : (k : ℕ) → x ≡ (s, M.wallRefused k) → WallCase s x
+  is-refused : (k place : ℕ) → x ≡ (s, M.wallRefused k place) → WallCase s x
   is-old : x ≡ (s, M.wallOld) → WallCase s x
   is-applied : (e : Edit) (d : Drawing) (q : Removed) → protocol .edit (s .drawing) e ≡ O.accepted d q → x ≡ (record { drawing = d; count = s .count + 1 }, M.wallApplied q) → WallCase s x
 
 pub wall-case : (s : State Drawing) (r : Decoded Edit) → WallCase s (wallTransition protocol s r)
-wall-case s (invalid k) = is-refused k refl
+wall-case s (invalid k) = is-refused k 0 refl
 wall-case s (message n e) = go (leb n (s .count)) (eqb n (s .count + 1)) refl (protocol .edit (s .drawing) e) refl
   where
     go :
         (a b : Bool) → eqb n (s .count + 1) ≡ b → (o : O.Outcome Drawing Removed) → protocol .edit (s .drawing) e ≡ o
-        → WallCase s (ite a (s, M.wallOld) (ite b (M.wallApply protocol s n o) (s, M.wallRefused 7)))
+        → WallCase s (ite a (s, M.wallOld) (ite b (M.wallApply protocol s n e o) (s, M.wallRefused 7 0)))
     go true b f o g = is-old refl
-    go false false f o g = is-refused 7 refl
-    go false true f (O.refused k) g = is-refused k refl
+    go false false f o g = is-refused 7 0 refl
+    go false true f (O.refused k) g = is-refused k (protocol .place (s .drawing) e k) refl
     go false true f (O.accepted d q) g = is-applied e d q g (ap (λ (n : ℕ). (record { drawing = d; count = n }, M.wallApplied q)) (eqb-true n (s .count + 1) f))
 
 -- so deliveries keep a drawing valid
 delivery-valid : (s : State Drawing) (x : State Drawing × M.WallReply Removed) → WallCase s x → Valid limits (s .drawing) → Valid limits (x .0 .drawing)
-delivery-valid s x (is-refused k e) v = subst (λ (y : State Drawing × M.WallReply Removed). Valid limits (y .0 .drawing)) (sym e) v
+delivery-valid s x (is-refused k place e) v = subst (λ (y : State Drawing × M.WallReply Removed). Valid limits (y .0 .drawing)) (sym e) v
 delivery-valid s x (is-old e) v = subst (λ (y : State Drawing × M.WallReply Removed). Valid limits (y .0 .drawing)) (sym e) v
 delivery-valid s x (is-applied e d q g f) v = subst (λ (y : State Drawing × M.WallReply Removed). Valid limits (y .0 .drawing)) (sym f) (edit-keeps-valid (s .drawing) e d q v g)
 

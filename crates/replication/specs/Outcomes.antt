@@ -16,34 +16,34 @@ use Rattle.agreement.specs.Machines as M
 use Rattle.agreement.specs.Machines.{State, Call, callOutcome, WallReply, wallTransition}
 use Rattle.replication.specs.Protocol.{Edit, messageFor, protocol}
 
--- refused by a number; old, with the state unchanged; or updated to a state, with a report
+-- refused by a number, with a relation's place or 0; old, with the state unchanged; or updated to a state, with a report
 pub data CallOutcome : Type 0 where
-  refused : ℕ → CallOutcome
+  refused : ℕ → ℕ → CallOutcome
   old : State Drawing → CallOutcome
   updated : State Drawing → Removed → CallOutcome
 
 -- 25 where the new state's image does not fit into the buffer
 abbrev pub ifImageFits : ℕ → State Drawing → Removed → CallOutcome
-ifImageFits room s r = ite (leb (drawingSize (s .drawing)) room) (updated s r) (refused 25)
+ifImageFits room s r = ite (leb (drawingSize (s .drawing)) room) (updated s r) (refused 25 0)
 
 -- a call on the image's drawing and the count that came with it; an image's refusal comes before all else
 abbrev pub onImage : I.ParseResult → ℕ → (State Drawing → CallOutcome) → CallOutcome
-onImage (I.refused k) count f = refused k
+onImage (I.refused k) count f = refused k 0
 onImage (I.accepted d) count f = f (record { drawing = d; count = count })
 
--- ---- the desk: the outcome of its call, and then the room
+-- ---- the desk: the outcome of its call, a refusal with its place, and then the room
 
-abbrev pub deskOutcome : ℕ → O.Outcome (State Drawing) Removed → CallOutcome
-deskOutcome room (O.refused k) = refused k
-deskOutcome room (O.accepted s r) = ifImageFits room s r
+abbrev pub deskOutcome : ℕ → (ℕ → ℕ) → O.Outcome (State Drawing) Removed → CallOutcome
+deskOutcome room place (O.refused k) = refused k (place k)
+deskOutcome room place (O.accepted s r) = ifImageFits room s r
 
 abbrev pub deskOn : ℕ → Call Edit → State Drawing → CallOutcome
-deskOn room call s = deskOutcome room (callOutcome protocol s call)
+deskOn room call s = deskOutcome room (protocol .place (s .drawing) (call .edit)) (callOutcome protocol s call)
 
 -- ---- the wall: its reply, and then the room
 
 abbrev pub wallOutcome : ℕ → State Drawing → WallReply Removed → CallOutcome
-wallOutcome room s (M.wallRefused k) = refused k
+wallOutcome room s (M.wallRefused k place) = refused k place
 wallOutcome room s M.wallOld = old s
 wallOutcome room s (M.wallApplied r) = ifImageFits room s r
 
@@ -55,18 +55,24 @@ wallOn room message s = wallOutcome room (wallTransition protocol s (protocol .d
 
 -- the refusal's number, or 0
 abbrev pub numberOf : CallOutcome → ℕ
-numberOf (refused k) = k
+numberOf (refused k place) = k
 numberOf (old s) = 0
 numberOf (updated s r) = 0
 
+-- the place that comes with it, or 0
+abbrev pub placeOf : CallOutcome → ℕ
+placeOf (refused k place) = place
+placeOf (old s) = 0
+placeOf (updated s r) = 0
+
 -- a refusal has a number above 0, and a new image is as long as it says and is read as the state's drawing
 abbrev pub OutcomeSound : CallOutcome → Type 0
-OutcomeSound (refused k) = k ≡ 0 → ⊥
+OutcomeSound (refused k place) = k ≡ 0 → ⊥
 OutcomeSound (old s) = Unit {0}
 OutcomeSound (updated s r) = (length (encode (s .drawing)) ≡ drawingSize (s .drawing)) × (I.parse (encode (s .drawing)) ≡ I.accepted (s .drawing))
 
 -- the message of the edit and its number at the front, the rest as it was
 abbrev pub messageAfter : CallOutcome → Edit → List ℕ → List ℕ
-messageAfter (refused k) e m = m
+messageAfter (refused k place) e m = m
 messageAfter (old s) e m = m
 messageAfter (updated s r) e m = over m 0 (G.encode (messageFor (s .count) e))

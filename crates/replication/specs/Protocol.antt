@@ -1,4 +1,4 @@
--- What the machines are given for real drawings: the edit, a message's bytes, and how they are read. Definitions only.
+-- What the machines are given for real drawings: the edit with the place of a refusal, a message's bytes, and how they are read. Definitions only.
 use Prim.Native.Nat.{ℕ}
 use mathlib.Core.Bool.{Bool, _&&_}
 use lib.Ieee.{ofBits, toBits, fits, binary64}
@@ -11,7 +11,7 @@ use Rattle.message.specs.declared.MessageRead.the-variants.{Accepted, Refused}
 use Rattle.message.specs.Message.{messageSize, parse, encode}
 use Rattle.edit_plan.specs.declared.Removed.{Removed}
 use Rattle.edit_plan.specs.Outcome.{Outcome, guard}
-use Rattle.modify.specs.Edits.{editOf}
+use Rattle.modify.specs.Edits.{editOf, editPlace}
 use Rattle.agreement.specs.Machines.{Decoded, invalid, message, Protocol}
 
 -- an operation on a curve, picked at a place
@@ -28,6 +28,10 @@ isPick p = fits binary64 (p .x) && fits binary64 (p .y)
 abbrev pub edit : Drawing → Edit → Outcome Drawing Removed
 edit d e = guard (isPick (e .at)) 9 (editOf (e .operation) limits d (e .curve) (e .at))
 
+-- the place that comes with an edit's refusal by a number
+abbrev pub place : Drawing → Edit → ℕ → ℕ
+place d e k = editPlace (e .operation) d (e .curve) (e .at) k
+
 -- the message of an edit and its number, and the edit that a message means: a pick is sent by its bits
 abbrev pub messageFor : ℕ → Edit → Message
 messageFor n e = record { number = n; operation = e .operation; curve = e .curve; x = toBits binary64 (e .at .x); y = toBits binary64 (e .at .y) }
@@ -40,7 +44,7 @@ decodedOf (Accepted m) = message (m .number) (editIn m)
 decodedOf (Refused k) = invalid k
 
 abbrev pub protocol : Protocol Drawing Edit Removed
-protocol = record { edit = edit; messageSize = messageSize; encode = λ n e. encode (messageFor n e); decode = λ s. decodedOf (parse s) }
+protocol = record { edit = edit; place = place; messageSize = messageSize; encode = λ n e. encode (messageFor n e); decode = λ s. decodedOf (parse s) }
 
 -- the curve that an edit is made on
 abbrev pub target : Edit → ℕ

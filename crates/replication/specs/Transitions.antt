@@ -2,7 +2,6 @@
 -- Definitions only.
 use Prim.Native.Nat.{ℕ, zero, suc, _≤_}
 use mathlib.Core.Path.{_≡_}
-use mathlib.Core.Bool.{true}
 use mathlib.Core.List.{List, [], _∷_}
 use lib.ListN.{length, take}
 use lib.Dec.{eqb, leb}
@@ -12,19 +11,14 @@ use Rattle.sketch.specs.Lists.{guardNumber}
 use Rattle.sketch.specs.Drawing.{Drawing, limits}
 use Rattle.sketch.specs.Facts.{Valid}
 use Rattle.message.specs.declared.Operation.{Operation}
-use Rattle.message.specs.declared.Operation.the-variants.{Extend}
 use Rattle.message.specs.Message.{messageSize}
 use Rattle.image.specs.Image as I
 use Rattle.image.specs.Encode.{encode, drawingSize}
 use Rattle.sketch_image.specs.SketchImage.{drawingIn}
-use Rattle.relations.specs.Met.{unmetAt}
 use Rattle.edit_plan.specs.declared.Removed.{Removed}
-use Rattle.edit_plan.specs.Outcome.{accepted}
 use Rattle.edit_plan.specs.Steps.{nothing}
-use Rattle.extend.specs.ExtendAnswer.{NoPlace}
-use Rattle.modify.specs.Edits.{editUntested}
 use Rattle.agreement.specs.Machines as M
-use Rattle.agreement.specs.Machines.{State, message, DeskStep, WallStep}
+use Rattle.agreement.specs.Machines.{State, DeskStep, WallStep}
 use Rattle.replication.specs.declared.Replica.{Replica}
 use Rattle.replication.specs.declared.Started.{Started}
 use Rattle.replication.specs.declared.DeskReply.{DeskReply}
@@ -33,8 +27,8 @@ use Rattle.replication.specs.declared.DeskTransition.{DeskTransition}
 use Rattle.replication.specs.declared.WallReply.{WallReply}
 use Rattle.replication.specs.declared.WallReply.the-variants as Wall
 use Rattle.replication.specs.declared.WallTransition.{WallTransition}
-use Rattle.replication.specs.Protocol.{Edit, protocol}
-use Rattle.replication.specs.Outcomes.{CallOutcome, refused, old, updated, onImage, deskOn, wallOn, numberOf, OutcomeSound, messageAfter}
+use Rattle.replication.specs.Protocol.{Edit}
+use Rattle.replication.specs.Outcomes.{CallOutcome, refused, old, updated, onImage, deskOn, wallOn, OutcomeSound, messageAfter}
 
 -- ---- memory
 
@@ -82,21 +76,15 @@ pub record Starts (image before after : List ℕ) (r : Started) : Type 0 where
   pub when-refused : (r .refusal ≡ 0 → ⊥) → (after ≡ before) × (r .replica ≡ record { size = 0; count = 0 })
   pub when-started : r .refusal ≡ 0 → (after ≡ over before 0 image) × (r .replica ≡ record { size = length image; count = 0 })
 
--- ---- the place that comes with an extend's 13, of a relation that is not met, and with its 19, of one that would not be met
-
-pub record UnmetPlace (e : Edit) (d : Drawing) (k place : ℕ) : Type 0 where
-  pub before : e .operation ≡ Extend → k ≡ 13 → unmetAt d place ≡ true
-  pub after : e .operation ≡ Extend → k ≡ 19 → (d′ : Drawing) (removed : Removed) → editUntested (e .operation) limits d (e .curve) (e .at) ≡ accepted d′ removed → unmetAt d′ place ≡ true
+-- ---- what desk and wall answer and leave alike
 
 -- the image's own number before any other
 abbrev pub firstFault : List ℕ → ℕ → ℕ
 firstFault s k = guardNumber (eqb (I.imageFault s) 0) (I.imageFault s) k
 
--- ---- what desk and wall leave alike
-
 -- a refusal leaves all; an old message leaves the state that was found; else the new image stands at the buffer's front, the rest as it was
 abbrev pub memoryAfter : CallOutcome → Memory → Memory
-memoryAfter (refused k) m = m
+memoryAfter (refused k place) m = m
 memoryAfter (old s) m = record { buffer = m .buffer; size = drawingSize (s .drawing); count = s .count }
 memoryAfter (updated s r) m = record { buffer = over (m .buffer) 0 (encode (s .drawing)); size = drawingSize (s .drawing); count = s .count }
 
@@ -115,7 +103,7 @@ deskCall op t x y b a buffer r =
     record { edit = record { operation = op; curve = t; at = record { x = x; y = y } }; before = b; after = a; left = memory (r .replica) buffer; reply = r .reply }
 
 abbrev pub deskReply : DeskReply → List ℕ → M.DeskReply Removed
-deskReply (Desk.Refused k place) m = M.deskRefused k
+deskReply (Desk.Refused k place) m = M.deskRefused k place
 deskReply (Desk.Accepted r) m = M.deskAccepted r m
 
 abbrev pub deskStep : DeskCall → DeskStep Drawing Edit Removed
@@ -129,21 +117,18 @@ deskStep c =
 abbrev pub deskCallOutcome : Memory → Edit → ℕ → CallOutcome
 deskCallOutcome m e room = onImage (I.parse (imageIn m)) (m .count) (deskOn (length (m .buffer)) (record { edit = e; room = room }))
 
--- the reply to an outcome, with a place; no edit of the desk is old
-abbrev pub deskReplyTo : CallOutcome → ℕ → DeskReply
-deskReplyTo (refused k) place = Desk.Refused k place
-deskReplyTo (old s) place = Desk.Accepted nothing
-deskReplyTo (updated s r) place = Desk.Accepted r
+-- the reply to an outcome; no edit of the desk is old
+abbrev pub deskReplyTo : CallOutcome → DeskReply
+deskReplyTo (refused k place) = Desk.Refused k place
+deskReplyTo (old s) = Desk.Accepted nothing
+deskReplyTo (updated s r) = Desk.Accepted r
 
--- the outcome's reply, with the place of a relation where 13 or 19 come with one; the memory; the message
+-- the outcome's reply, the memory, the message
 pub record DeskEdits (m : Memory) (c : DeskCall) : Type 0 where
-  pub place : ℕ
-  pub reply-is : c .reply ≡ deskReplyTo (deskCallOutcome m (c .edit) (length (c .before))) place
+  pub reply-is : c .reply ≡ deskReplyTo (deskCallOutcome m (c .edit) (length (c .before)))
   pub left-is : c .left ≡ memoryAfter (deskCallOutcome m (c .edit) (length (c .before))) m
   pub message-is : c .after ≡ messageAfter (deskCallOutcome m (c .edit) (length (c .before))) (c .edit) (c .before)
   pub sound : OutcomeSound (deskCallOutcome m (c .edit) (length (c .before)))
-  pub no-place : NoPlace (numberOf (deskCallOutcome m (c .edit) (length (c .before)))) place
-  pub unmet : (d : Drawing) → I.parse (imageIn m) ≡ I.accepted d → UnmetPlace (c .edit) d (numberOf (deskCallOutcome m (c .edit) (length (c .before)))) place
 
 -- one call after the other, each on what the last one left
 abbrev pub DeskCalls : Memory → List DeskCall → Type 0
@@ -161,7 +146,7 @@ abbrev pub wallCall : List ℕ → List ℕ → WallTransition → WallCall
 wallCall bytes buffer r = record { bytes = bytes; left = memory (r .replica) buffer; reply = r .reply }
 
 abbrev pub wallReply : WallReply → M.WallReply Removed
-wallReply (Wall.Refused k place) = M.wallRefused k
+wallReply (Wall.Refused k place) = M.wallRefused k place
 wallReply Wall.Old = M.wallOld
 wallReply (Wall.Applied r) = M.wallApplied r
 
@@ -171,18 +156,15 @@ wallStep c = record { bytes = c .bytes; state = stateIn (c .left); reply = wallR
 abbrev pub wallCallOutcome : Memory → List ℕ → CallOutcome
 wallCallOutcome m bytes = onImage (I.parse (imageIn m)) (m .count) (wallOn (length (m .buffer)) bytes)
 
-abbrev pub wallReplyTo : CallOutcome → ℕ → WallReply
-wallReplyTo (refused k) place = Wall.Refused k place
-wallReplyTo (old s) place = Wall.Old
-wallReplyTo (updated s r) place = Wall.Applied r
+abbrev pub wallReplyTo : CallOutcome → WallReply
+wallReplyTo (refused k place) = Wall.Refused k place
+wallReplyTo (old s) = Wall.Old
+wallReplyTo (updated s r) = Wall.Applied r
 
 pub record WallDelivers (m : Memory) (c : WallCall) : Type 0 where
-  pub place : ℕ
-  pub reply-is : c .reply ≡ wallReplyTo (wallCallOutcome m (c .bytes)) place
+  pub reply-is : c .reply ≡ wallReplyTo (wallCallOutcome m (c .bytes))
   pub left-is : c .left ≡ memoryAfter (wallCallOutcome m (c .bytes)) m
   pub sound : OutcomeSound (wallCallOutcome m (c .bytes))
-  pub no-place : NoPlace (numberOf (wallCallOutcome m (c .bytes))) place
-  pub unmet : (d : Drawing) → I.parse (imageIn m) ≡ I.accepted d → (n : ℕ) (e : Edit) → protocol .decode (c .bytes) ≡ message n e → UnmetPlace e d (numberOf (wallCallOutcome m (c .bytes))) place
 
 abbrev pub WallCalls : Memory → List WallCall → Type 0
 WallCalls m [] = Unit {0}
