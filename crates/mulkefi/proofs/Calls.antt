@@ -1,5 +1,5 @@
 -- What the C calls answer, from what desk and wall answer: one law for each way out. Assumes nothing.
-use mathlib.Core.Path.{_≡_, refl, sym, ap, _∙_, subst}
+use mathlib.Core.Path.{_≡_, refl, sym, ap, ap₂, _∙_, subst}
 use mathlib.Core.Bool.{Bool, true, false}
 use mathlib.Core.List.{List}
 use Prim.Native.Nat.{ℕ, zero, suc, _+_, _/_, _%_, _≤_}
@@ -10,17 +10,13 @@ use borrow.Author.Tests.{ne-eqb}
 use Rattle.big_endian.specs.Laws.{Bytes}
 use Rattle.sketch.specs.Lists.{ite, guardNumber}
 use Rattle.sketch.specs.Drawing.{Drawing, limits}
-use Rattle.sketch.specs.Facts.{Valid}
-use Rattle.sketch.proofs.Facts.{fault-valid}
 use Rattle.image.specs.Image as I
 use Rattle.image.specs.Encode as E
-use Rattle.image.proofs.Tables.{bytes-take}
-use Rattle.image.proofs.RoundTrips.{valid, result-accepted}
+use Rattle.image.proofs.RoundTrips.{result-accepted}
 use Rattle.message.specs.Message.{isOperation}
 use Rattle.edit_plan.specs.declared.Removed.{Removed}
 use Rattle.edit_plan.specs.Steps.{nothing}
 use Rattle.edit_plan.specs.Outcome as O
-use Rattle.extend.specs.ExtendAnswer.{NoPlace}
 use Rattle.modify.proofs.ImageFaults.{image-fault-low}
 use Rattle.agreement.specs.Machines as M
 use Rattle.agreement.specs.Machines.{State, Call, callOutcome, wallTransition}
@@ -29,29 +25,29 @@ use Rattle.replication.specs.declared.DeskReply.the-variants as Desk
 use Rattle.replication.specs.declared.WallReply.{WallReply}
 use Rattle.replication.specs.declared.WallReply.the-variants as Wall
 use Rattle.replication.specs.Protocol.{Edit, protocol}
-use Rattle.replication.specs.Outcomes.{CallOutcome, refused, old, updated, onImage, deskOutcome, deskOn, wallOutcome, wallOn, numberOf, OutcomeSound, messageAfter}
+use Rattle.replication.specs.Outcomes.{CallOutcome, refused, old, updated, onImage, deskOutcome, deskOn, wallOutcome, wallOn, numberOf, placeOf, OutcomeSound, messageAfter}
 use Rattle.replication.specs.Transitions as R
-use Rattle.replication.specs.Transitions.{Memory, imageIn, UnmetPlace, firstFault, memoryAfter, deskReplyTo, DeskEdits, wallReplyTo, WallDelivers}
-use Rattle.replication.proofs.CallOutcomes.{first-of, first-early, on-first, unmet-none}
+use Rattle.replication.specs.Transitions.{Memory, imageIn, firstFault, memoryAfter, deskReplyTo, DeskEdits, wallReplyTo, WallDelivers}
+use Rattle.replication.proofs.CallOutcomes.{first-of, first-some, on-first}
+use Rattle.replication.proofs.OutcomePlaces.{desk-place-within, wall-place-within}
 use Rattle.replication.proofs.StartCases.{good-size}
 use Rattle.replication.proofs.Steps.{length-parsed}
 use Rattle.replication.proofs.WallCases.{WallCase, is-refused, is-old, is-applied, wall-case}
 use Rattle.mulkefi.specs.Calls.{bufferAfter, answerAfter, CallWritten, deskByNumber, deskOutcomeByNumber, DeskCallWritten, WallCallWritten}
 use Rattle.mulkefi.specs.Contracts.{answerWith}
-use Rattle.mulkefi.proofs.Places.{unmet-whole}
 
 -- ---- a call's answer by its outcome
 
 buffer-after : (v : CallOutcome) (m : Memory) → memoryAfter v m .buffer ≡ bufferAfter v (m .buffer)
-buffer-after (refused k) m = refl
+buffer-after (refused k place) m = refl
 buffer-after (old s) m = refl
 buffer-after (updated s r) m = refl
 
-pub refused-written : (v : CallOutcome) (k r : ℕ) → v ≡ refused k → (k ≡ 0 → ⊥) → r % 65536 ≡ k → NoPlace k (r / 65536) → (b a : List ℕ) → CallWritten v b b a a r
-refused-written v k r g z n p b a =
+pub refused-written : (v : CallOutcome) (k place r : ℕ) → v ≡ refused k place → (k ≡ 0 → ⊥) → r % 65536 ≡ k → r / 65536 ≡ place → (b a : List ℕ) → CallWritten v b b a a r
+refused-written v k place r g z n p b a =
     record {
       number = n ∙ sym (ap numberOf g);
-      no-place = subst (λ (v : CallOutcome). NoPlace (numberOf v) (r / 65536)) (sym g) p;
+      place = p ∙ sym (ap placeOf g);
       image = sym (ap (λ (v : CallOutcome). bufferAfter v b) g);
       sound = subst OutcomeSound (sym g) z;
       numbers = sym (ap (λ (v : CallOutcome). answerAfter v a) g);
@@ -65,7 +61,7 @@ module _ (m : Memory) (v : CallOutcome) (sound : OutcomeSound v) (left : Memory)
       let l : left ≡ memoryAfter (old s) m = is ∙ ap (λ (v : CallOutcome). memoryAfter v m) g in
       record {
         number = ap (λ (k : ℕ). k % 65536) z ∙ sym (ap numberOf g);
-        no-place = λ i j. ap (λ (k : ℕ). k / 65536) z;
+        place = ap (λ (k : ℕ). k / 65536) z ∙ sym (ap placeOf g);
         image = ap (λ (m : Memory). m .buffer) is ∙ buffer-after v m;
         sound = sound;
         numbers = e ∙ ap (λ (t : Memory). answerWith a (t .count) (t .size) nothing) l ∙ sym (ap (λ (v : CallOutcome). answerAfter v a) g);
@@ -77,7 +73,7 @@ module _ (m : Memory) (v : CallOutcome) (sound : OutcomeSound v) (left : Memory)
       let l : left ≡ memoryAfter (updated s q) m = is ∙ ap (λ (v : CallOutcome). memoryAfter v m) g in
       record {
         number = ap (λ (k : ℕ). k % 65536) z ∙ sym (ap numberOf g);
-        no-place = λ i j. ap (λ (k : ℕ). k / 65536) z;
+        place = ap (λ (k : ℕ). k / 65536) z ∙ sym (ap placeOf g);
         image = ap (λ (m : Memory). m .buffer) is ∙ buffer-after v m;
         sound = sound;
         numbers = e ∙ ap (λ (t : Memory). answerWith a (t .count) (t .size) q) l ∙ sym (ap (λ (v : CallOutcome). answerAfter v a) g);
@@ -90,54 +86,46 @@ module _ (m : Memory) (v : CallOutcome) (sound : OutcomeSound v) (left : Memory)
       let (long, read) = subst OutcomeSound g sound in
       omega (arith, l, long, good-size (E.encode (s .drawing)) (result-accepted (I.imageFault (E.encode (s .drawing))) (I.drawingOf (E.encode (s .drawing))) (s .drawing) read .0))
 
-  pub refused-buffer : (k : ℕ) → v ≡ refused k → left ≡ m
-  refused-buffer k g = is ∙ ap (λ (v : CallOutcome). memoryAfter v m) g
+  pub refused-buffer : (k place : ℕ) → v ≡ refused k place → left ≡ m
+  refused-buffer k place g = is ∙ ap (λ (v : CallOutcome). memoryAfter v m) g
 
--- a place, which stands whole above a number
-placed :
-    (b : List ℕ) → Bytes b → (len : ℕ) (e : Edit) (d : Drawing) → I.parse (take len b) ≡ I.accepted d → (k n place r : ℕ) → UnmetPlace e d k place → k ≡ n → r % 65536 ≡ n → r / 65536 ≡ place % 65536
-    → UnmetPlace e d (r % 65536) (r / 65536)
-placed b are len e d p k n place r u same low high =
-    let v : Valid limits d = fault-valid limits d (valid (take len b) d (bytes-take len b are) p) in
-    subst (λ (k : ℕ). UnmetPlace e d k (r / 65536)) (same ∙ sym low) (subst (UnmetPlace e d k) (sym high) (unmet-whole e d k place v u))
-
--- a place that comes with a number
-no-place-low : (k place r : ℕ) → NoPlace k place → r / 65536 ≡ place % 65536 → NoPlace k (r / 65536)
-no-place-low k place r p h i j = let z = p i j in omega arith
+-- a place within the limit stands whole above a number
+whole-place : (v : CallOutcome) (k place r : ℕ) → v ≡ refused k place → placeOf v ≤ limits .relations → r / 65536 ≡ place % 65536 → r / 65536 ≡ place
+whole-place v k place r g h e = omega (arith, ap placeOf g)
 
 -- ---- the desk
 
 -- no edit of the desk is old
 abbrev NotOld : CallOutcome → Type 0
-NotOld (refused k) = Unit {0}
+NotOld (refused k place) = Unit {0}
 NotOld (old s) = ⊥
 NotOld (updated s r) = Unit {0}
 
 desk-not-old : (m : Memory) (e : Edit) (room : ℕ) → NotOld (R.deskCallOutcome m e room)
 desk-not-old m e room = on (I.parse (imageIn m))
   where
-    fits : (t : State Drawing) (q : Removed) (b : Bool) → NotOld (ite b (updated t q) (refused 25))
+    fits : (t : State Drawing) (q : Removed) (b : Bool) → NotOld (ite b (updated t q) (refused 25 0))
     fits t q true = tt
     fits t q false = tt
 
-    out : (o : O.Outcome (State Drawing) Removed) → NotOld (deskOutcome (length (m .buffer)) o)
-    out (O.refused k) = tt
-    out (O.accepted t q) = fits t q (leb (E.drawingSize (t .drawing)) (length (m .buffer)))
+    out : (f : ℕ → ℕ) (o : O.Outcome (State Drawing) Removed) → NotOld (deskOutcome (length (m .buffer)) f o)
+    out f (O.refused k) = tt
+    out f (O.accepted t q) = fits t q (leb (E.drawingSize (t .drawing)) (length (m .buffer)))
 
     on : (p : I.ParseResult) → NotOld (onImage p (m .count) (deskOn (length (m .buffer)) (record { edit = e; room = room })))
     on (I.refused k) = tt
-    on (I.accepted d) = out (callOutcome protocol (record { drawing = d; count = m .count }) (record { edit = e; room = room }))
+    on (I.accepted d) = out (protocol .place d e) (callOutcome protocol (record { drawing = d; count = m .count }) (record { edit = e; room = room }))
 
 -- the outcome by the reply
-desk-reply-refused : (v : CallOutcome) (p n q : ℕ) → NotOld v → Desk.Refused n q ≡ deskReplyTo v p → (v ≡ refused n) × (p ≡ q)
-desk-reply-refused (refused k) p n q h e = let i : n ≡ k = cc in let j : q ≡ p = cc in (ap refused (sym i), sym j)
-desk-reply-refused (old s) p n q h e = absurd h
-desk-reply-refused (updated s r) p n q h e = let z : _≡_ {A = ℕ} 0 1 = cc in absurd (omega arith)
+desk-reply-refused : (v : CallOutcome) (n q : ℕ) → NotOld v → Desk.Refused n q ≡ deskReplyTo v → v ≡ refused n q
+desk-reply-refused (refused k p) n q h e = let i : n ≡ k = cc in let j : q ≡ p = cc in sym (ap₂ refused i j)
+desk-reply-refused (old s) n q h e = absurd h
+desk-reply-refused (updated s r) n q h e = let z : _≡_ {A = ℕ} 0 1 = cc in absurd (omega arith)
 
-desk-reply-accepted : (v : CallOutcome) (p : ℕ) (q : Removed) → NotOld v → Desk.Accepted q ≡ deskReplyTo v p → (s : State Drawing) × (v ≡ updated s q)
-desk-reply-accepted (refused k) p q h e = let z : _≡_ {A = ℕ} 0 1 = cc in absurd (omega arith)
-desk-reply-accepted (old s) p q h e = absurd h
-desk-reply-accepted (updated s r) p q h e = let i : q ≡ r = cc in (s, ap (updated s) (sym i))
+desk-reply-accepted : (v : CallOutcome) (q : Removed) → NotOld v → Desk.Accepted q ≡ deskReplyTo v → (s : State Drawing) × (v ≡ updated s q)
+desk-reply-accepted (refused k p) q h e = let z : _≡_ {A = ℕ} 0 1 = cc in absurd (omega arith)
+desk-reply-accepted (old s) q h e = absurd h
+desk-reply-accepted (updated s r) q h e = let i : q ≡ r = cc in (s, ap (updated s) (sym i))
 
 -- an unknown operation's number is small
 first-low : (s : List ℕ) {n : ℕ} → n ≡ firstFault s 6 → n ≤ 6
@@ -161,14 +149,11 @@ module _ (b : List ℕ) (len count operation : ℕ) (e : Edit) (l a : List ℕ) 
   pub desk-unknown : isOperation operation ≡ false → {image : List ℕ} {n : ℕ} → image ≡ take len b → n ≡ firstFault image 6 → DeskCallWritten len count operation e b b l l a a n
   desk-unknown k {image} {n} is f =
       let own : n ≡ firstFault (take len b) 6 = first-of (take len b) 6 is f in
-      let g : outcome ≡ refused n = on-first (take len b) count (deskByNumber (length b) operation call) 6 n own (rw k) in
-      let h = first-early (take len b) 6 n (record { not-0 = λ z. omega arith; not-13 = λ z. omega arith; not-19 = λ z. omega arith }) own in
+      let g : outcome ≡ refused n 0 = on-first (take len b) count (deskByNumber (length b) operation call) 6 n own (rw k) in
       let small = first-low (take len b) own in
-      let low : n % 65536 ≡ n = omega arith in
       record {
-        served = refused-written outcome n n g (h .not-0) low (λ x y. omega arith) b a;
+        served = refused-written outcome n 0 n g (first-some (take len b) 6 n (λ z. omega arith) own) (omega arith) (omega arith) b a;
         written = sym (ap (λ (v : CallOutcome). messageAfter v e l) g);
-        place = λ d p. unmet-none e d (n % 65536) (n / 65536) (λ z. h .not-13 (sym low ∙ z)) (λ z. h .not-19 (sym low ∙ z));
       }
 
   module _ (known : isOperation operation ≡ true) (left : Memory) (reply : DeskReply) (l′ : List ℕ) (w : DeskEdits m (record { edit = e; before = l; after = l′; left = left; reply = reply })) where
@@ -187,20 +172,16 @@ module _ (b : List ℕ) (len count operation : ℕ) (e : Edit) (l a : List ℕ) 
 
     pub desk-refused : (n place : ℕ) → reply ≡ Desk.Refused n place → Bytes b → (r : ℕ) → r % 65536 ≡ n → r / 65536 ≡ place % 65536 → DeskCallWritten len count operation e b (left .buffer) l l′ a a r
     desk-refused n place q are r low high =
-        let (g, p) = desk-reply-refused desks (w .place) n place (desk-not-old m e (length l)) (sym q ∙ w .reply-is) in
-        let here : w .place % 65536 ≡ r / 65536 = ap (λ (k : ℕ). k % 65536) p ∙ sym high in
-        let number : numberOf desks ≡ n = ap numberOf g in
-        let u : NoPlace n (w .place) = subst (λ (k : ℕ). NoPlace k (w .place)) number (w .no-place) in
-        let c = refused-written outcome n r (same ∙ g) (subst OutcomeSound g (w .sound)) low (no-place-low n (w .place) r u (sym here)) b a in
+        let g = desk-reply-refused desks n place (desk-not-old m e (length l)) (sym q ∙ w .reply-is) in
+        let c = refused-written outcome n place r (same ∙ g) (subst OutcomeSound g (w .sound)) low (whole-place desks n place r g (desk-place-within m are e (length l)) high) b a in
         record {
-          served = subst (λ (t : List ℕ). CallWritten outcome b t a a r) (sym (ap (λ (t : Memory). t .buffer) (refused-buffer m desks (w .sound) left (w .left-is) n g))) c;
+          served = subst (λ (t : List ℕ). CallWritten outcome b t a a r) (sym (ap (λ (t : Memory). t .buffer) (refused-buffer m desks (w .sound) left (w .left-is) n place g))) c;
           written = message-is;
-          place = λ d p. placed b are len e d p (numberOf desks) n (w .place) r (w .unmet d p) number low (sym here);
         }
 
     module _ (q : Removed) (is : reply ≡ Desk.Accepted q) where
       done : (s : State Drawing) × (desks ≡ updated s q)
-      done = desk-reply-accepted desks (w .place) q (desk-not-old m e (length l)) (sym is ∙ w .reply-is)
+      done = desk-reply-accepted desks q (desk-not-old m e (length l)) (sym is ∙ w .reply-is)
 
       pub desk-size : left .size ≤ I.maxImageSize
       desk-size = updated-size m desks (w .sound) left (w .left-is) (done .0) q (done .1)
@@ -210,29 +191,28 @@ module _ (b : List ℕ) (len count operation : ℕ) (e : Edit) (l a : List ℕ) 
           record {
             served = subst (λ (v : CallOutcome). CallWritten v b (left .buffer) a a′ r) (sym same) (updated-written m desks (w .sound) left (w .left-is) (done .0) q (done .1) a a′ r z n);
             written = message-is;
-            place = λ d p. unmet-none e d (r % 65536) (r / 65536) (λ y. omega (arith, z)) (λ y. omega (arith, z));
           }
 
 -- ---- the wall
 
-wall-reply-refused : (v : CallOutcome) (p n q : ℕ) → Wall.Refused n q ≡ wallReplyTo v p → (v ≡ refused n) × (p ≡ q)
-wall-reply-refused (refused k) p n q e = let i : n ≡ k = cc in let j : q ≡ p = cc in (ap refused (sym i), sym j)
-wall-reply-refused (old s) p n q e = let z : _≡_ {A = ℕ} 0 1 = cc in absurd (omega arith)
-wall-reply-refused (updated s r) p n q e = let z : _≡_ {A = ℕ} 0 1 = cc in absurd (omega arith)
+wall-reply-refused : (v : CallOutcome) (n q : ℕ) → Wall.Refused n q ≡ wallReplyTo v → v ≡ refused n q
+wall-reply-refused (refused k p) n q e = let i : n ≡ k = cc in let j : q ≡ p = cc in sym (ap₂ refused i j)
+wall-reply-refused (old s) n q e = let z : _≡_ {A = ℕ} 0 1 = cc in absurd (omega arith)
+wall-reply-refused (updated s r) n q e = let z : _≡_ {A = ℕ} 0 1 = cc in absurd (omega arith)
 
-wall-reply-old : (v : CallOutcome) (p : ℕ) → Wall.Old ≡ wallReplyTo v p → (s : State Drawing) × (v ≡ old s)
-wall-reply-old (refused k) p e = let z : _≡_ {A = ℕ} 0 1 = cc in absurd (omega arith)
-wall-reply-old (old s) p e = (s, refl)
-wall-reply-old (updated s r) p e = let z : _≡_ {A = ℕ} 0 1 = cc in absurd (omega arith)
+wall-reply-old : (v : CallOutcome) → Wall.Old ≡ wallReplyTo v → (s : State Drawing) × (v ≡ old s)
+wall-reply-old (refused k p) e = let z : _≡_ {A = ℕ} 0 1 = cc in absurd (omega arith)
+wall-reply-old (old s) e = (s, refl)
+wall-reply-old (updated s r) e = let z : _≡_ {A = ℕ} 0 1 = cc in absurd (omega arith)
 
-wall-reply-applied : (v : CallOutcome) (p : ℕ) (q : Removed) → Wall.Applied q ≡ wallReplyTo v p → (s : State Drawing) × (v ≡ updated s q)
-wall-reply-applied (refused k) p q e = let z : _≡_ {A = ℕ} 0 1 = cc in absurd (omega arith)
-wall-reply-applied (old s) p q e = let z : _≡_ {A = ℕ} 0 1 = cc in absurd (omega arith)
-wall-reply-applied (updated s r) p q e = let i : q ≡ r = cc in (s, ap (updated s) (sym i))
+wall-reply-applied : (v : CallOutcome) (q : Removed) → Wall.Applied q ≡ wallReplyTo v → (s : State Drawing) × (v ≡ updated s q)
+wall-reply-applied (refused k p) q e = let z : _≡_ {A = ℕ} 0 1 = cc in absurd (omega arith)
+wall-reply-applied (old s) q e = let z : _≡_ {A = ℕ} 0 1 = cc in absurd (omega arith)
+wall-reply-applied (updated s r) q e = let i : q ≡ r = cc in (s, ap (updated s) (sym i))
 
 -- an old message leaves the image that was found
 abbrev OldAt : Drawing → CallOutcome → Type 0
-OldAt d (refused k) = Unit {0}
+OldAt d (refused k place) = Unit {0}
 OldAt d (old s) = s .drawing ≡ d
 OldAt d (updated s r) = Unit {0}
 
@@ -242,12 +222,12 @@ old-at room s x c = by c
     from : (y : State Drawing × M.WallReply Removed) → x ≡ y → OldAt (s .drawing) (wallOutcome room (y .0) (y .1)) → OldAt (s .drawing) (wallOutcome room (x .0) (x .1))
     from y e h = subst (λ (y : State Drawing × M.WallReply Removed). OldAt (s .drawing) (wallOutcome room (y .0) (y .1))) (sym e) h
 
-    fits : (t : State Drawing) (q : Removed) (b : Bool) → OldAt (s .drawing) (ite b (updated t q) (refused 25))
+    fits : (t : State Drawing) (q : Removed) (b : Bool) → OldAt (s .drawing) (ite b (updated t q) (refused 25 0))
     fits t q true = tt
     fits t q false = tt
 
     by : WallCase s x → OldAt (s .drawing) (wallOutcome room (x .0) (x .1))
-    by (is-refused k e) = from (s, M.wallRefused k) e tt
+    by (is-refused k place e) = from (s, M.wallRefused k place) e tt
     by (is-old e) = from (s, M.wallOld) e refl
     by (is-applied e d q g f) = from (record { drawing = d; count = s .count + 1 }, M.wallApplied q) f (fits (record { drawing = d; count = s .count + 1 }) q (leb (E.drawingSize d) room))
 
@@ -271,19 +251,13 @@ module _ (b : List ℕ) (len count : ℕ) (bytes a : List ℕ) (left : Memory) (
 
   pub wall-refused : (n place : ℕ) → reply ≡ Wall.Refused n place → Bytes b → (r : ℕ) → r % 65536 ≡ n → r / 65536 ≡ place % 65536 → WallCallWritten len count bytes b (left .buffer) a a r
   wall-refused n place q are r low high =
-      let (g, p) = wall-reply-refused walls (w .place) n place (sym q ∙ w .reply-is) in
-      let here : w .place % 65536 ≡ r / 65536 = ap (λ (k : ℕ). k % 65536) p ∙ sym high in
-      let number : numberOf walls ≡ n = ap numberOf g in
-      let u : NoPlace n (w .place) = subst (λ (k : ℕ). NoPlace k (w .place)) number (w .no-place) in
-      let c = refused-written walls n r g (subst OutcomeSound g (w .sound)) low (no-place-low n (w .place) r u (sym here)) b a in
-      record {
-        served = subst (λ (t : List ℕ). CallWritten walls b t a a r) (sym (ap (λ (t : Memory). t .buffer) (refused-buffer found walls (w .sound) left (w .left-is) n g))) c;
-        place = λ d p k e o. placed b are len e d p (numberOf walls) n (w .place) r (w .unmet d p k e o) number low (sym here);
-      }
+      let g = wall-reply-refused walls n place (sym q ∙ w .reply-is) in
+      let c = refused-written walls n place r g (subst OutcomeSound g (w .sound)) low (whole-place walls n place r g (wall-place-within found are bytes) high) b a in
+      subst (λ (t : List ℕ). CallWritten walls b t a a r) (sym (ap (λ (t : Memory). t .buffer) (refused-buffer found walls (w .sound) left (w .left-is) n place g))) c
 
   module _ (is : reply ≡ Wall.Old) where
     was-old : (s : State Drawing) × (walls ≡ old s)
-    was-old = wall-reply-old walls (w .place) (sym is ∙ w .reply-is)
+    was-old = wall-reply-old walls (sym is ∙ w .reply-is)
 
     pub wall-old-size : left .size ≤ I.maxImageSize
     wall-old-size =
@@ -291,22 +265,14 @@ module _ (b : List ℕ) (len count : ℕ) (bytes a : List ℕ) (left : Memory) (
         omega (arith, l, old-size found bytes (was-old .0) (was-old .1))
 
     pub wall-old : (a′ : List ℕ) (r : ℕ) → (r ≡ 0) × (a′ ≡ answerWith a (left .count) (left .size) nothing) → WallCallWritten len count bytes b (left .buffer) a a′ r
-    wall-old a′ r (z, n) =
-        record {
-          served = old-written found walls (w .sound) left (w .left-is) (was-old .0) (was-old .1) a a′ r z n;
-          place = λ d p k e o. unmet-none e d (r % 65536) (r / 65536) (λ y. omega (arith, z)) (λ y. omega (arith, z));
-        }
+    wall-old a′ r (z, n) = old-written found walls (w .sound) left (w .left-is) (was-old .0) (was-old .1) a a′ r z n
 
   module _ (q : Removed) (is : reply ≡ Wall.Applied q) where
     was-applied : (s : State Drawing) × (walls ≡ updated s q)
-    was-applied = wall-reply-applied walls (w .place) q (sym is ∙ w .reply-is)
+    was-applied = wall-reply-applied walls q (sym is ∙ w .reply-is)
 
     pub wall-size : left .size ≤ I.maxImageSize
     wall-size = updated-size found walls (w .sound) left (w .left-is) (was-applied .0) q (was-applied .1)
 
     pub wall-applied : (a′ : List ℕ) (r : ℕ) → (r ≡ 0) × (a′ ≡ answerWith a (left .count) (left .size) q) → WallCallWritten len count bytes b (left .buffer) a a′ r
-    wall-applied a′ r (z, n) =
-        record {
-          served = updated-written found walls (w .sound) left (w .left-is) (was-applied .0) q (was-applied .1) a a′ r z n;
-          place = λ d p k e o. unmet-none e d (r % 65536) (r / 65536) (λ y. omega (arith, z)) (λ y. omega (arith, z));
-        }
+    wall-applied a′ r (z, n) = updated-written found walls (w .sound) left (w .left-is) (was-applied .0) q (was-applied .1) a a′ r z n

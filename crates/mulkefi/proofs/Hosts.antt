@@ -71,40 +71,40 @@ module _ (m : Memory) (h : Ready m) (u : DeskUse)
     outcome = deskOutcomeByNumber (m .buffer) (m .size) (m .count) (u .operation) (editOfUse u) (length (u .lent))
 
     -- by the operation's number
-    by-number : (b : Bool) → isOperation (u .operation) ≡ b → outcome ≡ ite b (R.deskCallOutcome m (editOfUse u) (length (u .lent))) (refused 6)
+    by-number : (b : Bool) → isOperation (u .operation) ≡ b → outcome ≡ ite b (R.deskCallOutcome m (editOfUse u) (length (u .lent))) (refused 6 0)
     by-number b k =
         ap (λ (o : I.ParseResult). onImage o (m .count) (deskByNumber (length (m .buffer)) (u .operation) (record { edit = editOfUse u; room = length (u .lent) }))) (h .image-is) ∙ rw k (go b)
       where
-        go : (b : Bool) → ite b (deskOn (length (m .buffer)) (record { edit = editOfUse u; room = length (u .lent) }) (stateIn m)) (refused 6) ≡ ite b (R.deskCallOutcome m (editOfUse u) (length (u .lent))) (refused 6)
+        go : (b : Bool) → ite b (deskOn (length (m .buffer)) (record { edit = editOfUse u; room = length (u .lent) }) (stateIn m)) (refused 6 0) ≡ ite b (R.deskCallOutcome m (editOfUse u) (length (u .lent))) (refused 6 0)
         go true = sym (ap (λ (o : I.ParseResult). onImage o (m .count) (deskOn (length (m .buffer)) (record { edit = editOfUse u; room = length (u .lent) }))) (h .image-is))
         go false = refl
 
     served : (v : CallOutcome) → outcome ≡ v → CallWritten v (m .buffer) (u .buffer) (u .before) (u .answer) (u .result)
     served v g = subst (λ (v : CallOutcome). CallWritten v (m .buffer) (u .buffer) (u .before) (u .answer) (u .result)) g (w .served)
 
-    kept : (k : ℕ) → outcome ≡ refused k → (afterDesk m u ≡ m) × (deskReplyIn u ≡ M.deskRefused k)
-    kept k g =
-        let v = served (refused k) g in
+    kept : (k place : ℕ) → outcome ≡ refused k place → (afterDesk m u ≡ m) × (deskReplyIn u ≡ M.deskRefused k place)
+    kept k place g =
+        let v = served (refused k place) g in
         let z : u .result % 65536 ≡ 0 → ⊥ = λ y. v .sound (sym (v .number) ∙ y) in
-        (memory-kept m (u .buffer) (u .answer) (u .result) z (v .image), rw (ne-eqb (u .result % 65536) 0 z) (ap M.deskRefused (v .number)))
+        (memory-kept m (u .buffer) (u .answer) (u .result) z (v .image), rw (ne-eqb (u .result % 65536) 0 z) (ap₂ M.deskRefused (v .number) (v .place)))
 
     desk-unasked : isOperation (u .operation) ≡ false → afterDesk m u ≡ m
-    desk-unasked k = kept 6 (by-number false k) .0
+    desk-unasked k = kept 6 0 (by-number false k) .0
 
     desk-step : isOperation (u .operation) ≡ true → DeskStepValid protocol (stateIn m) (deskStepIn m u) × Ready (afterDesk m u)
     desk-step k = go (desk-case m h (editOfUse u) (length (u .lent)))
       where
         go : DeskCase m h (editOfUse u) (length (u .lent)) → DeskStepValid protocol (stateIn m) (deskStepIn m u) × Ready (afterDesk m u)
         go (desk-refused n g o) =
-            let (same, reply) = kept n (by-number true k ∙ g) in
-            (record { state = ap stateIn same ∙ sym (ap (stateAfter (stateIn m)) o); reply = reply ∙ sym (ap (M.replyTo protocol (editOfUse u)) o) }, subst Ready (sym same) h)
+            let (same, reply) = kept n (protocol .place (stateIn m .drawing) (editOfUse u) n) (by-number true k ∙ g) in
+            (record { state = ap stateIn same ∙ sym (ap (stateAfter (stateIn m)) o); reply = reply ∙ sym (ap (M.replyTo protocol (stateIn m .drawing) (editOfUse u)) o) }, subst Ready (sym same) h)
         go (desk-updated t q g o valid) =
             let e = editOfUse u in
             let v = served (updated t q) (by-number true k ∙ g) in
             let a = after-updated m h t q (v .sound) valid in
             let low : u .result % 65536 ≡ 0 = v .number in
             let left : afterDesk m u ≡ memoryAfter (updated t q) m =
-            taken-over m (u .buffer) (u .before) (u .answer) (u .result) t q l low (v .no-place (λ y. omega arith) (λ y. omega arith)) (v .numbers)
+            taken-over m (u .buffer) (u .before) (u .answer) (u .result) t q l low (v .place) (v .numbers)
             ∙ ap (λ (b : List ℕ). record { buffer = b; size = E.drawingSize (t .drawing); count = t .count }) (v .image) in
             let sent : take messageSize (u .message) ≡ G.encode (messageFor (t .count) e) =
             ap (take messageSize) (w .written ∙ ap (λ (v : CallOutcome). messageAfter v e (u .lent)) (by-number true k ∙ g)) ∙ message-front (u .lent) (messageFor (t .count) e) in (
@@ -112,7 +112,7 @@ module _ (m : Memory) (h : Ready m) (u : DeskUse)
                 state = ap stateIn left ∙ a .state ∙ sym (ap (stateAfter (stateIn m)) o);
                 reply =
                     rw (eq-eqb (u .result % 65536) 0 low) (ap₂ M.deskAccepted (report-told (u .before) (u .answer) t q l (v .numbers)) sent)
-                    ∙ sym (ap (M.replyTo protocol e) o);
+                    ∙ sym (ap (M.replyTo protocol (stateIn m .drawing) e) o);
               },
               subst Ready (sym left) (a .ready),
             )
@@ -136,7 +136,7 @@ module _ (m : Memory) (h : Ready m) (u : WallUse)
     (w : WallCallWritten (m .size) (m .count) (u .bytes) (m .buffer) (u .buffer) (u .before) (u .answer) (u .result)) (l : length (u .before) ≡ 5)
   where
     wall-served : (v : CallOutcome) → R.wallCallOutcome m (u .bytes) ≡ v → CallWritten v (m .buffer) (u .buffer) (u .before) (u .answer) (u .result)
-    wall-served v g = subst (λ (v : CallOutcome). CallWritten v (m .buffer) (u .buffer) (u .before) (u .answer) (u .result)) g (w .served)
+    wall-served v g = subst (λ (v : CallOutcome). CallWritten v (m .buffer) (u .buffer) (u .before) (u .answer) (u .result)) g w
 
     -- by what is left, and the reply
     by :
@@ -154,16 +154,16 @@ module _ (m : Memory) (h : Ready m) (u : WallUse)
     wall-step = go (delivery-case m h (u .bytes))
       where
         go : DeliveryCase m h (u .bytes) → WallStepValid protocol (stateIn m) (wallStepIn m u) × Ready (afterWall m u)
-        go (delivery-refused k g o) =
-            let v = wall-served (refused k) g in
+        go (delivery-refused k place g o) =
+            let v = wall-served (refused k place) g in
             let z : u .result % 65536 ≡ 0 → ⊥ = λ y. v .sound (sym (v .number) ∙ y) in
-            by (stateIn m) (M.wallRefused k) m o (memory-kept m (u .buffer) (u .answer) (u .result) z (v .image)) (record { ready = h; state = refl })
-            (rw (ne-eqb (u .result % 65536) 0 z) (ap M.wallRefused (v .number)))
+            by (stateIn m) (M.wallRefused k place) m o (memory-kept m (u .buffer) (u .answer) (u .result) z (v .image)) (record { ready = h; state = refl })
+            (rw (ne-eqb (u .result % 65536) 0 z) (ap₂ M.wallRefused (v .number) (v .place)))
         go (delivery-old g o) =
             let v = wall-served (old (stateIn m)) g in
             let low : u .result % 65536 ≡ 0 = v .number in
             let left : afterWall m u ≡ memoryAfter (old (stateIn m)) m =
-            taken-over m (u .buffer) (u .before) (u .answer) (u .result) (stateIn m) nothing l low (v .no-place (λ y. omega arith) (λ y. omega arith)) (v .numbers)
+            taken-over m (u .buffer) (u .before) (u .answer) (u .result) (stateIn m) nothing l low (v .place) (v .numbers)
             ∙ ap (λ (b : List ℕ). record { buffer = b; size = E.drawingSize (stateIn m .drawing); count = m .count }) (v .image) in
             by (stateIn m) M.wallOld (memoryAfter (old (stateIn m)) m) o left (after-old m h)
             (rw (eq-eqb (u .result % 65536) 0 low, eq-eqb (getD (u .answer) 0 0) (m .count) (count-told (u .before) (u .answer) (stateIn m) nothing l (v .numbers))))
@@ -171,7 +171,7 @@ module _ (m : Memory) (h : Ready m) (u : WallUse)
             let v = wall-served (updated t q) g in
             let low : u .result % 65536 ≡ 0 = v .number in
             let left : afterWall m u ≡ memoryAfter (updated t q) m =
-            taken-over m (u .buffer) (u .before) (u .answer) (u .result) t q l low (v .no-place (λ y. omega arith) (λ y. omega arith)) (v .numbers)
+            taken-over m (u .buffer) (u .before) (u .answer) (u .result) t q l low (v .place) (v .numbers)
             ∙ ap (λ (b : List ℕ). record { buffer = b; size = E.drawingSize (t .drawing); count = t .count }) (v .image) in
             let count = count-told (u .before) (u .answer) t q l (v .numbers) in
             by t (M.wallApplied q) (memoryAfter (updated t q) m) o left (after-updated m h t q (v .sound) valid)

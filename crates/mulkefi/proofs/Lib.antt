@@ -1,5 +1,4 @@
 -- What is proved of the calls on lent memory.
 pub mod RootsAnswer
-pub mod Places
 pub mod Calls
 pub mod Hosts

@@ -13,15 +13,14 @@ use Rattle.message.specs.declared.Operation.{Operation}
 use Rattle.message.specs.Message.{operationOf, isOperation}
 use Rattle.edit_plan.specs.declared.Removed.{Removed}
 use Rattle.edit_plan.specs.Steps.{nothing}
-use Rattle.extend.specs.ExtendAnswer.{NoPlace}
-use Rattle.agreement.specs.Machines.{State, Call, message}
-use Rattle.replication.specs.Protocol.{Edit, protocol}
-use Rattle.replication.specs.Outcomes.{CallOutcome, refused, old, updated, onImage, deskOn, numberOf, OutcomeSound, messageAfter}
-use Rattle.replication.specs.Transitions.{UnmetPlace, wallCallOutcome}
+use Rattle.agreement.specs.Machines.{State, Call}
+use Rattle.replication.specs.Protocol.{Edit}
+use Rattle.replication.specs.Outcomes.{CallOutcome, refused, old, updated, onImage, deskOn, numberOf, placeOf, OutcomeSound, messageAfter}
+use Rattle.replication.specs.Transitions.{wallCallOutcome}
 
 -- the new image at the buffer's front, the rest as it was
 abbrev pub bufferAfter : CallOutcome → List ℕ → List ℕ
-bufferAfter (refused k) b = b
+bufferAfter (refused k place) b = b
 bufferAfter (old s) b = b
 bufferAfter (updated s r) b = over b 0 (E.encode (s .drawing))
 
@@ -31,14 +30,14 @@ answerFor a s r = set (set (set (set (set a 0 (s .count)) 1 (E.drawingSize (s .d
 
 -- an old message changes nothing: the answer has the count and the size that were found
 abbrev pub answerAfter : CallOutcome → List ℕ → List ℕ
-answerAfter (refused k) a = a
+answerAfter (refused k place) a = a
 answerAfter (old s) a = answerFor a s nothing
 answerAfter (updated s r) a = answerFor a s r
 
--- what desk and wall answer alike: the low 16 bits are the number, those above a relation's place, 0 where the number comes with none
+-- what desk and wall answer alike: the low 16 bits are the number, those above the place that comes with it, 0 where there is none
 pub record CallWritten (v : CallOutcome) (buffer buffer′ answer answer′ : List ℕ) (r : ℕ) : Type 0 where
   pub number : r % 65536 ≡ numberOf v
-  pub no-place : NoPlace (numberOf v) (r / 65536)
+  pub place : r / 65536 ≡ placeOf v
   pub image : buffer′ ≡ bufferAfter v buffer
   pub sound : OutcomeSound v
   pub numbers : answer′ ≡ answerAfter v answer
@@ -55,22 +54,20 @@ mkEditByNumber operation curve x y = mkEdit (operationOf operation) curve x y
 
 -- 6 for an unknown operation, before what the desk refuses
 abbrev pub deskByNumber : ℕ → ℕ → Call Edit → State Drawing → CallOutcome
-deskByNumber room operation call s = ite (isOperation operation) (deskOn room call s) (refused 6)
+deskByNumber room operation call s = ite (isOperation operation) (deskOn room call s) (refused 6 0)
 
 -- the image is the first `len` bytes of the buffer, all of it where it is shorter; `room` is lent for the message
 abbrev pub deskOutcomeByNumber : List ℕ → ℕ → ℕ → ℕ → Edit → ℕ → CallOutcome
 deskOutcomeByNumber buffer len count operation e room =
     onImage (I.parse (take len buffer)) count (deskByNumber (length buffer) operation (record { edit = e; room = room }))
 
--- the outcome's answer; the message; and the place that comes with 13 or 19
+-- the outcome's answer, and the message
 pub record DeskCallWritten (len count operation : ℕ) (e : Edit) (buffer buffer′ message message′ answer answer′ : List ℕ) (r : ℕ) : Type 0 where
   pub served : CallWritten (deskOutcomeByNumber buffer len count operation e (length message)) buffer buffer′ answer answer′ r
   pub written : message′ ≡ messageAfter (deskOutcomeByNumber buffer len count operation e (length message)) e message
-  pub place : (d : Drawing) → I.parse (take len buffer) ≡ I.accepted d → UnmetPlace e d (r % 65536) (r / 65536)
 
 -- ---- the wall
 
--- the outcome's answer, and the place that comes with 13 or 19
-pub record WallCallWritten (len count : ℕ) (bytes buffer buffer′ answer answer′ : List ℕ) (r : ℕ) : Type 0 where
-  pub served : CallWritten (wallCallOutcome (record { buffer = buffer; size = len; count = count }) bytes) buffer buffer′ answer answer′ r
-  pub place : (d : Drawing) → I.parse (take len buffer) ≡ I.accepted d → (n : ℕ) (e : Edit) → protocol .decode bytes ≡ message n e → UnmetPlace e d (r % 65536) (r / 65536)
+-- the outcome's answer
+abbrev pub WallCallWritten : ℕ → ℕ → List ℕ → List ℕ → List ℕ → List ℕ → List ℕ → ℕ → Type 0
+WallCallWritten len count bytes buffer buffer′ answer answer′ r = CallWritten (wallCallOutcome (record { buffer = buffer; size = len; count = count }) bytes) buffer buffer′ answer answer′ r

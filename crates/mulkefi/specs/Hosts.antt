@@ -1,5 +1,5 @@
 -- Lists of the calls that a host links, each on the memory that the device's last call left, and the steps that a host sees in them. Definitions only.
-use Prim.Native.Nat.{ℕ, zero, suc, _%_}
+use Prim.Native.Nat.{ℕ, zero, suc, _/_, _%_}
 use mathlib.Core.Path.{_≡_}
 use mathlib.Core.List.{List, [], _∷_, _++_}
 use lib.ListN.{length, take, getD}
@@ -45,9 +45,9 @@ editOfUse u = mkEditByNumber (u .operation) (u .curve) (u .x) (u .y)
 abbrev pub afterDesk : Memory → DeskUse → Memory
 afterDesk m u = afterCall m (u .buffer) (u .answer) (u .result)
 
--- the reply that a host sees: a refusal's number in the low 16 bits, or the report and the message
+-- the reply that a host sees: a refusal's number in the low 16 bits and its place above them, or the report and the message
 abbrev pub deskReplyIn : DeskUse → M.DeskReply Removed
-deskReplyIn u = ite (eqb (u .result % 65536) 0) (M.deskAccepted (reportIn (u .answer)) (take messageSize (u .message))) (M.deskRefused (u .result % 65536))
+deskReplyIn u = ite (eqb (u .result % 65536) 0) (M.deskAccepted (reportIn (u .answer)) (take messageSize (u .message))) (M.deskRefused (u .result % 65536) (u .result / 65536))
 
 abbrev pub deskStepIn : Memory → DeskUse → DeskStep Drawing Edit Removed
 deskStepIn m u = record { call = record { edit = editOfUse u; room = length (u .lent) }; state = stateIn (afterDesk m u); reply = deskReplyIn u }
@@ -81,7 +81,7 @@ abbrev pub wallReplyIn : Memory → WallUse → M.WallReply Removed
 wallReplyIn m u =
     ite (eqb (u .result % 65536) 0)
     (ite (eqb (getD (u .answer) 0 0) (m .count)) M.wallOld (M.wallApplied (reportIn (u .answer))))
-    (M.wallRefused (u .result % 65536))
+    (M.wallRefused (u .result % 65536) (u .result / 65536))
 
 abbrev pub wallStepIn : Memory → WallUse → WallStep Drawing Removed
 wallStepIn m u = record { bytes = u .bytes; state = stateIn (afterWall m u); reply = wallReplyIn m u }

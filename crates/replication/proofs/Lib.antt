@@ -3,6 +3,7 @@ pub mod Decoding
 pub mod Folded
 pub mod Picks
 pub mod CallOutcomes
+pub mod OutcomePlaces
 pub mod DeskEdit
 pub mod WallDeliver
 pub mod WallCases

@@ -1,0 +1,76 @@
+-- The place in the outcome of a call is never above the limit of relations, for desk and wall. Assumes nothing.
+use mathlib.Core.Path.{_≡_, refl}
+use mathlib.Core.Bool.{Bool, true, false}
+use mathlib.Core.List.{List}
+use Prim.Native.Nat.{ℕ, _+_, _≤_}
+use native.Mathlib.Omega.{arith}
+use lib.ListN.{length}
+use lib.Dec.{leb, eqb}
+use Rattle.big_endian.specs.Laws.{Bytes}
+use Rattle.sketch.specs.Lists.{ite}
+use Rattle.sketch.specs.Drawing.{Drawing, limits}
+use Rattle.sketch.specs.Facts.{Valid}
+use Rattle.sketch.proofs.Facts.{fault-valid}
+use Rattle.image.specs.Image as I
+use Rattle.image.specs.Encode.{drawingSize}
+use Rattle.image.proofs.Tables.{bytes-take}
+use Rattle.image.proofs.RoundTrips as T
+use Rattle.edit_plan.specs.declared.Removed.{Removed}
+use Rattle.edit_plan.specs.Outcome as O
+use Rattle.modify.proofs.Places.{place-within}
+use Rattle.agreement.specs.Machines as M
+use Rattle.agreement.specs.Machines.{State, Call, Decoded, invalid, message, callOutcome, wallTransition}
+use Rattle.replication.specs.Protocol.{Edit, place, protocol}
+use Rattle.replication.specs.Outcomes.{CallOutcome, refused, updated, ifImageFits, onImage, deskOutcome, deskOn, wallOutcome, wallOn, placeOf}
+use Rattle.replication.specs.Transitions.{Memory, imageIn, deskCallOutcome, wallCallOutcome}
+
+-- of an edit of a valid drawing
+within : (d : Drawing) → Valid limits d → (e : Edit) (k : ℕ) → place d e k ≤ limits .relations
+within d v e k = place-within (e .operation) d (e .curve) (e .at) v k
+
+-- a new image, or 25, comes with none
+fits-within : (room : ℕ) (s : State Drawing) (r : Removed) → placeOf (ifImageFits room s r) ≤ limits .relations
+fits-within room s r = go (leb (drawingSize (s .drawing)) room)
+  where
+    go : (b : Bool) → placeOf (ite b (updated s r) (refused 25 0)) ≤ limits .relations
+    go true = omega arith
+    go false = omega arith
+
+module _ (m : Memory) (are : Bytes (m .buffer)) where
+  -- on the image in a memory
+  on-within : (f : State Drawing → CallOutcome) → ((d : Drawing) → Valid limits d → placeOf (f (record { drawing = d; count = m .count })) ≤ limits .relations) → placeOf (onImage (I.parse (imageIn m)) (m .count) f) ≤ limits .relations
+  on-within f h = go (I.parse (imageIn m)) refl
+    where
+      go : (p : I.ParseResult) → I.parse (imageIn m) ≡ p → placeOf (onImage p (m .count) f) ≤ limits .relations
+      go (I.refused k) e = omega arith
+      go (I.accepted d) e = h d (fault-valid limits d (T.valid (imageIn m) d (bytes-take (m .size) (m .buffer) are) e))
+
+  pub desk-place-within : (e : Edit) (room : ℕ) → placeOf (deskCallOutcome m e room) ≤ limits .relations
+  desk-place-within e room = on-within (deskOn (length (m .buffer)) call) λ d v. go d v (callOutcome protocol (record { drawing = d; count = m .count }) call)
+    where
+      call : Call Edit
+      call = record { edit = e; room = room }
+
+      go : (d : Drawing) → Valid limits d → (o : O.Outcome (State Drawing) Removed) → placeOf (deskOutcome (length (m .buffer)) (place d e) o) ≤ limits .relations
+      go d v (O.refused k) = within d v e k
+      go d v (O.accepted s r) = fits-within (length (m .buffer)) s r
+
+  -- the reply of a delivery
+  abbrev Placed : State Drawing × M.WallReply Removed → Type 0
+  Placed x = placeOf (wallOutcome (length (m .buffer)) (x .0) (x .1)) ≤ limits .relations
+
+  pub wall-place-within : (bytes : List ℕ) → placeOf (wallCallOutcome m bytes) ≤ limits .relations
+  wall-place-within bytes = on-within (wallOn (length (m .buffer)) bytes) λ d v. go d v (protocol .decode bytes)
+    where
+      applied : (s : State Drawing) → Valid limits (s .drawing) → (n : ℕ) (e : Edit) (o : O.Outcome Drawing Removed) → Placed (M.wallApply protocol s n e o)
+      applied s v n e (O.refused k) = within (s .drawing) v e k
+      applied s v n e (O.accepted d r) = fits-within (length (m .buffer)) (record { drawing = d; count = n }) r
+
+      by-number : (s : State Drawing) → Valid limits (s .drawing) → (n : ℕ) (e : Edit) (a b : Bool) → Placed (ite a (s, M.wallOld) (ite b (M.wallApply protocol s n e (protocol .edit (s .drawing) e)) (s, M.wallRefused 7 0)))
+      by-number s v n e true b = omega arith
+      by-number s v n e false true = applied s v n e (protocol .edit (s .drawing) e)
+      by-number s v n e false false = omega arith
+
+      go : (d : Drawing) → Valid limits d → (x : Decoded Edit) → Placed (wallTransition protocol (record { drawing = d; count = m .count }) x)
+      go d v (invalid k) = omega arith
+      go d v (message n e) = by-number (record { drawing = d; count = m .count }) v n e (leb n (m .count)) (eqb n (m .count + 1))
