@@ -30,11 +30,15 @@ impl Call {
         Operation::ALL.into_iter().find(|operation| u32::from(operation.code()) == self.operation)
     }
 
+    /// None where the operation's number is none.
+    pub fn edit(&self) -> Option<Edit> {
+        Some(Edit { operation: self.operation()?, curve: self.curve, x: self.x, y: self.y })
+    }
+
     /// The drawing after the edit and the report, or the image's refusal, the operation's or the edit's.
     pub fn outcome(&self) -> Result<(Drawing, Report), Refused> {
         let drawing = image::read(&self.image)?;
-        let operation = self.operation().ok_or(Refusal::Operation)?;
-        let edit = Edit { operation, curve: self.curve, x: self.x, y: self.y };
+        let edit = self.edit().ok_or(Refusal::Operation)?;
         apply_tested(&drawing, &edit)
     }
 

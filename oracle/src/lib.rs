@@ -21,5 +21,6 @@ pub mod refusal;
 pub mod replication;
 pub mod roots;
 pub mod steps;
+pub mod unmet;
 pub mod upstream;
 pub mod validity;

@@ -1,8 +1,11 @@
 //! The recorded list of edits: the same each time, every outcome, entries that fill the list.
 #![cfg(upstream)]
 
-use oracle::bytes::u32_at;
+use oracle::bytes::{f64_at, u32_at};
+use oracle::call::Call;
 use oracle::recording::{self, SEED};
+use oracle::unmet::Unmet;
+use std::collections::BTreeSet;
 
 /// Trim, split, extend.
 const OPERATIONS: [u32; 3] = [1, 2, 3];
@@ -48,6 +51,26 @@ fn each_operation_on_each_kind_of_target_has_every_outcome() {
             }
         }
     }
+}
+
+#[test]
+fn an_entry_holds_the_place_of_the_first_relation_not_met() {
+    let edits = recording::edits(SEED);
+    let mut seen = BTreeSet::new();
+    for (outcome, input) in edits.entries() {
+        let image = input[38..38 + u32_at(input, 30) as usize].to_vec();
+        let (operation, curve) = (u32_at(input, 2), u32_at(input, 6));
+        let call = Call { operation, image, curve, x: f64_at(input, 10), y: f64_at(input, 18) };
+        let place = usize::from(input[0]) * 256 + usize::from(input[1]);
+        let unmet = Unmet::of_call(&call);
+        assert_eq!(unmet.is_some(), [13, 19].contains(&outcome));
+        assert_eq!(place, unmet.as_ref().map_or(0, |unmet| unmet.places[0]));
+        seen.extend(unmet.iter().flat_map(Unmet::names).map(|name| (outcome, name)));
+    }
+    let before = ["place 0", "later place", "several"].map(|name| (13, name));
+    let after =
+        ["place 0", "later place", "pin's own", "several", "pin too"].map(|name| (19, name));
+    assert_eq!(seen, before.into_iter().chain(after).collect());
 }
 
 #[test]

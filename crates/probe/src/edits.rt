@@ -84,13 +84,13 @@ pub extern "C" fn mulkefi_edit(
     0
 }
 
-// What one edit adds to a sum: a refusal's number, or the next id and the id of the removed curve.
+// What one edit adds to a sum: a refusal's number with its place, or the next id and the id of the removed curve.
 fn edit_adds(operation: Operation, bytes: &[u8], curve: Id, at: Vec2, out: &mut [u8]) -> u32
     ensures { λ r. ⌜ EditAdds operation (now (bytes .entry)) curve at (now (out .entry)) r ⌝ }
 {
     let e = modify::edit_image(operation, bytes, curve, at, out);
     if e.size == 0 {
-        return e.refusal as u32;
+        return with_place(e.refusal, e.place);
     }
     let removed = e.removed;
     std::num::wrapping_add_u32(rows::next_id(&out[..]), removed.curve)

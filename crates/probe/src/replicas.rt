@@ -1,4 +1,5 @@
 // Desk and wall: the wall's program as one call, and a desk's edit and a delivery many times over for timing.
+use crate::edits::with_place;
 use image::MAX_IMAGE_SIZE;
 use message::EditNumber;
 use message::MESSAGE_SIZE;
@@ -33,7 +34,8 @@ pub extern "C" fn mulkefi_wall(input: &[u8], out: &mut [u8]) -> usize
     replication::run_program(&input[..INPUT], out)
 }
 
-// What one edit at a desk that has an image and a count adds to a sum: a refusal's number, or 256 and the count. `buffer` is for the desk's image.
+// What one edit at a desk that has an image and a count adds to a sum: a refusal's number with its place, or 256 and the count. `buffer` is for
+// the desk's image.
 fn desk_adds(
     image: &[u8],
     count: EditNumber,
@@ -56,7 +58,7 @@ fn desk_adds(
     let after = answer.replica;
     let reply = answer.reply;
     match reply {
-        DeskReply::Refused(number, _) => number as u32,
+        DeskReply::Refused(number, place) => with_place(number, place),
         DeskReply::Accepted(_) => std::num::wrapping_add_u32(after.count, 256),
     }
 }
@@ -107,7 +109,8 @@ pub extern "C" fn mulkefi_desk_repeated(
     desks_sum(bytes, count, operation_of(operation), curve, x, y, times)
 }
 
-// What one delivery to a wall that has an image and a count adds to a sum: a refusal's number, 256 for an old message, or 256 and the count.
+// What one delivery to a wall that has an image and a count adds to a sum: a refusal's number with its place, 256 for an old message, or 256 and
+// the count.
 fn wall_adds(image: &[u8], count: EditNumber, message: &[u8], buffer: &mut [u8]) -> u32
     requires { ⌜ (imageFault (now image) ≡ 0) × (maxImageSize ≤ length (now buffer)) ⌝ }
     ensures { λ r. ⌜ r ≡ wallAdds (now (message .entry)) (imageState (now (image .entry)) count) ⌝ }
@@ -121,7 +124,7 @@ fn wall_adds(image: &[u8], count: EditNumber, message: &[u8], buffer: &mut [u8])
     let after = answer.replica;
     let reply = answer.reply;
     match reply {
-        WallReply::Refused(number, _) => number as u32,
+        WallReply::Refused(number, place) => with_place(number, place),
         WallReply::Old => 256,
         WallReply::Applied(_) => std::num::wrapping_add_u32(after.count, 256),
     }

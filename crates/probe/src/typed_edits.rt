@@ -62,14 +62,14 @@ pub extern "C" fn mulkefi_edit_typed(
     write_edited(after, removed, out)
 }
 
-// What one edit adds to a sum: a refusal's number, or the next id and the id of the removed curve.
+// What one edit adds to a sum: a refusal's number with its place, or the next id and the id of the removed curve.
 fn edit_adds(operation: Operation, sk: Sketch, curve: Id, at: Vec2) -> u32
     requires { ⌜ sketchFault sk ≡ 0 ⌝ }
     ensures { λ r. ⌜ r ≡ editAdds (editOf operation limits (view sk) curve at) ⌝ }
 {
     let e = modify::edit(operation, sk, curve, at);
     if e.refusal != 0 {
-        return e.refusal as u32;
+        return with_place(e.refusal, e.place);
     }
     let after = e.sketch;
     let removed = e.removed;

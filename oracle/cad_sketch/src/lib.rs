@@ -12,6 +12,6 @@ mod tables;
 
 pub use crossings::intersections;
 pub use shape::Shape;
-pub use solve::{first_unmet, solve, solve_with, Analysis, Hold, Solution};
+pub use solve::{first_unmet, solve, solve_with, unmet, Analysis, Hold, Solution};
 pub use storage::{Removed, Sketch};
 pub use tables::{Constraint, ConstraintKind, Curve, CurveKind, Point, SketchError};

@@ -44,7 +44,13 @@ pub fn solve_with(
 
 /// The place of the first constraint in table order that is not met.
 pub fn first_unmet(sketch: &Sketch) -> Option<usize> {
-    sketch.constraints.iter().position(|constraint| !is_met(sketch, &constraint.kind))
+    unmet(sketch).next()
+}
+
+/// The places of the constraints that are not met, in table order.
+pub fn unmet(sketch: &Sketch) -> impl Iterator<Item = usize> + '_ {
+    let is_unmet = |place: &usize| !is_met(sketch, &sketch.constraints[*place].kind);
+    (0..sketch.constraints.len()).filter(is_unmet)
 }
 
 fn is_met(sketch: &Sketch, kind: &ConstraintKind) -> bool {
@@ -161,6 +167,25 @@ mod tests {
         assert!(is_met(0.0, ConstraintKind::Length { l: 0, value: 2.0 }));
         assert!(!is_met(0.0, ConstraintKind::Length { l: 0, value: 2.0 + BEYOND }));
         assert!(!is_met(0.0, ConstraintKind::Length { l: 0, value: 2.0 - BEYOND }));
+    }
+
+    #[test]
+    fn the_first_of_several_unmet_is_named_by_its_place_from_0() {
+        let (met, unmet_kind) = (
+            ConstraintKind::Length { l: 0, value: 2.0 },
+            ConstraintKind::Length { l: 0, value: 3.0 },
+        );
+        let table = |kinds: &[ConstraintKind]| {
+            let constraints = kinds.iter().map(|kind| Constraint { kind: *kind }).collect();
+            Sketch { constraints, ..sketch(0.0, met) }
+        };
+        let several = table(&[met, met, unmet_kind, met, unmet_kind, unmet_kind]);
+        assert_eq!(first_unmet(&several), Some(2));
+        assert_eq!(unmet(&several).collect::<Vec<_>>(), [2, 4, 5]);
+        assert_eq!(first_unmet(&table(&[unmet_kind, met, unmet_kind])), Some(0));
+        assert_eq!(first_unmet(&table(&[met, unmet_kind])), Some(1));
+        assert_eq!(first_unmet(&table(&[met, met])), None);
+        assert_eq!(first_unmet(&table(&[])), None);
     }
 
     #[test]

@@ -1,10 +1,14 @@
-//! Counts of edits: by operation and kind of the target, and by what an extend met.
+//! Counts of edits: by operation and kind of the target, by what an extend met, and by the places that
+//! come with 13 and 19.
 
 use crate::counts::Counts;
 use crate::outcomes;
+use crate::places;
 use oracle::call::{Call, REPORT_SIZE};
 use oracle::drawing::{CurveKind, Drawing, Relation};
 use oracle::image;
+use oracle::message::Operation;
+use oracle::unmet::Unmet;
 
 const KINDS: [&str; 6] = ["none", "line", "arc", "circle", "Bézier", "conic"];
 
@@ -22,6 +26,9 @@ const ROWS: [[&str; 6]; 3] = [
     ],
 ];
 
+/// The rows of the places that come with 13 and with 19.
+const PLACES: [&str; 2] = ["extend 13", "extend 19"];
+
 /// Counts a call by its answer; what an accepted one left stands in the buffer.
 pub fn count(call: &Call, number: u32, out: &[u8], counts: &mut Counts) {
     let outcome = outcomes::name(number as u8);
@@ -29,12 +36,17 @@ pub fn count(call: &Call, number: u32, out: &[u8], counts: &mut Counts) {
         return counts.add("no image or call", outcome);
     };
     let kind = drawing.curve(call.curve).map_or(0, |curve| curve.kind.code());
-    let operation = usize::from(operation.code());
-    counts.add(ROWS[operation - 1][usize::from(kind)], outcome);
-    if operation == 3 && number == 0 {
-        if let Some(after) = image_behind_report(out) {
-            counts.add("extend met", met(&after));
+    counts.add(ROWS[usize::from(operation.code()) - 1][usize::from(kind)], outcome);
+    match (operation, number) {
+        (Operation::Extend, 0) => {
+            if let Some(after) = image_behind_report(out) {
+                counts.add("extend met", met(&after));
+            }
         }
+        (_, 13 | 19) => {
+            places::count(PLACES, Unmet::of_call(call), counts);
+        }
+        _ => {}
     }
 }
 

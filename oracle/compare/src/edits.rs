@@ -221,6 +221,7 @@ fn plainer_floats(mut image: Vec<u8>, differs: impl Fn(&[u8]) -> bool) -> Vec<u8
 #[cfg(test)]
 mod tests {
     use super::*;
+    use crate::place_faults::*;
     use oracle::upstream;
 
     /// The oracle with a fault: a trim reports the ends of what it removed the wrong way round.
@@ -237,6 +238,48 @@ mod tests {
         }
     }
 
+    /// The oracle with a fault in the places that it tells.
+    struct Faulty<F>(PhantomData<F>);
+
+    impl<F: PlaceFault> Implementation for Faulty<F> {
+        fn edit(call: &Call, out: &mut [u8]) -> u32 {
+            let edited = (call.outcome(), image::read(&call.image), call.edit());
+            let (Err(refused), Ok(drawing), Some(edit)) = edited else { return call.make(out) };
+            call::answer(&Err::<(), _>(with_fault::<F>(&drawing, &edit, refused)))
+        }
+    }
+
+    /// How the difference that a fault makes is reported.
+    fn found<F: PlaceFault>() -> String {
+        let compared = subject::run::<Compared<Extends, Faulty<F>>>(2_000, 7);
+        compared.expect_err("a fault was planted")
+    }
+
+    /// How many relations the drawing of a report has.
+    fn relations_in(report: &str) -> usize {
+        let others = ["operation", "next id", "Point {", "Curve {", "image", "oracle", "engine"];
+        let records = report.lines().skip(1).map(str::trim_start);
+        records.filter(|line| !others.iter().any(|other| line.starts_with(other))).count()
+    }
+
+    #[test]
+    fn a_wrong_place_is_found_and_shrunk() {
+        if !upstream::PRESENT {
+            return;
+        }
+        let reports = [
+            (found::<Last>(), 2),
+            (found::<CountedFromOne>(), 1),
+            (found::<WithinPresentTable>(), 1),
+            (found::<OfDrawingBefore>(), 2),
+            (found::<OfMovedEnd>(), 2),
+            (found::<Dropped>(), 2),
+        ];
+        for (report, relations) in reports {
+            assert!(relations_in(&report) <= relations, "{relations} are enough: {report}");
+        }
+    }
+
     #[test]
     fn the_oracle_agrees_with_itself() {
         if !upstream::PRESENT {
@@ -244,6 +287,7 @@ mod tests {
         }
         subject::run::<Compared<TrimsAndSplits, Oracle>>(5_000, 7).expect("one side twice");
         subject::run::<Compared<Extends, Oracle>>(5_000, 7).expect("one side twice");
+        subject::run::<Compared<Extends, Faulty<First>>>(5_000, 7).expect("one side twice");
     }
 
     #[test]

@@ -3,7 +3,7 @@
 //!
 //! `compare [images] [messages] [seed] [figures] [square roots] [polynomials] [relations] [edits] [runs]
 //! [lists]`: how many of each, and where the generator starts. So many edits are trims and splits, as many
-//! again extends and as many sums of both.
+//! again extends and twice as many sums of both.
 
 mod copies;
 mod counts;
@@ -18,6 +18,9 @@ mod messages;
 mod number;
 mod number_pairs;
 mod outcomes;
+#[cfg(test)]
+mod place_faults;
+mod places;
 mod relations;
 mod roots;
 mod runs;
@@ -74,7 +77,7 @@ fn compare_all() -> Result<(), String> {
     subject::run::<roots::Roots>(cases(6, POLYNOMIALS), seed)?;
     let edit_cases = cases(8, EDITS);
     edits::run(edit_cases, seed)?;
-    subject::run::<sums::Sums>(edit_cases, seed)?;
+    subject::run::<sums::Sums<sums::Engine>>(2 * edit_cases, seed)?;
     subject::run::<runs::Runs<runs::Engine>>(cases(9, RUNS), seed)?;
     Ok(())
 }

@@ -1,23 +1,48 @@
-//! One edit several times over, by itself, at a desk and delivered to a wall: the sum of its replies.
+//! One edit several times over, by itself, at a desk and delivered to a wall: the sum of its replies, a
+//! refusal's with the place that comes with 13 and 19.
 
 use crate::counts::Counts;
 use crate::hex::Hex;
 use crate::outcomes;
+use crate::places;
 use crate::shrink;
 use crate::subject::Subject;
 use engine::edits;
 use engine::replication::{self, ACCEPTED};
 use oracle::bytes::put;
-use oracle::call::Call;
+use oracle::call::{self, Call};
 use oracle::edit::Refused;
 use oracle::generate::messages::damage;
 use oracle::generate::{calls, random::Random};
 use oracle::message::{self, Edit};
 use oracle::refusal::Refusal;
 use oracle::replication::{Delivery, Replica};
+use oracle::unmet::Unmet;
 use oracle::{edit, image};
+use std::marker::PhantomData;
 
-pub struct Sums;
+/// What is compared with the oracle.
+pub trait Implementation {
+    fn sum(case: &Case) -> u32;
+}
+
+pub struct Engine;
+
+impl Implementation for Engine {
+    fn sum(case: &Case) -> u32 {
+        let Case { asked, call: Call { operation, image, curve, x, y }, count, times } = case;
+        match asked {
+            Asked::Edit => edits::repeated(*operation, image, *curve, *x, *y, *times),
+            Asked::TypedEdit => edits::typed_repeated(*operation, image, *curve, *x, *y, *times),
+            Asked::Desk => {
+                replication::desk_repeated(image, *count, *operation, *curve, [*x, *y], *times)
+            }
+            Asked::Wall(Hex(bytes)) => replication::deliver_repeated(image, *count, bytes, *times),
+        }
+    }
+}
+
+pub struct Sums<I>(PhantomData<I>);
 
 #[derive(Clone, Debug)]
 enum Asked {
@@ -49,6 +74,24 @@ impl Case {
         }
     }
 
+    /// The rows of the places that come with 13 and with 19.
+    fn place_rows(&self) -> [&'static str; 2] {
+        match self.asked {
+            Asked::Edit => ["edit 13", "edit 19"],
+            Asked::TypedEdit => ["typed edit 13", "typed edit 19"],
+            Asked::Desk => ["desk 13", "desk 19"],
+            Asked::Wall(_) => ["wall 13", "wall 19"],
+        }
+    }
+
+    /// The edit that is asked for, of the message where one is delivered.
+    fn edit(&self) -> Option<Edit> {
+        if let Asked::Wall(bytes) = &self.asked {
+            return message::read(&bytes.0).ok().map(|message| message.edit);
+        }
+        self.call.edit()
+    }
+
     fn outcome(&self, replies: &Replies) -> &'static str {
         match replies {
             Err(refused) | Ok(Err(refused)) => outcomes::name(refused.refusal.number()),
@@ -57,15 +100,18 @@ impl Case {
         }
     }
 
+    /// The relations that are not met where the edit is refused for them.
+    fn unmet(&self) -> Option<Unmet> {
+        Unmet::of(&image::read(&self.call.image).ok()?, &self.edit()?)
+    }
+
     fn replies(&self) -> Replies {
         let drawing = image::read(&self.call.image)?;
         let replica = Replica { drawing, count: self.count };
         if let Asked::Wall(bytes) = &self.asked {
             return Ok(wall_reply(replica, &bytes.0));
         }
-        let operation = self.call.operation().ok_or(Refusal::Operation)?;
-        let Call { curve, x, y, .. } = self.call;
-        let edit = Edit { operation, curve, x, y };
+        let edit = self.edit().ok_or(Refusal::Operation)?;
         Ok(match self.asked {
             Asked::Desk => desk_reply(replica, &edit),
             _ => edit::apply_tested(&replica.drawing, &edit)
@@ -86,8 +132,13 @@ fn wall_reply(mut wall: Replica, bytes: &[u8]) -> Result<u32, Refused> {
     })
 }
 
-fn number(refused: Refused) -> u32 {
-    u32::from(refused.refusal.number())
+/// What replies add up to.
+fn sum(replies: Replies, times: u32) -> u32 {
+    let number = |refused: Refused| call::answer(&Err::<(), _>(refused));
+    match replies {
+        Err(refused) => number(refused),
+        Ok(each) => each.unwrap_or_else(number).wrapping_mul(times),
+    }
 }
 
 /// The edit's message under a number at or near the next one, at times damaged.
@@ -109,7 +160,7 @@ fn message_near(call: &Call, count: u32, random: &mut Random) -> Vec<u8> {
     bytes
 }
 
-impl Subject for Sums {
+impl<I: Implementation> Subject for Sums<I> {
     const NAME: &'static str = "sums of edits, desk and wall";
     type Case = Case;
     type Answer = u32;
@@ -122,7 +173,7 @@ impl Subject for Sums {
         let asked = match random.below(8) {
             0 => Asked::Edit,
             1 => Asked::TypedEdit,
-            2 | 3 => Asked::Desk,
+            2..=4 => Asked::Desk,
             _ => Asked::Wall(Hex(message_near(&call, count, random))),
         };
         Case { asked, call, count, times }
@@ -131,22 +182,14 @@ impl Subject for Sums {
     fn oracle(case: &Case, counts: &mut Counts) -> u32 {
         let replies = case.replies();
         counts.add(case.row(), case.outcome(&replies));
-        match replies {
-            Err(refused) => number(refused),
-            Ok(each) => each.unwrap_or_else(number).wrapping_mul(case.times),
+        if let Ok(Err(Refused { place: Some(_), .. })) = replies {
+            places::count(case.place_rows(), case.unmet(), counts);
         }
+        sum(replies, case.times)
     }
 
     fn engine(case: &Case) -> u32 {
-        let Case { asked, call: Call { operation, image, curve, x, y }, count, times } = case;
-        match asked {
-            Asked::Edit => edits::repeated(*operation, image, *curve, *x, *y, *times),
-            Asked::TypedEdit => edits::typed_repeated(*operation, image, *curve, *x, *y, *times),
-            Asked::Desk => {
-                replication::desk_repeated(image, *count, *operation, *curve, [*x, *y], *times)
-            }
-            Asked::Wall(Hex(bytes)) => replication::deliver_repeated(image, *count, bytes, *times),
-        }
+        I::sum(case)
     }
 
     /// Fewer records.
@@ -156,5 +199,63 @@ impl Subject for Sums {
             Case { call, ..case.clone() }
         };
         with(&shrink::records(&case.call.image, |image| differs(&with(image))))
+    }
+}
+
+#[cfg(test)]
+mod tests {
+    use super::*;
+    use crate::place_faults::*;
+    use crate::subject;
+    use oracle::upstream;
+
+    /// The oracle with a fault in the places that it tells, at the desk and the wall alone.
+    struct Faulty<F>(PhantomData<F>);
+
+    impl<F: PlaceFault> Implementation for Faulty<F> {
+        fn sum(case: &Case) -> u32 {
+            let planted = matches!(case.asked, Asked::Desk | Asked::Wall(_));
+            let replies = match (case.replies(), image::read(&case.call.image), case.edit()) {
+                (Ok(Err(refused)), Ok(drawing), Some(edit)) if planted => {
+                    Ok(Err(with_fault::<F>(&drawing, &edit, refused)))
+                }
+                (replies, ..) => replies,
+            };
+            sum(replies, case.times)
+        }
+    }
+
+    /// Within so many cases, half of which are trims and splits, which know no place.
+    const ENOUGH: usize = 5_000;
+
+    fn found<F: PlaceFault>() -> String {
+        let compared = subject::run::<Sums<Faulty<F>>>(ENOUGH, 7);
+        compared.expect_err("a fault was planted")
+    }
+
+    #[test]
+    fn a_wrong_place_at_desk_or_wall_is_found() {
+        if !upstream::PRESENT {
+            return;
+        }
+        let reports = [
+            found::<Last>(),
+            found::<CountedFromOne>(),
+            found::<WithinPresentTable>(),
+            found::<OfDrawingBefore>(),
+            found::<OfMovedEnd>(),
+            found::<Dropped>(),
+        ];
+        for report in reports {
+            assert!(report.contains("asked: Desk") || report.contains("asked: Wall"), "{report}");
+        }
+    }
+
+    #[test]
+    fn the_oracle_agrees_with_itself() {
+        if !upstream::PRESENT {
+            return;
+        }
+        subject::run::<Sums<Faulty<First>>>(ENOUGH, 7).expect("one side twice");
     }
 }

@@ -75,8 +75,8 @@ pub fn message_copy(message: &[u8], out: &mut [u8]) -> u32 {
     }
 }
 
-/// As `sketch_test`, and looks for a relation that is not met: 0 where all are, its place plus 256
-/// where one is not.
+/// As `sketch_test`, and looks for the first relation that is not met: 0 where all are, its place
+/// plus 256 where one is not.
 #[inline]
 pub fn relations_test(image: &[u8], next: u32, counts: [u32; 3]) -> u32 {
     let [points, curves, relations] = counts;

@@ -1,5 +1,5 @@
 //! Drawings to extend a line in: obstacles at one distance, nearly at one, about the least gap,
-//! behind it, and relations that hold, fail, or fail afterwards.
+//! behind it, and relations that hold, fail, or fail afterwards, at times several at once.
 
 use super::arches::{add_bezier, add_conic, add_loop};
 use super::crowd::crowd;
@@ -8,15 +8,16 @@ use super::obstacles::{add_far_out, add_obstacle};
 use super::random::Random;
 use super::relations::add_relation;
 use super::scene::Scene;
+use super::several_unmet::add_several;
 use crate::drawing::*;
 use crate::message::{Edit, Operation};
 
 /// A line from 0 to its length along a frame; the end there is the one to move.
-struct Extended {
-    frame: Frame,
-    length: f64,
-    moved: Id,
-    kept: Id,
+pub struct Extended {
+    pub frame: Frame,
+    pub length: f64,
+    pub moved: Id,
+    pub kept: Id,
 }
 
 /// A drawing with an extend of a line of it.
@@ -39,6 +40,9 @@ pub fn extension(random: &mut Random) -> (Drawing, Edit) {
     rest.iter().for_each(|gap| extended.add_stop(&mut scene, *gap));
     extended.hold(&mut scene);
     extended.relate(&mut scene, curve, &gaps);
+    if scene.random.one_in(16) {
+        add_several(&mut scene, &extended, curve);
+    }
     let (x, y) = extended.pick(scene.random);
     let (mut drawing, random) = scene.plain();
     if random.one_in(8) {

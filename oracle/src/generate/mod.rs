@@ -26,6 +26,7 @@ pub mod relations;
 pub mod rings;
 pub mod runs;
 pub mod scene;
+pub mod several_unmet;
 pub mod targets;
 
 use crate::image;

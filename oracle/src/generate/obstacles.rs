@@ -7,8 +7,16 @@ use crate::drawing::*;
 /// Adds an obstacle with a definite position.
 pub fn add_obstacle(scene: &mut Scene, frame: &Frame) {
     type Obstacle = fn(&mut Scene, &Frame);
-    const OBSTACLES: [(usize, Obstacle); 7] =
-        [(8, pier), (3, stub), (3, endless), (4, wheel), (3, touching), (4, arc), (1, along)];
+    const OBSTACLES: [(usize, Obstacle); 8] = [
+        (8, pier),
+        (3, stub),
+        (2, overhang),
+        (3, endless),
+        (4, wheel),
+        (3, touching),
+        (4, arc),
+        (1, along),
+    ];
     let obstacle = scene.random.weighted(&OBSTACLES);
     obstacle(scene, frame);
 }
@@ -41,6 +49,25 @@ fn stub(scene: &mut Scene, frame: &Frame) {
     let top = scene.put(frame, slant * up, up);
     let foot = scene.put(frame, slant * gap, gap);
     line(scene, top, foot, false);
+}
+
+/// A line or arc whose end lies past the support by about the 1e-6 up to which an end there is made
+/// coincident with it, by about the 1e-7 up to which that is met, or by a length between them.
+fn overhang(scene: &mut Scene, frame: &Frame) {
+    let between = 1e-7 + scene.random.unit() * 0.9e-6;
+    let (loose, tight) = (scene.random.near(1e-6).abs(), scene.random.near(1e-7).abs());
+    let past = scene.random.pick(&[between, between, loose, tight]);
+    let end = scene.put(frame, 0.0, -past);
+    if scene.random.one_in(3) {
+        let radius = scene.random.pick(&[1.0, 5.0]);
+        let (c, start) =
+            (scene.put(frame, -radius, -past), scene.put(frame, -radius, -past + radius));
+        scene.arc(c, end, start);
+    } else {
+        let up = scene.random.pick(&[1.0, 2.0, 0.3]);
+        let top = scene.put(frame, 0.0, up);
+        line(scene, top, end, false);
+    }
 }
 
 /// An endless line; at times so slanted that it is met far out.

@@ -5,10 +5,11 @@ use crate::drawing::*;
 use crate::edit::Refused;
 use crate::image;
 use crate::refusal::Refusal;
+use crate::unmet::Unmet;
 
-/// Operation, kind of target, outcome, and a detail: the kind of the relation that is not met, the
-/// tables that are nearly full, what an accepted edit did to the size of each table, what it pinned
-/// an end to.
+/// Operation, kind of target, outcome, and a detail: the kind of the first relation that is not met and
+/// whether it is one of several, the tables that are nearly full, what an accepted edit did to the size
+/// of each table, what it pinned an end to.
 pub type Sort = (u32, u8, u8, [usize; 3], u8);
 
 /// Images of most sorts are at most this large.
@@ -30,12 +31,14 @@ pub fn sort(call: &Call) -> (Sort, usize, usize) {
         }
         Err(Refused { refusal, place }) => {
             let unmet = place.map_or(0, |place| relation_code(&before, place));
+            let several = Unmet::of_call(call).is_some_and(|unmet| unmet.is_several());
             let wanted = match refusal.number() {
                 6..=9 => 1,
                 12 | 14..=18 => 8,
                 _ => 3,
             };
-            ((operation, kind, refusal.number(), [0; 3], unmet), wanted, SMALL)
+            let detail = [usize::from(several), 0, 0];
+            ((operation, kind, refusal.number(), detail, unmet), wanted, SMALL)
         }
         Ok((after, _)) => {
             let (was, is) = (sizes(&before), sizes(&after));

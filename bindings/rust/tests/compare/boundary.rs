@@ -8,6 +8,7 @@ use oracle::image;
 use oracle::message::{self, Edit, Message};
 use oracle::refusal::{number_of, Refusal};
 use oracle::steps::{State, Step};
+use oracle::unmet::Unmet;
 
 const COUNT: u32 = 41;
 /// What buffers hold before a call.
@@ -32,6 +33,9 @@ pub fn compare(random: &mut Random, count: usize, seen: &mut Coverage) -> Result
             return Err(format!("{call:?}, {memory:?}\n  oracle {expected:?}\n  engine {found:?}"));
         }
         seen.add(if at_desk { "desk" } else { "wall" }, expected.0 & 0xffff);
+        if let (13 | 19, Some(unmet)) = (expected.0 & 0xffff, Unmet::of_call(&call)) {
+            seen.add_place(&unmet);
+        }
     }
     Ok(())
 }

@@ -3,8 +3,10 @@
 use super::implementations::{Implementation, Outcome};
 use oracle::generate::random::Random;
 use oracle::generate::{calls, messages};
+use oracle::image;
 use oracle::message::{self, Edit, Message, Operation};
 use oracle::steps::State;
+use oracle::unmet::Unmet;
 
 #[derive(Debug)]
 pub enum Asked {
@@ -26,13 +28,22 @@ impl Case {
         }
     }
 
+    /// The edit that is asked for; of a message, if it can be read.
+    fn edit(&self) -> Option<Edit> {
+        match &self.asked {
+            Asked::Edit(edit) => Some(*edit),
+            Asked::Deliver(bytes) => message::read(bytes).ok().map(|read| read.edit),
+        }
+    }
+
+    /// The relations that are not met where the edit is refused for them.
+    pub fn unmet(&self) -> Option<Unmet> {
+        Unmet::of(&image::read(&self.state.image).ok()?, &self.edit()?)
+    }
+
     /// The operation, if there is one.
     pub fn name(&self) -> &'static str {
-        let operation = match &self.asked {
-            Asked::Edit(edit) => Some(edit.operation),
-            Asked::Deliver(bytes) => message::read(bytes).ok().map(|read| read.edit.operation),
-        };
-        match operation {
+        match self.edit().map(|edit| edit.operation) {
             None => "none",
             Some(Operation::Trim) => "trim",
             Some(Operation::Split) => "split",

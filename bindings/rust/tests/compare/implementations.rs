@@ -130,21 +130,41 @@ impl Implementation for Engine {
 }
 
 /// The crate with a fault: it reports a removed piece's ends the wrong way round.
-pub struct Planted;
+pub struct SwappedEnds;
 
-impl Planted {
+impl SwappedEnds {
     fn swapped(mut outcome: Outcome) -> Outcome {
         outcome.report.swap(1, 2);
         outcome
     }
 }
 
-impl Implementation for Planted {
+impl Implementation for SwappedEnds {
     fn edit(state: &State, edit: &Edit) -> Outcome {
-        Planted::swapped(Engine::edit(state, edit))
+        SwappedEnds::swapped(Engine::edit(state, edit))
     }
 
     fn deliver(state: &State, message: &[u8]) -> Outcome {
-        Planted::swapped(Engine::deliver(state, message))
+        SwappedEnds::swapped(Engine::deliver(state, message))
+    }
+}
+
+/// The crate with a fault: it tells no place with a refusal.
+pub struct WithoutPlace;
+
+impl WithoutPlace {
+    fn dropped(mut outcome: Outcome) -> Outcome {
+        outcome.answer &= 0xffff;
+        outcome
+    }
+}
+
+impl Implementation for WithoutPlace {
+    fn edit(state: &State, edit: &Edit) -> Outcome {
+        WithoutPlace::dropped(Engine::edit(state, edit))
+    }
+
+    fn deliver(state: &State, message: &[u8]) -> Outcome {
+        WithoutPlace::dropped(Engine::deliver(state, message))
     }
 }

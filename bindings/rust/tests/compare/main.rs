@@ -17,7 +17,7 @@ mod runs;
 mod searches;
 
 use coverage::Coverage;
-use implementations::{Engine, Implementation, Oracle, Planted};
+use implementations::{Engine, Implementation, Oracle, SwappedEnds, WithoutPlace};
 use oracle::generate::random::Random;
 use oracle::upstream;
 use std::process::ExitCode;
@@ -44,7 +44,7 @@ fn main() -> ExitCode {
 fn run(cases: usize, seed: u64) -> Result<(), String> {
     if upstream::PRESENT {
         compare(cases, seed)?;
-        planted_fault_is_seen()?;
+        planted_faults_are_seen()?;
     } else {
         println!("no upstream source: the comparison of desk and wall is skipped");
     }
@@ -96,18 +96,27 @@ fn steps<I: Implementation>(
             return Err(format!("{case:?}\n  oracle {expected:?}\n  engine {found:?}"));
         }
         seen.add(case.name(), expected.number());
+        if let (13 | 19, Some(unmet)) = (expected.number(), case.unmet()) {
+            seen.add_place(&unmet);
+        }
     }
     Ok(())
 }
 
 /// The comparison must be able to fail.
-fn planted_fault_is_seen() -> Result<(), String> {
+fn planted_faults_are_seen() -> Result<(), String> {
+    planted_fault_is_seen::<SwappedEnds>("ends swapped")?;
+    planted_fault_is_seen::<WithoutPlace>("no place")?;
+    println!("planted faults: seen at desk and wall");
+    Ok(())
+}
+
+fn planted_fault_is_seen<I: Implementation>(name: &str) -> Result<(), String> {
     let seen = &mut Coverage::default();
     for case in [cases::desk, cases::wall] {
-        if steps::<Planted>(&mut Random::new(3), 4_000, case, seen).is_ok() {
-            return Err("a planted fault was not seen".into());
+        if steps::<I>(&mut Random::new(3), 4_000, case, seen).is_ok() {
+            return Err(format!("a planted fault was not seen: {name}"));
         }
     }
-    println!("planted fault: seen at desk and wall");
     Ok(())
 }
