@@ -2,23 +2,33 @@
 -- never above the limit of relations (`place-within`). Assumes nothing.
 use mathlib.Core.Path.{_≡_, refl, sym, ap, _∙_, subst}
 use mathlib.Core.Bool.{Bool, true, false}
-use Prim.Native.Nat.{ℕ, _≤_, _<_}
+use mathlib.Core.List.{List}
+use Prim.Native.Nat.{ℕ, zero, suc, _≤_, _<_}
 use native.Mathlib.Omega.{arith}
+use lib.ListN.{length}
 use lib.Dec.{eqb}
+use borrow.Author.Tests.{ne-eqb}
+use Rattle.big_endian.specs.Laws.{Bytes}
 use Rattle.geom.specs.declared.Vec2.{Vec2}
 use Rattle.sketch.specs.Lists.{ite}
 use Rattle.sketch.specs.Drawing.{Drawing, limits}
 use Rattle.sketch.specs.Facts.{Valid}
+use Rattle.image.specs.Image as I
 use Rattle.message.specs.declared.Operation.{Operation}
 use Rattle.message.specs.declared.Operation.the-variants.{Trim, Split, Extend}
 use Rattle.relations.specs.Met.{met, allMet, unmetAt, firstUnmet}
 use Rattle.relations.proofs.Failing.{first-within, first-unmet-fails, first-unmet-first}
 use Rattle.edit_plan.specs.declared.Removed.{Removed}
-use Rattle.edit_plan.specs.Outcome.{Outcome, refused, accepted}
+use Rattle.edit_plan.specs.Outcome.{Outcome, refused, accepted, guard}
 use Rattle.edit_plan.specs.Steps.{nothing}
+use Rattle.extend.specs.declared.EditedImage.{EditedImage}
 use Rattle.extend.specs.ExtendAnswer.{firstUnmetAfter, reportedPlace}
+use Rattle.extend.specs.ImageExtend.{ifFits, numberIn}
 use Rattle.extend.proofs.Places as P
+use Rattle.extend.proofs.ImageMoves.{image-valid}
 use Rattle.modify.specs.Edits.{editOf, editUntested, editPlace}
+use Rattle.modify.specs.ImageEdits.{EditWritten}
+use Rattle.modify.proofs.ImageFaults.{image-fault-low}
 use Rattle.modify.proofs.Planned.{edit-valid}
 use Rattle.modify.proofs.Numbered.{cut-number, extend-refused}
 
@@ -67,3 +77,16 @@ module _ (op : Operation) (d : Drawing) (t : ℕ) (p : Vec2) where
       go true b = within d v
       go false true = left (editUntested op limits d t p) refl
       go false false = omega arith
+
+-- of an edit of any bytes: the refusal of an image that is none comes with no place
+pub image-place-within :
+    (op : Operation) (s : List ℕ) (t : ℕ) (p : Vec2) {before after : List ℕ} {r : EditedImage} → EditWritten op s t p before after r → Bytes s → r .place ≤ limits .relations
+unfolding guard
+image-place-within op s t p {before} {after} {r} w b = go (I.imageFault s) refl (image-fault-low s) (w .written .refusal)
+  where
+    go : (k : ℕ) → I.imageFault s ≡ k → k ≤ 5 → r .refusal ≡ numberIn (ifFits (length before) (guard (eqb k 0) k (editOf op limits (I.drawingOf s) t p))) → r .place ≤ limits .relations
+    go zero e low is = omega (arith, w .place, place-within op (I.drawingOf s) t p (image-valid s e b) (r .refusal))
+    go (suc k) e low is =
+        let number : r .refusal ≡ suc k = is ∙ rw (ne-eqb (suc k) 0 (λ z. omega arith)) in
+        let none = P.place-none (I.drawingOf s) (editUntested op limits (I.drawingOf s) t p) (P.placeless-below {n = r .refusal} (omega (arith, number))) in
+        omega (arith, w .place, none)

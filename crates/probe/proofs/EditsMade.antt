@@ -1,5 +1,5 @@
 -- An edit of an image: one law for each way out.
-use mathlib.Core.Path.{_≡_, refl, sym, ap, _∙_, subst}
+use mathlib.Core.Path.{_≡_, refl, sym, ap, ap₂, _∙_, subst}
 use mathlib.Core.Bool.{Bool, true, false}
 use mathlib.Core.Logic.{_⊎_, inl, inr}
 use mathlib.Core.List.{List}
@@ -17,19 +17,26 @@ use Rattle.image.specs.Image.{imageFault, drawingOf}
 use Rattle.image.specs.Encode.{drawingSize}
 use Rattle.message.specs.Message.{operationOf, isOperation}
 use Rattle.message.specs.declared.Operation.{Operation}
-use Rattle.message.specs.declared.Operation.the-variants.{Extend}
-use Rattle.relations.specs.Met.{unmetAt}
+use Rattle.edit_plan.specs.declared.Removed.{Removed}
 use Rattle.edit_plan.specs.declared.Edited.{Edited}
-use Rattle.edit_plan.specs.Outcome.{refused, accepted, guard}
+use Rattle.edit_plan.specs.Outcome.{Outcome, refused, accepted, guard}
 use Rattle.edit_plan.specs.Suited.{outcomeOf}
-use Rattle.modify.specs.Edits.{editOf, editUntested, EditAnswer}
-use Rattle.probe.specs.Edits.{imageEditBy, numberOf, leftIn, Wrote, EditMade, editAdds, repeated}
-use Rattle.modify.proofs.Untested.{untested-valid}
-use Rattle.probe.proofs.Places.{place-low}
+use Rattle.extend.proofs.Places.{Placeless, placeless-below, placeless-above, place-none}
+use Rattle.modify.specs.Edits.{editOf, editPlace, EditAnswer}
+use Rattle.modify.proofs.ImageFaults.{image-fault-low}
+use Rattle.modify.proofs.Places.{place-within}
+use Rattle.probe.specs.Edits.{imageEditBy, numberOf, leftIn, Wrote, EditMade, outcomeAdds, editAdds, repeated}
 
 -- a place below 65536 fits above the number
 pub place-is : (p : ℕ) → p < 65536 → p % 65536 ≡ p
 place-is p l = omega arith
+
+-- so does that of a typed edit
+place-whole :
+    (op : Operation) (sk : Sketch) (t : ℕ) (p : Vec2) → sketchFault sk ≡ 0 → (r : Edited) → EditAnswer op sk t p r → r .place % 65536 ≡ editPlace op (view sk) t p (r .refusal)
+place-whole op sk t p f r a =
+    let h = place-within op (view sk) t p (sketch-valid sk f .1) (r .refusal) in
+    place-is (r .place) (omega (arith, a .place)) ∙ a .place
 
 -- ---- no edit
 
@@ -42,9 +49,7 @@ module _ (op : ℕ) (s : List ℕ) (t : ℕ) (p : Vec2) (before : List ℕ) wher
       record {
         number = rw f (m ∙ e);
         buffer = rw f;
-        no-place = λ x y. omega arith;
-        unmet-before = λ i o k. absurd (n (e ∙ i));
-        unmet-after = λ i o k d′ removed q. absurd (n (e ∙ i));
+        place = let h = image-fault-low s in let above : r / 65536 ≡ 0 = omega arith in above ∙ place-none (drawingOf s) _ (placeless-below (omega (arith, h)));
       }
 
   module _ (i : imageFault s ≡ 0) where
@@ -55,9 +60,7 @@ module _ (op : ℕ) (s : List ℕ) (t : ℕ) (p : Vec2) (before : List ℕ) wher
         record {
           number = rw (f, o);
           buffer = rw (f, o);
-          no-place = λ x y. refl;
-          unmet-before = λ j o k. absurd (omega arith);
-          unmet-after = λ j o k d′ removed q. absurd (omega arith);
+          place = place-none (drawingOf s) _ (placeless-below (omega arith));
         }
 
     -- ---- an edit
@@ -70,10 +73,6 @@ module _ (op : ℕ) (s : List ℕ) (t : ℕ) (p : Vec2) (before : List ℕ) wher
           let h : outcomeOf r ≡ editOf (operationOf op) limits (view sk) t p = a .outcome ∙ rw (eq-eqb (sketchFault sk) 0 f) in
           rw (g, o) (sym (h ∙ ap (λ d. editOf (operationOf op) limits d t p) v))
 
-      extends : op ≡ 3 → operationOf op ≡ Extend
-      unfolding operationOf
-      extends e = ap operationOf e
-
       pub edit-refused : (n : ℕ) → r .refusal < 256 → (r .refusal ≡ 0 → ⊥) → n ≡ r .refusal + r .place % 65536 * 65536 → EditMade op s t p before before n
       unfolding numberOf leftIn
       edit-refused n low z is =
@@ -81,22 +80,10 @@ module _ (op : ℕ) (s : List ℕ) (t : ℕ) (p : Vec2) (before : List ℕ) wher
           let number-is : n % 65536 ≡ k = omega arith in
           let place-above : n / 65536 ≡ r .place % 65536 = omega arith in
           let q : imageEditBy op s t p ≡ refused k = outcome-is ∙ rw (ne-eqb k 0 z) in
-          let u = sketch-valid sk f .1 in
           record {
             number = rw q number-is;
             buffer = rw q;
-            no-place = λ x y. let h = a .no-place (λ h. x (number-is ∙ h)) (λ h. y (number-is ∙ h)) in omega arith;
-            unmet-before = λ j e h.
-                let m = a .unmet-before (extends e) (sym number-is ∙ h) in
-                let l = place-low (view sk) (r .place) u m in
-                subst (λ d. unmetAt d (n / 65536) ≡ true) v (subst (λ (j : ℕ). unmetAt (view sk) j ≡ true) (sym (place-above ∙ place-is (r .place) (omega arith))) m);
-            unmet-after = λ j e h d′ removed g.
-                let g1 : editUntested Extend limits (view sk) t p ≡ accepted d′ removed = ap (λ d. editUntested Extend limits d t p) v ∙ g in
-                let g2 : editUntested (operationOf op) limits (view sk) t p ≡ accepted d′ removed = ap (λ o. editUntested o limits (view sk) t p) (extends e) ∙ g1 in
-                let m = a .unmet-after (extends e) (sym number-is ∙ h) d′ removed g2 in
-                let u2 = untested-valid (view sk) t p d′ removed u g1 in
-                let l = place-low d′ (r .place) u2 m in
-                subst (λ (j : ℕ). unmetAt d′ j ≡ true) (sym (place-above ∙ place-is (r .place) (omega arith))) m;
+            place = place-above ∙ place-whole (operationOf op) sk t p f r a ∙ ap₂ (λ (d : Drawing) (j : ℕ). editPlace (operationOf op) d t p j) v (sym number-is);
           }
 
       pub edit-written : r .refusal ≡ 0 → (later : List ℕ) (n : ℕ) → Wrote (accepted (view (r .sketch)) (r .removed)) before later n → EditMade op s t p before later n
@@ -107,9 +94,7 @@ module _ (op : ℕ) (s : List ℕ) (t : ℕ) (p : Vec2) (before : List ℕ) wher
           record {
             number = rw q (low c ∙ w .number);
             buffer = rw q (w .buffer);
-            no-place = λ x y. above c;
-            unmet-before = λ j e h. absurd (not-13 c h);
-            unmet-after = λ j e h d′ removed g. absurd (not-19 c h);
+            place = above c ∙ place-none (drawingOf s) _ (placeless c);
           }
         where
           number-of : (b : Bool) → n ≡ numberOf (guard b 25 (accepted (view (r .sketch)) (r .removed))) → (n ≡ 0) ⊎ (n ≡ 25)
@@ -124,13 +109,9 @@ module _ (op : ℕ) (s : List ℕ) (t : ℕ) (p : Vec2) (before : List ℕ) wher
           above (inl e) = omega arith
           above (inr e) = omega arith
 
-          not-13 : (n ≡ 0) ⊎ (n ≡ 25) → n % 65536 ≡ 13 → ⊥
-          not-13 (inl e) h = omega arith
-          not-13 (inr e) h = omega arith
-
-          not-19 : (n ≡ 0) ⊎ (n ≡ 25) → n % 65536 ≡ 19 → ⊥
-          not-19 (inl e) h = omega arith
-          not-19 (inr e) h = omega arith
+          placeless : (n ≡ 0) ⊎ (n ≡ 25) → Placeless (n % 65536)
+          placeless (inl e) = placeless-below (omega arith)
+          placeless (inr e) = placeless-above (omega arith)
 
 -- an operation by another name
 pub named : {o o′ : Operation} {sk : Sketch} {t : ℕ} {p : Vec2} {r : Edited} → o ≡ o′ → EditAnswer o sk t p r → EditAnswer o′ sk t p r
@@ -143,17 +124,22 @@ module _ (op : Operation) (sk : Sketch) (t : ℕ) (p : Vec2) (f : sketchFault sk
   unfolding guard
   made = a .outcome ∙ rw (eq-eqb (sketchFault sk) 0 f)
 
-  pub adds-number : (r .refusal ≡ 0 → ⊥) → r .refusal ≡ editAdds (editOf op limits (view sk) t p)
-  unfolding editAdds
-  adds-number z = let q : outcomeOf r ≡ refused (r .refusal) = rw (ne-eqb (r .refusal) 0 z) in sym (ap editAdds (sym made ∙ q))
+  abbrev adds : Outcome Drawing Removed → ℕ
+  adds o = outcomeAdds (editPlace op (view sk) t p) o
 
-  pub adds-sum : r .refusal ≡ 0 → {n : ℕ} → n ≡ (r .sketch .next + r .removed .curve) % 2 ^ 32 → n ≡ editAdds (editOf op limits (view sk) t p)
-  unfolding editAdds
-  adds-sum z e = let q : outcomeOf r ≡ accepted (view (r .sketch)) (r .removed) = rw (eq-eqb (r .refusal) 0 z) in e ∙ sym (ap editAdds (sym made ∙ q))
+  pub adds-number : (r .refusal ≡ 0 → ⊥) → {k : ℕ} → k ≡ r .refusal + r .place % 65536 * 65536 → k ≡ editAdds op (view sk) t p
+  unfolding outcomeAdds
+  adds-number z is =
+      let q : outcomeOf r ≡ refused (r .refusal) = rw (ne-eqb (r .refusal) 0 z) in
+      is ∙ ap (λ (j : ℕ). r .refusal + j * 65536) (place-whole op sk t p f r a) ∙ sym (ap adds (sym made ∙ q))
+
+  pub adds-sum : r .refusal ≡ 0 → {n : ℕ} → n ≡ (r .sketch .next + r .removed .curve) % 2 ^ 32 → n ≡ editAdds op (view sk) t p
+  unfolding outcomeAdds
+  adds-sum z e = let q : outcomeOf r ≡ accepted (view (r .sketch)) (r .removed) = rw (eq-eqb (r .refusal) 0 z) in e ∙ sym (ap adds (sym made ∙ q))
 
 -- so many edits of an image's drawing are so many of the drawing that its bytes give
 pub adds-read :
     (op : ℕ) (s : List ℕ) (t : ℕ) (p : Vec2) (times : ℕ) {d : Drawing} {o : Operation} {n : ℕ} → d ≡ drawingOf s → o ≡ operationOf op
-    → n ≡ repeated times (editAdds (editOf o limits d t p)) → n ≡ repeated times (editAdds (editOf (operationOf op) limits (drawingOf s) t p))
+    → n ≡ repeated times (editAdds o d t p) → n ≡ repeated times (editAdds (operationOf op) (drawingOf s) t p)
 adds-read op s t p times {d} {o} v e q =
-    q ∙ ap (λ x. repeated times (editAdds (editOf x limits d t p))) e ∙ ap (λ x. repeated times (editAdds (editOf (operationOf op) limits x t p))) v
+    q ∙ ap (λ x. repeated times (editAdds x d t p)) e ∙ ap (λ x. repeated times (editAdds (operationOf op) x t p)) v

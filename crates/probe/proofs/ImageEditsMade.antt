@@ -1,5 +1,5 @@
 -- An edit from image to image: one law for each way out, and what it adds to a sum.
-use mathlib.Core.Path.{_≡_, refl, sym, ap, _∙_, subst}
+use mathlib.Core.Path.{_≡_, refl, sym, ap, ap₂, _∙_}
 use mathlib.Core.Bool.{true}
 use mathlib.Core.List.{List, _++_}
 use Prim.Native.Nat.{ℕ, zero, suc, _+_, _-_, _*_, _/_, _%_, _^_, _≤_, _<_}
@@ -14,23 +14,21 @@ use Rattle.image.specs.Image.{imageFault, drawingOf, nextAt, maxImageSize}
 use Rattle.image.specs.Encode.{encode}
 use Rattle.message.specs.Message.{operationOf, isOperation}
 use Rattle.message.specs.declared.Operation.{Operation}
-use Rattle.message.specs.declared.Operation.the-variants.{Extend}
-use Rattle.relations.specs.Met.{unmetAt}
 use Rattle.edit_plan.specs.declared.Removed.{Removed}
 use Rattle.edit_plan.specs.Outcome.{Outcome, refused, accepted, guard}
 use Rattle.extend.specs.declared.EditedImage.{EditedImage}
 use Rattle.extend.specs.ImageExtend.{OutcomeWritten}
+use Rattle.extend.proofs.Places.{placeless-below, place-none}
 use Rattle.extend.proofs.ImageMoves.{image-valid}
-use Rattle.modify.specs.Edits.{editOf, editUntested}
+use Rattle.modify.specs.Edits.{editOf, editPlace}
 use Rattle.modify.specs.ImageEdits as M
 use Rattle.modify.specs.ImageEdits.{EditWritten}
 use Rattle.modify.proofs.ImageFaults.{image-fault-low}
 use Rattle.modify.proofs.WholeOutcomes.{good-edit, whole-outcome}
-use Rattle.modify.proofs.Untested.{untested-valid}
-use Rattle.probe.specs.Edits.{imageEditBy, numberOf, leftIn, fitting, Wrote, EditMade, editAdds}
+use Rattle.modify.proofs.Places.{image-place-within}
+use Rattle.probe.specs.Edits.{imageEditBy, numberOf, leftIn, fitting, Wrote, EditMade, withPlace, outcomeAdds, editAdds}
 use Rattle.probe.specs.EditContracts.{ReportEnd, ReportPut}
 use Rattle.probe.proofs.EditsMade.{place-is}
-use Rattle.probe.proofs.Places.{place-low}
 use Rattle.probe.proofs.ReportedImages.{nothing-written, image-and-report}
 
 pub fault-low : (s : List ℕ) {r : ℕ} → r ≡ imageFault s → r < 256
@@ -44,10 +42,6 @@ module _ (op : ℕ) (s : List ℕ) (t : ℕ) (p : Vec2) (xs : List ℕ) (o : isO
     outcome-is : M.editImage op′ s t p ≡ imageEditBy op s t p
     unfolding guard
     outcome-is = ap (λ (x : Operation). M.editImage x s t p) named ∙ rw o
-
-    extends : op ≡ 3 → op′ ≡ Extend
-    unfolding operationOf
-    extends e = named ∙ ap operationOf e
 
     made-number : {later : List ℕ} {n : ℕ} → Wrote (M.editImage op′ s t p) xs later n → n ≡ numberOf (fitting (length xs) (imageEditBy op s t p))
     made-number {n = n} w = w .number ∙ ap (λ (x : Outcome Drawing Removed). numberOf (fitting (length xs) x)) outcome-is
@@ -63,16 +57,7 @@ module _ (op : ℕ) (s : List ℕ) (t : ℕ) (p : Vec2) (xs : List ℕ) (o : isO
         record {
           number = number-is ∙ made-number w;
           buffer = made-buffer w;
-          no-place = λ x y. let h = a .no-place (λ h. x (number-is ∙ h)) (λ h. y (number-is ∙ h)) in omega arith;
-          unmet-before = λ i e h.
-              let m = a .unmet-before (extends e) (sym number-is ∙ h) in
-              let l = place-low (drawingOf s) (r .place) (image-valid s i b) m in
-              subst (λ (j : ℕ). unmetAt (drawingOf s) j ≡ true) (sym (place-above ∙ place-is (r .place) (omega arith))) m;
-          unmet-after = λ i e h d′ removed g.
-              let g2 : editUntested op′ limits (drawingOf s) t p ≡ accepted d′ removed = ap (λ (x : Operation). editUntested x limits (drawingOf s) t p) (extends e) ∙ g in
-              let m = a .unmet-after (extends e) (sym number-is ∙ h) d′ removed g2 in
-              let l = place-low d′ (r .place) (untested-valid (drawingOf s) t p d′ removed (image-valid s i b) g) m in
-              subst (λ (j : ℕ). unmetAt d′ j ≡ true) (sym (place-above ∙ place-is (r .place) (omega arith))) m;
+          place = place-above ∙ place-is (r .place) (omega (arith, image-place-within op′ s t p a b)) ∙ a .place ∙ ap₂ (λ (x : Operation) (k : ℕ). editPlace x (drawingOf s) t p k) named (sym number-is);
         }
 
     pub edit-written : (r .size ≡ 0 → ⊥) → {k : List ℕ} → ReportPut (r .removed) (take start xs ++ (ys ++ drop (length xs - start) (drop start xs))) k → EditMade op s t p xs k 0
@@ -81,9 +66,7 @@ module _ (op : ℕ) (s : List ℕ) (t : ℕ) (p : Vec2) (xs : List ℕ) (o : isO
         record {
           number = made-number w;
           buffer = made-buffer w;
-          no-place = λ x y. refl;
-          unmet-before = λ i e h. absurd (omega arith);
-          unmet-after = λ i e h d′ removed g. absurd (omega arith);
+          place = place-none (drawingOf s) _ (placeless-below (omega arith));
         }
 
 -- ---- what an edit adds to a sum
@@ -115,19 +98,22 @@ module _ (op : Operation) (s : List ℕ) (t : ℕ) (p : Vec2) {before after : Li
     written : OutcomeWritten outcome before after r
     written = whole-outcome op s t p a i (image-valid s i b) room
 
-  pub adds-number : r .size ≡ 0 → imageFault s ≡ 0 → maxImageSize ≤ length before → r .refusal ≡ editAdds outcome
-  unfolding editAdds
-  adds-number z i room = go outcome refl (written i room)
+  pub adds-number : r .size ≡ 0 → {k : ℕ} → k ≡ r .refusal + r .place % 65536 * 65536 → imageFault s ≡ 0 → maxImageSize ≤ length before → k ≡ editAdds op (drawingOf s) t p
+  unfolding outcomeAdds
+  adds-number z {k} is i room = go outcome refl (written i room)
     where
-      go : (o : Outcome Drawing Removed) → outcome ≡ o → OutcomeWritten o before after r → r .refusal ≡ editAdds o
-      go (refused n) e w = w .refusal
+      placed : r .place % 65536 ≡ editPlace op (drawingOf s) t p (r .refusal)
+      placed = place-is (r .place) (omega (arith, image-place-within op s t p a b)) ∙ a .place
+
+      go : (o : Outcome Drawing Removed) → outcome ≡ o → OutcomeWritten o before after r → k ≡ outcomeAdds (editPlace op (drawingOf s) t p) o
+      go (refused n) e w = is ∙ ap (λ (j : ℕ). r .refusal + j * 65536) placed ∙ ap (λ (j : ℕ). withPlace j (editPlace op (drawingOf s) t p j)) (w .refusal)
       go (accepted d gone) e w = absurd (omega (arith, w .size, a .sound d gone (made i room ∙ e) .0))
 
-  pub adds-sum : (r .size ≡ 0 → ⊥) → {next n : ℕ} → next ≡ nextAt after → n ≡ (next + r .removed .curve) % 2 ^ 32 → imageFault s ≡ 0 → maxImageSize ≤ length before → n ≡ editAdds outcome
-  unfolding editAdds over
+  pub adds-sum : (r .size ≡ 0 → ⊥) → {next n : ℕ} → next ≡ nextAt after → n ≡ (next + r .removed .curve) % 2 ^ 32 → imageFault s ≡ 0 → maxImageSize ≤ length before → n ≡ editAdds op (drawingOf s) t p
+  unfolding outcomeAdds over
   adds-sum z {next} {n} f g i room = go outcome refl (written i room)
     where
-      go : (o : Outcome Drawing Removed) → outcome ≡ o → OutcomeWritten o before after r → n ≡ editAdds o
+      go : (o : Outcome Drawing Removed) → outcome ≡ o → OutcomeWritten o before after r → n ≡ outcomeAdds (editPlace op (drawingOf s) t p) o
       go (refused m) e w = absurd (z (w .size))
       go (accepted d gone) e w =
           let (l, q2) = a .sound d gone (made i room ∙ e) in

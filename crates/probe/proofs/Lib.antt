@@ -3,7 +3,6 @@ pub mod Crossed
 pub mod EditsMade
 pub mod EditsWritten
 pub mod ImageEditsMade
-pub mod Places
 pub mod ReplicaSums
 pub mod ReportedImages
 pub mod Sums

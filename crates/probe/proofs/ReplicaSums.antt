@@ -1,7 +1,7 @@
 -- What a desk's edit and a delivery add to a sum: one law for each reply.
 use mathlib.Core.Path.{_≡_, refl, sym, ap, _∙_, subst}
 use mathlib.Core.List.{List}
-use Prim.Native.Nat.{ℕ, _+_, _%_, _^_, _≤_}
+use Prim.Native.Nat.{ℕ, _+_, _*_, _%_, _^_, _≤_}
 use native.Mathlib.Omega.{arith}
 use lib.ListN.{length, take}
 use lib.Seq.{take-all, take-at}
@@ -9,6 +9,7 @@ use lib.Ieee.{Float}
 use Rattle.big_endian.specs.Fields.{over, overIfFits}
 use Rattle.big_endian.specs.Laws.{Bytes, over-fits, length-over}
 use Rattle.sketch.specs.Drawing.{Drawing, limits}
+use Rattle.sketch.specs.Facts.{Valid}
 use Rattle.sketch.proofs.Facts.{fault-valid}
 use Rattle.image.specs.Image as I
 use Rattle.image.specs.Image.{drawingOf, imageFault, maxImageSize, parse}
@@ -27,51 +28,64 @@ use Rattle.replication.specs.declared.WallReply.the-variants as Wall
 use Rattle.replication.specs.Protocol.{Edit, protocol}
 use Rattle.replication.specs.Transitions.{Memory, memory, DeskCall, deskReply, deskStep, DeskEdits, WallCall, wallReply, wallStep, WallDelivers}
 use Rattle.replication.specs.Program.{programOutcome, WritesOutcome}
+use Rattle.replication.proofs.OutcomePlaces.{within, wallPlace, reply-within}
 use Rattle.replication.proofs.StartCases.{good-size}
 use Rattle.replication.proofs.Steps.{Holding, ready-by, desk-step, wall-step}
-use Rattle.probe.specs.Edits.{repeated}
+use Rattle.probe.specs.Edits.{withPlace, repeated}
 use Rattle.probe.specs.Replicas.{imageState, deskTally, deskAdds, wallTally, wallAdds}
 
-module _ (e : Edit) (m : List ℕ) (reply : DeskReply) where
-  pub desk-refused : (o : Outcome (State Drawing) Removed) (n place : ℕ) → reply ≡ Desk.Refused n place → deskReply reply m ≡ M.replyTo protocol e o → n ≡ deskTally o
+-- a place within the limit stands whole above the number
+with-place : (n place j p q : ℕ) → n ≡ j → place ≡ p → p ≤ limits .relations → q ≡ n + place % 65536 * 65536 → q ≡ withPlace j p
+with-place n place j p q e f h is = omega arith
+
+module _ (d : Drawing) (v : Valid limits d) (e : Edit) (m : List ℕ) (reply : DeskReply) where
+  pub desk-refused :
+      (o : Outcome (State Drawing) Removed) (n place : ℕ) → reply ≡ Desk.Refused n place → deskReply reply m ≡ M.replyTo protocol d e o → {k : ℕ} → k ≡ n + place % 65536 * 65536
+      → k ≡ deskTally (protocol .place d e) o
   unfolding deskTally
-  desk-refused (refused k) n place q h =
-      let w : _≡_ {A = M.DeskReply Removed} (M.deskRefused n) (M.deskRefused k) = ap (λ x. deskReply x m) (sym q) ∙ h in
-      cc
-  desk-refused (accepted t r) n place q h =
-      let w : _≡_ {A = M.DeskReply Removed} (M.deskRefused n) (M.replyTo protocol e (accepted t r)) = ap (λ x. deskReply x m) (sym q) ∙ h in
+  desk-refused (refused j) n place q h is =
+      let w : _≡_ {A = M.DeskReply Removed} (M.deskRefused n place) (M.deskRefused j (protocol .place d e j)) = ap (λ x. deskReply x m) (sym q) ∙ h in
+      let number : n ≡ j = cc in
+      let placed : place ≡ protocol .place d e j = cc in
+      with-place n place j (protocol .place d e j) _ number placed (within d v e j) is
+  desk-refused (accepted t r) n place q h is =
+      let w : _≡_ {A = M.DeskReply Removed} (M.deskRefused n place) (M.replyTo protocol d e (accepted t r)) = ap (λ x. deskReply x m) (sym q) ∙ h in
       let z : _≡_ {A = ℕ} 0 1 = cc in
       absurd (omega arith)
 
   pub desk-done :
-      (o : Outcome (State Drawing) Removed) (was now : State Drawing) (gone : Removed) → reply ≡ Desk.Accepted gone → deskReply reply m ≡ M.replyTo protocol e o → now ≡ stateAfter was o
-      → {k : ℕ} → k ≡ (now .count + 256) % 2 ^ 32 → k ≡ deskTally o
+      (o : Outcome (State Drawing) Removed) (was now : State Drawing) (gone : Removed) → reply ≡ Desk.Accepted gone → deskReply reply m ≡ M.replyTo protocol d e o → now ≡ stateAfter was o
+      → {k : ℕ} → k ≡ (now .count + 256) % 2 ^ 32 → k ≡ deskTally (protocol .place d e) o
   unfolding deskTally
   desk-done (refused k) was now gone q h g f =
-      let w : _≡_ {A = M.DeskReply Removed} (M.deskAccepted gone m) (M.deskRefused k) = ap (λ x. deskReply x m) (sym q) ∙ h in
+      let w : _≡_ {A = M.DeskReply Removed} (M.deskAccepted gone m) (M.deskRefused k (protocol .place d e k)) = ap (λ x. deskReply x m) (sym q) ∙ h in
       let z : _≡_ {A = ℕ} 0 1 = cc in
       absurd (omega arith)
   desk-done (accepted t r) was now gone q h g f = f ∙ ap (λ (x : State Drawing). (x .count + 256) % 2 ^ 32) g
 
 module _ (reply : WallReply) where
-  pub wall-refused : (o : State Drawing × M.WallReply Removed) (n place : ℕ) → reply ≡ Wall.Refused n place → wallReply reply ≡ o .1 → n ≡ wallTally o
+  pub wall-refused :
+      (o : State Drawing × M.WallReply Removed) → wallPlace (o .1) ≤ limits .relations → (n place : ℕ) → reply ≡ Wall.Refused n place → wallReply reply ≡ o .1 → {k : ℕ} → k ≡ n + place % 65536 * 65536
+      → k ≡ wallTally o
   unfolding wallTally
-  wall-refused (s, M.wallRefused k) n place q h =
-      let w : _≡_ {A = M.WallReply Removed} (M.wallRefused n) (M.wallRefused k) = ap wallReply (sym q) ∙ h in
-      cc
-  wall-refused (s, M.wallOld) n place q h =
-      let w : _≡_ {A = M.WallReply Removed} (M.wallRefused n) M.wallOld = ap wallReply (sym q) ∙ h in
+  wall-refused (s, M.wallRefused j p) low n place q h is =
+      let w : _≡_ {A = M.WallReply Removed} (M.wallRefused n place) (M.wallRefused j p) = ap wallReply (sym q) ∙ h in
+      let number : n ≡ j = cc in
+      let placed : place ≡ p = cc in
+      with-place n place j p _ number placed low is
+  wall-refused (s, M.wallOld) low n place q h is =
+      let w : _≡_ {A = M.WallReply Removed} (M.wallRefused n place) M.wallOld = ap wallReply (sym q) ∙ h in
       let z : _≡_ {A = ℕ} 0 1 = cc in
       absurd (omega arith)
-  wall-refused (s, M.wallApplied r) n place q h =
-      let w : _≡_ {A = M.WallReply Removed} (M.wallRefused n) (M.wallApplied r) = ap wallReply (sym q) ∙ h in
+  wall-refused (s, M.wallApplied r) low n place q h is =
+      let w : _≡_ {A = M.WallReply Removed} (M.wallRefused n place) (M.wallApplied r) = ap wallReply (sym q) ∙ h in
       let z : _≡_ {A = ℕ} 0 1 = cc in
       absurd (omega arith)
 
   pub wall-old : (o : State Drawing × M.WallReply Removed) → reply ≡ Wall.Old → wallReply reply ≡ o .1 → 256 ≡ wallTally o
   unfolding wallTally
-  wall-old (s, M.wallRefused k) q h =
-      let w : _≡_ {A = M.WallReply Removed} M.wallOld (M.wallRefused k) = ap wallReply (sym q) ∙ h in
+  wall-old (s, M.wallRefused k p) q h =
+      let w : _≡_ {A = M.WallReply Removed} M.wallOld (M.wallRefused k p) = ap wallReply (sym q) ∙ h in
       let z : _≡_ {A = ℕ} 0 1 = cc in
       absurd (omega arith)
   wall-old (s, M.wallOld) q h = refl
@@ -82,8 +96,8 @@ module _ (reply : WallReply) where
 
   pub wall-applied : (o : State Drawing × M.WallReply Removed) (now : State Drawing) (gone : Removed) → reply ≡ Wall.Applied gone → wallReply reply ≡ o .1 → now ≡ o .0 → {k : ℕ} → k ≡ (now .count + 256) % 2 ^ 32 → k ≡ wallTally o
   unfolding wallTally
-  wall-applied (s, M.wallRefused k) now gone q h g f =
-      let w : _≡_ {A = M.WallReply Removed} (M.wallApplied gone) (M.wallRefused k) = ap wallReply (sym q) ∙ h in
+  wall-applied (s, M.wallRefused k p) now gone q h g f =
+      let w : _≡_ {A = M.WallReply Removed} (M.wallApplied gone) (M.wallRefused k p) = ap wallReply (sym q) ∙ h in
       let z : _≡_ {A = ℕ} 0 1 = cc in
       absurd (omega arith)
   wall-applied (s, M.wallOld) now gone q h g f =
@@ -99,6 +113,9 @@ module _ (image : List ℕ) (are : Bytes image) (good : imageFault image ≡ 0) 
   abbrev found : Memory
   found = memory (record { size = length image; count = count }) b′
 
+  pub drawing-valid : Valid limits (drawingOf image)
+  drawing-valid = fault-valid limits (drawingOf image) (valid image (drawingOf image) are (result-none (imageFault image) (drawingOf image) good))
+
   held : Holding found (imageState image count)
   unfolding over
   held =
@@ -110,9 +127,12 @@ module _ (image : List ℕ) (are : Bytes image) (good : imageFault image ≡ 0) 
       let e : parse (take (length image) b′) ≡ I.accepted (drawingOf image) = ap parse front ∙ read in
       let long : maxImageSize ≤ length b′ = subst (λ (n : ℕ). maxImageSize ≤ n) (sym (ap length is ∙ length-over b 0 image fits)) room in
       record {
-        ready = ready-by found (drawingOf image) e (fault-valid limits (drawingOf image) (valid image (drawingOf image) are read)) long;
+        ready = ready-by found (drawingOf image) e drawing-valid long;
         state = λ i. record { drawing = ap drawingIn e i; count = count };
       }
+
+  pub place-low : (message : List ℕ) → wallPlace (M.wallTransition protocol (imageState image count) (protocol .decode message) .1) ≤ limits .relations
+  place-low message = reply-within (imageState image count) drawing-valid (protocol .decode message)
 
   pub desk-valid : (c : DeskCall) → DeskEdits found c → DeskStepValid protocol (imageState image count) (deskStep c)
   desk-valid c w = subst (λ (s : State Drawing). DeskStepValid protocol s (deskStep c)) (held .state) (desk-step found (held .ready) c w .0)

@@ -15,12 +15,12 @@ use Rattle.sketch_image.proofs.Written.{write-fault}
 use Rattle.probe.specs.declared.Verdict.the-variants.{Refused, Met, Unmet}
 use Rattle.relations.specs.Met.{met, firstUnmet}
 use Rattle.probe.specs.Relations.{UnmetAnswer}
-use Rattle.relations.proofs.Failing.{none-fails, fails-there, fails-within}
+use Rattle.relations.proofs.Failing.{none-fails, some-fails, first-within}
 
 pub answered-refused : (s : Sketch) {before later : List ℕ} {n : ℕ} → ImageWritten s before later n → length before ≡ maxImageSize → (n ≡ 0 → ⊥) → UnmetAnswer s (Refused n)
 answered-refused s {before} w long z = (w .number ∙ write-fault s (length before) long, z)
 
-module _ (s : Sketch) (h : sketchFault s ≡ 0) (e : length (s .relations) ≡ 256) {k : ℕ} (f : k ≡ firstUnmet (view s .points) (view s .curves) (view s .relations)) where
+module _ (s : Sketch) (h : sketchFault s ≡ 0) (e : length (s .relations) ≡ 256) {k : ℕ} (f : k ≡ firstUnmet (view s)) where
   as-many : length (view s .relations) ≡ s .nrelations
   as-many =
       let z = sketch-valid s h .0 .relations in
@@ -30,10 +30,10 @@ module _ (s : Sketch) (h : sketchFault s ≡ 0) (e : length (s .relations) ≡ 2
   answered-met q = (h, none-fails (met (view s .points) (view s .curves)) (view s .relations) (omega (arith, as-many)))
 
   pub answered-unmet : k < s .nrelations → UnmetAnswer s (Unmet k)
-  answered-unmet q = (h, rw f (fails-there (met (view s .points) (view s .curves)) (view s .relations) (omega (arith, as-many))))
+  answered-unmet q = (h, some-fails (met (view s .points) (view s .curves)) (view s .relations) (omega (arith, as-many, f)), f)
 
--- a place that is answered is a relation's
-pub place-below : (s : Sketch) (k : ℕ) → UnmetAnswer s (Unmet k) → k < 256
+-- a place is within the limit of relations
+pub place-below : (s : Sketch) (k : ℕ) → UnmetAnswer s (Unmet k) → k ≤ 256
 place-below s k t =
-    let q = fails-within (met (view s .points) (view s .curves)) (view s .relations) k (t .1) in
-    omega (arith, sketch-valid s (t .0) .1 .relations-fit)
+    let q = first-within (met (view s .points) (view s .curves)) (view s .relations) in
+    omega (arith, t .2, sketch-valid s (t .0) .1 .relations-fit)

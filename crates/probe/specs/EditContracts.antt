@@ -23,7 +23,7 @@ ReportPut gone before after = 12 ≤ length before → after ≡ over before 0 (
 
 -- of a good image, with room for every image
 abbrev pub EditAdds : Operation → List ℕ → ℕ → Vec2 → List ℕ → ℕ → Type 0
-EditAdds op s t p before r = imageFault s ≡ 0 → maxImageSize ≤ length before → r ≡ editAdds (editOf op limits (drawingOf s) t p)
+EditAdds op s t p before r = imageFault s ≡ 0 → maxImageSize ≤ length before → r ≡ editAdds op (drawingOf s) t p
 
 abbrev pub EditsSum : Operation → List ℕ → ℕ → Vec2 → ℕ → ℕ → Type 0
-EditsSum op s t p times r = imageFault s ≡ 0 → r ≡ repeated times (editAdds (editOf op limits (drawingOf s) t p))
+EditsSum op s t p times r = imageFault s ≡ 0 → r ≡ repeated times (editAdds op (drawingOf s) t p)

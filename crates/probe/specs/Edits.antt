@@ -1,7 +1,6 @@
 -- What an edit of an image answers, once and many times over. Definitions only.
 use Prim.Native.Nat.{ℕ, _+_, _*_, _/_, _%_, _^_}
 use mathlib.Core.Path.{_≡_}
-use mathlib.Core.Bool.{true}
 use mathlib.Core.List.{List, _++_}
 use lib.ListN.{length}
 use lib.Dec.{leb, eqb}
@@ -12,12 +11,10 @@ use Rattle.sketch.specs.Drawing.{Drawing, limits}
 use Rattle.image.specs.Image.{imageFault, drawingOf}
 use Rattle.image.specs.Encode.{encode, drawingSize}
 use Rattle.message.specs.Message.{operationOf, isOperation}
-use Rattle.message.specs.declared.Operation.the-variants.{Extend}
-use Rattle.relations.specs.Met.{unmetAt}
+use Rattle.message.specs.declared.Operation.{Operation}
 use Rattle.edit_plan.specs.declared.Removed.{Removed}
 use Rattle.edit_plan.specs.Outcome.{Outcome, refused, accepted, _then_, guard}
-use Rattle.extend.specs.ExtendAnswer.{NoPlace}
-use Rattle.modify.specs.Edits.{editOf, editUntested}
+use Rattle.modify.specs.Edits.{editOf, editPlace}
 
 -- ---- one edit
 
@@ -52,13 +49,11 @@ pub record Wrote (o : Outcome Drawing Removed) (before later : List ℕ) (r : �
   pub number : r ≡ numberOf (fitting (length before) o)
   pub buffer : later ≡ leftIn (fitting (length before) o) before
 
--- the number in the low 16 bits; above them the place of a relation that is not met, with an extend's 13 before the edit and with its 19 after it
+-- the number in the low 16 bits; above them the place that comes with it
 pub record EditMade (op : ℕ) (s : List ℕ) (t : ℕ) (p : Vec2) (before later : List ℕ) (r : ℕ) : Type 0 where
   pub number : r % 65536 ≡ numberOf (fitting (length before) (imageEditBy op s t p))
   pub buffer : later ≡ leftIn (fitting (length before) (imageEditBy op s t p)) before
-  pub no-place : NoPlace (r % 65536) (r / 65536)
-  pub unmet-before : imageFault s ≡ 0 → op ≡ 3 → r % 65536 ≡ 13 → unmetAt (drawingOf s) (r / 65536) ≡ true
-  pub unmet-after : imageFault s ≡ 0 → op ≡ 3 → r % 65536 ≡ 19 → (d′ : Drawing) (removed : Removed) → editUntested Extend limits (drawingOf s) t p ≡ accepted d′ removed → unmetAt d′ (r / 65536) ≡ true
+  pub place : r / 65536 ≡ editPlace (operationOf op) (drawingOf s) t p (r % 65536)
 
 -- ---- many times over
 
@@ -70,10 +65,17 @@ ofImage s k = guardNumber (eqb (imageFault s) 0) (imageFault s) k
 abbrev pub repeated : ℕ → ℕ → ℕ
 repeated times k = times * k % 2 ^ 32
 
--- what one edit adds: a refusal's number, or the next id and the id of the removed curve
-unfoldable pub editAdds : Outcome Drawing Removed → ℕ
-editAdds (refused n) = n
-editAdds (accepted d r) = (d .next + r .curve) % 2 ^ 32
+-- a number, and above its 16 bits a place
+abbrev pub withPlace : ℕ → ℕ → ℕ
+withPlace n place = n + place * 65536
+
+-- what one edit adds: a refusal's number with its place, or the next id and the id of the removed curve
+unfoldable pub outcomeAdds : (ℕ → ℕ) → Outcome Drawing Removed → ℕ
+outcomeAdds place (refused n) = withPlace n (place n)
+outcomeAdds place (accepted d r) = (d .next + r .curve) % 2 ^ 32
+
+abbrev pub editAdds : Operation → Drawing → ℕ → Vec2 → ℕ
+editAdds op d t p = outcomeAdds (editPlace op d t p) (editOf op limits d t p)
 
 abbrev pub editsSum : ℕ → List ℕ → ℕ → Vec2 → ℕ → ℕ
-editsSum op s t p times = ofImage s (guardNumber (isOperation op) 6 (repeated times (editAdds (editOf (operationOf op) limits (drawingOf s) t p))))
+editsSum op s t p times = ofImage s (guardNumber (isOperation op) 6 (repeated times (editAdds (operationOf op) (drawingOf s) t p)))

@@ -1,24 +1,24 @@
 -- What is answered of a sketch's relations.
 use Prim.Native.Nat.{ℕ, _+_}
 use mathlib.Core.Path.{_≡_}
-use mathlib.Core.Bool.{true}
+use mathlib.Core.Bool.{true, false}
 use mathlib.Core.List.{List}
 use Rattle.sketch.specs.Drawing.{view}
 use Rattle.sketch.specs.Valid.{sketchFault}
 use Rattle.sketch.specs.declared.Sketch.{Sketch}
 use Rattle.image.specs.Image.{imageFault, drawingOf}
-use Rattle.relations.specs.Met.{allMet, unmetAt}
+use Rattle.relations.specs.Met.{allMet, firstUnmet}
 use Rattle.probe.specs.declared.Verdict.{Verdict}
 use Rattle.probe.specs.declared.Verdict.the-variants.{Refused, Met, Unmet}
 use Rattle.probe.specs.Probe.{altered}
 
--- the number of a sketch that no image gives; of any other, that every relation is met, or the place of one that is not
+-- the number of a sketch that no image gives; of any other, that every relation is met, or the place of the first that is not
 abbrev pub UnmetAnswer : Sketch → Verdict → Type 0
 UnmetAnswer s (Refused n) = (n ≡ sketchFault s) × (n ≡ 0 → ⊥)
 UnmetAnswer s Met = (sketchFault s ≡ 0) × (allMet (view s) ≡ true)
-UnmetAnswer s (Unmet k) = (sketchFault s ≡ 0) × (unmetAt (view s) k ≡ true)
+UnmetAnswer s (Unmet k) = (sketchFault s ≡ 0) × (allMet (view s) ≡ false) × (k ≡ firstUnmet (view s))
 
--- a verdict as one number: a refusal's, 0 where all relations are met, 256 and the place of one that is not
+-- a verdict as one number: a refusal's, 0 where all relations are met, 256 and the place of the first that is not
 unfoldable pub numbered : Verdict → ℕ
 numbered (Refused n) = n
 numbered Met = 0

@@ -10,8 +10,8 @@ use Rattle.message.specs.declared.Operation.{Operation}
 use Rattle.edit_plan.specs.declared.Removed.{Removed}
 use Rattle.edit_plan.specs.Outcome.{Outcome, refused, accepted}
 use Rattle.agreement.specs.Machines.{State, WallReply, wallRefused, wallOld, wallApplied, callOutcome, wallTransition}
-use Rattle.replication.specs.Protocol.{protocol}
-use Rattle.probe.specs.Edits.{ofImage, repeated}
+use Rattle.replication.specs.Protocol.{Edit, protocol}
+use Rattle.probe.specs.Edits.{withPlace, ofImage, repeated}
 
 -- an image's drawing after so many edits
 abbrev pub imageState : List ℕ → ℕ → State Drawing
@@ -19,22 +19,24 @@ imageState s count = record { drawing = drawingOf s; count = count }
 
 -- ---- the desk, with room for the message
 
--- a refusal's number, or 256 and the count
-unfoldable pub deskTally : Outcome (State Drawing) Removed → ℕ
-deskTally (refused n) = n
-deskTally (accepted t r) = (t .count + 256) % 2 ^ 32
+-- a refusal's number with its place, or 256 and the count
+unfoldable pub deskTally : (ℕ → ℕ) → Outcome (State Drawing) Removed → ℕ
+deskTally place (refused n) = withPlace n (place n)
+deskTally place (accepted t r) = (t .count + 256) % 2 ^ 32
 
 abbrev pub deskAdds : Operation → ℕ → Float → Float → State Drawing → ℕ
-deskAdds op t x y s = deskTally (callOutcome protocol s (record { edit = record { operation = op; curve = t; at = record { x = x; y = y } }; room = messageSize }))
+deskAdds op t x y s =
+    let e : Edit = record { operation = op; curve = t; at = record { x = x; y = y } } in
+    deskTally (protocol .place (s .drawing) e) (callOutcome protocol s (record { edit = e; room = messageSize }))
 
 abbrev pub desksSum : List ℕ → ℕ → ℕ → ℕ → Float → Float → ℕ → ℕ
 desksSum s count op t x y times = ofImage s (guardNumber (isOperation op) 6 (repeated times (deskAdds (operationOf op) t x y (imageState s count))))
 
 -- ---- the wall
 
--- a refusal's number, 256 for an old message, 256 and the count for an edit
+-- a refusal's number with its place, 256 for an old message, 256 and the count for an edit
 unfoldable pub wallTally : State Drawing × WallReply Removed → ℕ
-wallTally (s, wallRefused n) = n
+wallTally (s, wallRefused n place) = withPlace n place
 wallTally (s, wallOld) = 256
 wallTally (s, wallApplied r) = (s .count + 256) % 2 ^ 32
 

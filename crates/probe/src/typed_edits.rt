@@ -11,10 +11,9 @@ use sketch::Id;
 use sketch::Sketch;
 ghost use mathlib.Core.Path.{_≡_};
 ghost use Rattle.geom.specs.Plane.{vec};
-ghost use Rattle.sketch.specs.Drawing.{view, limits};
+ghost use Rattle.sketch.specs.Drawing.{view};
 ghost use Rattle.sketch.specs.Valid.{sketchFault};
 ghost use Rattle.edit_plan.specs.Outcome.{accepted};
-ghost use Rattle.modify.specs.Edits.{editOf};
 ghost use Rattle.probe.specs.Edits.{Wrote, EditMade, editAdds, repeated, editsSum};
 
 // The report and then the image to the buffer's front; or 25, and the buffer is left.
@@ -65,7 +64,7 @@ pub extern "C" fn mulkefi_edit_typed(
 // What one edit adds to a sum: a refusal's number with its place, or the next id and the id of the removed curve.
 fn edit_adds(operation: Operation, sk: Sketch, curve: Id, at: Vec2) -> u32
     requires { ⌜ sketchFault sk ≡ 0 ⌝ }
-    ensures { λ r. ⌜ r ≡ editAdds (editOf operation limits (view sk) curve at) ⌝ }
+    ensures { λ r. ⌜ r ≡ editAdds operation (view sk) curve at ⌝ }
 {
     let e = modify::edit(operation, sk, curve, at);
     if e.refusal != 0 {
@@ -78,7 +77,7 @@ fn edit_adds(operation: Operation, sk: Sketch, curve: Id, at: Vec2) -> u32
 
 fn edits_sum(operation: Operation, sk: Sketch, curve: Id, at: Vec2, times: u32) -> u32
     requires { ⌜ sketchFault sk ≡ 0 ⌝ }
-    ensures { λ r. ⌜ r ≡ repeated times (editAdds (editOf operation limits (view sk) curve at)) ⌝ }
+    ensures { λ r. ⌜ r ≡ repeated times (editAdds operation (view sk) curve at) ⌝ }
 {
     let mut sum = 0u32;
     let mut i = 0u32;

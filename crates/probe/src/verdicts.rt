@@ -7,7 +7,7 @@ use sketch::Sketch;
 use sketch_image::image_size;
 ghost use Rattle.probe.specs.Relations.{UnmetAnswer, RelationsTested};
 
-// Looks for a relation of a sketch that is not met, in its image. It gives the first; promised is only that it is one.
+// Looks for the first relation of a sketch that is not met, in its image.
 fn unmet(sk: Sketch) -> Verdict
     ensures { λ r. ⌜ UnmetAnswer sk r ⌝ }
 {
@@ -25,8 +25,8 @@ fn unmet(sk: Sketch) -> Verdict
     Verdict::Met
 }
 
-// Reads an image and looks, in its sketch with another next id and other counts, for a relation that is not met: 0 where all are, and
-// else its place plus 256; or the number by which the image or the sketch is refused.
+// Reads an image and looks, in its sketch with another next id and other counts, for the first relation that is not met: 0 where all are,
+// and else its place plus 256; or the number by which the image or the sketch is refused.
 #[no_mangle]
 pub extern "C" fn mulkefi_relations_test(
     bytes: &[u8],

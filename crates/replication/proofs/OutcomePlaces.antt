@@ -1,4 +1,4 @@
--- The place in the outcome of a call is never above the limit of relations, for desk and wall. Assumes nothing.
+-- The place that desk and wall reply with is never above the limit of relations. Assumes nothing.
 use mathlib.Core.Path.{_≡_, refl}
 use mathlib.Core.Bool.{Bool, true, false}
 use mathlib.Core.List.{List}
@@ -25,8 +25,27 @@ use Rattle.replication.specs.Outcomes.{CallOutcome, refused, updated, if
 use Rattle.replication.specs.Transitions.{Memory, imageIn, deskCallOutcome, wallCallOutcome}
 
 -- of an edit of a valid drawing
-within : (d : Drawing) → Valid limits d → (e : Edit) (k : ℕ) → place d e k ≤ limits .relations
+pub within : (d : Drawing) → Valid limits d → (e : Edit) (k : ℕ) → place d e k ≤ limits .relations
 within d v e k = place-within (e .operation) d (e .curve) (e .at) v k
+
+-- of the wall's reply
+abbrev pub wallPlace : M.WallReply Removed → ℕ
+wallPlace (M.wallRefused k place) = place
+wallPlace M.wallOld = 0
+wallPlace (M.wallApplied r) = 0
+
+pub reply-within : (s : State Drawing) → Valid limits (s .drawing) → (x : Decoded Edit) → wallPlace (wallTransition protocol s x .1) ≤ limits .relations
+reply-within s v (invalid k) = omega arith
+reply-within s v (message n e) = go (leb n (s .count)) (eqb n (s .count + 1))
+  where
+    applied : (o : O.Outcome Drawing Removed) → wallPlace (M.wallApply protocol s n e o .1) ≤ limits .relations
+    applied (O.refused k) = within (s .drawing) v e k
+    applied (O.accepted d r) = omega arith
+
+    go : (a b : Bool) → wallPlace (ite {A = State Drawing × M.WallReply Removed} a (s, M.wallOld) (ite b (M.wallApply protocol s n e (protocol .edit (s .drawing) e)) (s, M.wallRefused 7 0)) .1) ≤ limits .relations
+    go true b = omega arith
+    go false true = applied (protocol .edit (s .drawing) e)
+    go false false = omega arith
 
 -- a new image, or 25, comes with none
 fits-within : (room : ℕ) (s : State Drawing) (r : Removed) → placeOf (ifImageFits room s r) ≤ limits .relations
@@ -55,22 +74,14 @@ module _ (m : Memory) (are : Bytes (m .buffer)) where
       go d v (O.refused k) = within d v e k
       go d v (O.accepted s r) = fits-within (length (m .buffer)) s r
 
-  -- the reply of a delivery
-  abbrev Placed : State Drawing × M.WallReply Removed → Type 0
-  Placed x = placeOf (wallOutcome (length (m .buffer)) (x .0) (x .1)) ≤ limits .relations
-
   pub wall-place-within : (bytes : List ℕ) → placeOf (wallCallOutcome m bytes) ≤ limits .relations
-  wall-place-within bytes = on-within (wallOn (length (m .buffer)) bytes) λ d v. go d v (protocol .decode bytes)
+  wall-place-within bytes =
+      on-within (wallOn (length (m .buffer)) bytes) λ d v.
+      let found : State Drawing = record { drawing = d; count = m .count } in
+      let x = wallTransition protocol found (protocol .decode bytes) in
+      go (x .0) (x .1) (reply-within found v (protocol .decode bytes))
     where
-      applied : (s : State Drawing) → Valid limits (s .drawing) → (n : ℕ) (e : Edit) (o : O.Outcome Drawing Removed) → Placed (M.wallApply protocol s n e o)
-      applied s v n e (O.refused k) = within (s .drawing) v e k
-      applied s v n e (O.accepted d r) = fits-within (length (m .buffer)) (record { drawing = d; count = n }) r
-
-      by-number : (s : State Drawing) → Valid limits (s .drawing) → (n : ℕ) (e : Edit) (a b : Bool) → Placed (ite a (s, M.wallOld) (ite b (M.wallApply protocol s n e (protocol .edit (s .drawing) e)) (s, M.wallRefused 7 0)))
-      by-number s v n e true b = omega arith
-      by-number s v n e false true = applied s v n e (protocol .edit (s .drawing) e)
-      by-number s v n e false false = omega arith
-
-      go : (d : Drawing) → Valid limits d → (x : Decoded Edit) → Placed (wallTransition protocol (record { drawing = d; count = m .count }) x)
-      go d v (invalid k) = omega arith
-      go d v (message n e) = by-number (record { drawing = d; count = m .count }) v n e (leb n (m .count)) (eqb n (m .count + 1))
+      go : (s : State Drawing) (r : M.WallReply Removed) → wallPlace r ≤ limits .relations → placeOf (wallOutcome (length (m .buffer)) s r) ≤ limits .relations
+      go s (M.wallRefused k place) h = h
+      go s M.wallOld h = omega arith
+      go s (M.wallApplied r) h = fits-within (length (m .buffer)) s r

@@ -6,16 +6,14 @@ use Rattle.probe.proofs.edits.edit_adds.Tie as tie
 edit-image-requires : tie.Need-edit-image-requires
 edit-image-requires c κs = search needs
 
-cast-result : tie.Need-cast-result
-cast-result c = search needs
+with-place-requires : tie.Need-with-place-requires
+with-place-requires c κs = search needs
 
 same-length : tie.Need-same-length
 same-length c = search needs
 
 returns : tie.Need-returns
-returns c =
-    let at = c .before .before .before .before .before .before .before .before .before in
-    adds-number (at .args .operation) (at .args .bytes .now) (at .args .curve) (at .args .at) (c .before .before .before .before .before .edit-image .ensures) (λ i. c .before .before .before .before .before .before .before .before .shared-slice-known .given i .fits) (c .before .if1 .taken)
+returns c = adds-number (c .before .before .before .before .before .before .before .before .before .args .operation) (c .before .before .before .before .before .before .before .before .before .args .bytes .now) (c .before .before .before .before .before .before .before .before .before .args .curve) (c .before .before .before .before .before .before .before .before .before .args .at) (c .before .before .before .before .before .edit-image .ensures) (λ i. c .before .before .before .before .before .before .before .before .shared-slice-known .given i .fits) (c .before .if1 .taken) (c .with-place .ensures)
 
 next-id-requires : tie.Need-next-id-requires
 next-id-requires c κs = search needs
@@ -36,7 +34,7 @@ edit-adds-spec =
     tie.close
     (tie.spec
     edit-image-requires
-    cast-result
+    with-place-requires
     same-length
     returns
     next-id-requires

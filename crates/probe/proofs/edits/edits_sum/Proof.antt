@@ -3,9 +3,7 @@ use Prim.Native.Nat.{_≤_, _-_}
 use native.Mathlib.Omega.{arith}
 use lib.ListN.{length}
 use borrow.Author.Needs.{needs}
-use Rattle.sketch.specs.Drawing.{limits}
 use Rattle.image.specs.Image.{imageFault, drawingOf}
-use Rattle.modify.specs.Edits.{editOf}
 use Rattle.probe.specs.Edits.{editAdds, repeated}
 use Rattle.probe.proofs.Sums.{none-yet, once-more, all-done}
 use Rattle.probe.proofs.edits.edits_sum.Statement.{statement}
@@ -13,7 +11,7 @@ use Rattle.probe.proofs.edits.edits_sum.Tie as tie
 
 abbrev Inv-loop : tie.InvT-loop
 Inv-loop operation bytes curve at times out₀ sum₀ i₀ out sum i =
-    (i ≤ times) × (length out ≡ 21135) × (imageFault bytes ≡ 0 → sum ≡ repeated i (editAdds (editOf operation limits (drawingOf bytes) curve at)))
+    (i ≤ times) × (length out ≡ 21135) × (imageFault bytes ≡ 0 → sum ≡ repeated i (editAdds operation (drawingOf bytes) curve at))
 
 abbrev μ-loop : tie.MeasureT-loop
 μ-loop operation bytes curve at times out₀ sum₀ i₀ out sum i = times - i

@@ -1,6 +1,5 @@
-use Rattle.agreement.specs.Machines.{wallTransition}
 -- `probe::replicas::wall_adds` meets its contract.
-use Rattle.probe.proofs.ReplicaSums.{wall-valid, wall-refused, wall-old, wall-applied}
+use Rattle.probe.proofs.ReplicaSums.{place-low, wall-valid, wall-refused, wall-old, wall-applied}
 use Rattle.probe.specs.Replicas.{imageState}
 use Rattle.replication.specs.Protocol.{protocol}
 use Rattle.agreement.specs.Machines.{wallTransition}
@@ -17,8 +16,8 @@ wall-deliver-requires c κs = search needs
 enum-known-reply : tie.Need-enum-known-reply
 enum-known-reply c = search needs
 
-cast-result : tie.Need-cast-result
-cast-result c = search needs
+with-place-requires : tie.Need-with-place-requires
+with-place-requires c κs = search needs
 
 enum-told : tie.Need-enum-told
 enum-told c = search needs
@@ -33,7 +32,7 @@ same-length : tie.Need-same-length
 same-length c = search needs
 
 returns : tie.Need-returns
-returns c = let w = wall-valid (c .before .before .before .before .before .before .before .before .before .before .before .before .before .before .before .args .image .now) (λ k. c .before .before .before .before .before .before .before .before .before .before .before .before .before .before .shared-slice-known .given k .fits) (c .before .before .before .before .before .before .before .before .before .before .before .before .before .before .before .pre .0) (c .before .before .before .before .before .before .before .before .before .before .before .before .before .before .before .args .count) (c .before .before .before .before .before .before .before .before .before .before .before .before .before .before .before .args .buffer .now) (c .before .before .before .before .before .before .before .before .before .before .before .before .before .before .before .pre .1) _ (c .before .before .before .before .before .before .before .before .before .before .put-run .ensures) _ (c .before .before .before .before .before .before .wall-deliver .ensures) in wall-refused _ (wallTransition protocol (imageState (c .before .before .before .before .before .before .before .before .before .before .before .before .before .before .before .args .image .now) (c .before .before .before .before .before .before .before .before .before .before .before .before .before .before .before .args .count)) (protocol .decode (c .before .before .before .before .before .before .before .before .before .before .before .before .before .before .before .args .message .now))) _ _ (c .before .reply .given .1) (w .reply)
+returns c = let w = wall-valid (c .before .before .before .before .before .before .before .before .before .before .before .before .before .before .before .before .args .image .now) (λ k. c .before .before .before .before .before .before .before .before .before .before .before .before .before .before .before .shared-slice-known .given k .fits) (c .before .before .before .before .before .before .before .before .before .before .before .before .before .before .before .before .pre .0) (c .before .before .before .before .before .before .before .before .before .before .before .before .before .before .before .before .args .count) (c .before .before .before .before .before .before .before .before .before .before .before .before .before .before .before .before .args .buffer .now) (c .before .before .before .before .before .before .before .before .before .before .before .before .before .before .before .before .pre .1) _ (c .before .before .before .before .before .before .before .before .before .before .before .put-run .ensures) _ (c .before .before .before .before .before .before .before .wall-deliver .ensures) in wall-refused _ (wallTransition protocol (imageState (c .before .before .before .before .before .before .before .before .before .before .before .before .before .before .before .before .args .image .now) (c .before .before .before .before .before .before .before .before .before .before .before .before .before .before .before .before .args .count)) (protocol .decode (c .before .before .before .before .before .before .before .before .before .before .before .before .before .before .before .before .args .message .now))) (place-low (c .before .before .before .before .before .before .before .before .before .before .before .before .before .before .before .before .args .image .now) (λ k. c .before .before .before .before .before .before .before .before .before .before .before .before .before .before .before .shared-slice-known .given k .fits) (c .before .before .before .before .before .before .before .before .before .before .before .before .before .before .before .before .pre .0) (c .before .before .before .before .before .before .before .before .before .before .before .before .before .before .before .before .args .count) (c .before .before .before .before .before .before .before .before .before .before .before .before .before .before .before .before .args .buffer .now) (c .before .before .before .before .before .before .before .before .before .before .before .before .before .before .before .before .pre .1) _ (c .before .before .before .before .before .before .before .before .before .before .before .put-run .ensures) (c .before .before .before .before .before .before .before .before .before .before .before .before .before .before .before .before .args .message .now)) _ _ (c .before .before .reply .given .1) (w .reply) (c .with-place .ensures)
 
 same-length-2 : tie.Need-same-length-2
 same-length-2 c = search needs
@@ -54,7 +53,7 @@ wall-adds-spec =
     put-run-requires
     wall-deliver-requires
     enum-known-reply
-    cast-result
+    with-place-requires
     enum-told
     enum-told-2
     wrapping-add-u32-requires

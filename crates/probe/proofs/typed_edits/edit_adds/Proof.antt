@@ -6,11 +6,11 @@ use Rattle.probe.proofs.typed_edits.edit_adds.Tie as tie
 edit-requires : tie.Need-edit-requires
 edit-requires c κs = search needs
 
-cast-result : tie.Need-cast-result
-cast-result c = search needs
+with-place-requires : tie.Need-with-place-requires
+with-place-requires c κs = search needs
 
 returns : tie.Need-returns
-returns c = adds-number _ _ _ _ (c .before .before .before .before .pre) _ (c .before .before .before .edit .ensures) (c .before .if1 .taken)
+returns c = adds-number _ _ _ _ (c .before .before .before .before .pre) _ (c .before .before .before .edit .ensures) (c .before .if1 .taken) (c .with-place .ensures)
 
 wrapping-add-u32-requires : tie.Need-wrapping-add-u32-requires
 wrapping-add-u32-requires c κs = search needs
@@ -20,4 +20,4 @@ returns-2 c = adds-sum _ _ _ _ (c .before .before .before .before .before .befor
 
 pub edit-adds-spec : {M : Type 1} → statement M
 edit-adds-spec =
-    tie.close (tie.spec edit-requires cast-result returns wrapping-add-u32-requires returns-2)
+    tie.close (tie.spec edit-requires with-place-requires returns wrapping-add-u32-requires returns-2)

@@ -2,8 +2,7 @@ use mathlib.Core.Path.{_≡_}
 use Prim.Native.Nat.{_≤_, _-_}
 use native.Mathlib.Omega.{arith}
 use borrow.Author.Needs.{needs}
-use Rattle.sketch.specs.Drawing.{view, limits}
-use Rattle.modify.specs.Edits.{editOf}
+use Rattle.sketch.specs.Drawing.{view}
 use Rattle.probe.specs.Edits.{editAdds}
 use Rattle.probe.specs.Edits.{repeated}
 use Rattle.probe.proofs.Sums.{none-yet, once-more, all-done}
@@ -11,7 +10,7 @@ use Rattle.probe.proofs.typed_edits.edits_sum.Statement.{statement}
 use Rattle.probe.proofs.typed_edits.edits_sum.Tie as tie
 
 abbrev Inv-loop : tie.InvT-loop
-Inv-loop operation sk curve at times sum₀ i₀ sum i = (i ≤ times) × (sum ≡ repeated i (editAdds (editOf operation limits (view sk) curve at)))
+Inv-loop operation sk curve at times sum₀ i₀ sum i = (i ≤ times) × (sum ≡ repeated i (editAdds operation (view sk) curve at))
 
 abbrev μ-loop : tie.MeasureT-loop
 μ-loop operation sk curve at times sum₀ i₀ sum i = times - i

@@ -1,6 +1,6 @@
 -- `probe::mulkefi_relations_test` meets its contract.
 use mathlib.Core.Path.{_≡_, refl, sym, subst, _∙_}
-use Prim.Native.Nat.{ℕ, _<_}
+use Prim.Native.Nat.{ℕ, _≤_}
 use borrow.Author.Needs.{needs}
 use Rattle.sketch_image.proofs.Answers.{read-number, read-drawing}
 use Rattle.sketch.specs.declared.Sketch.{Sketch}
@@ -29,7 +29,7 @@ judged u v e f =
     tested (r .result .sketch) v (sym (read-number (r .result) s (r .ensures .result-is)) ∙ z) (read-drawing (r .result) s (r .ensures .result-is) z) (subst (UnmetAnswer (held u)) e (u .unmet .ensures)) f
 
 -- a place is small
-below : (c : tie.After-place) → c .place .given .0 .0 < 256
+below : (c : tie.After-place) → c .place .given .0 .0 ≤ 256
 below c = let u = c .before .before in place-below (held u) _ (subst (UnmetAnswer (held u)) (c .place .given .1) (u .unmet .ensures))
 
 read-requires : tie.Need-read-requires

@@ -4,7 +4,7 @@ use lib.ListN.{length, take, length-take, length-map}
 use native.Mathlib.Omega.{arith}
 use borrow.Author.Needs.{needs}
 use Rattle.sketch.specs.declared.Sketch.{Sketch}
-use Rattle.sketch.specs.Drawing.{Drawing, view}
+use Rattle.sketch.specs.Drawing.{view}
 use Rattle.sketch.specs.Valid.{sketchFault}
 use Rattle.image.specs.Image.{imageFault, drawingOf}
 use Rattle.image.specs.Encode.{drawingSize}
@@ -37,8 +37,8 @@ again c = front-read (held (c .before)) _ (c .before .before .before .write .las
 abbrev sized : tie.After-first-unmet → tie.After-image-size
 sized c = c .before .before .before
 
-first : (c : tie.After-first-unmet) → let d = view (held (sized c .before)) in c .first-unmet .result ≡ firstUnmet (d .points) (d .curves) (d .relations)
-first c = c .first-unmet .ensures (again (sized c) .0) ∙ ap (λ (d : Drawing). firstUnmet (d .points) (d .curves) (d .relations)) (again (sized c) .1)
+first : (c : tie.After-first-unmet) → let d = view (held (sized c .before)) in c .first-unmet .result ≡ firstUnmet d
+first c = c .first-unmet .ensures (again (sized c) .0) ∙ ap firstUnmet (again (sized c) .1)
 
 slots : (c : tie.Else1) → length (held c .relations) ≡ 256
 slots c = sym (length-map (held c .relations) _) ∙ c .before .before .before .before .good .0 .1 .1 .1 .1 .1 .1 .1 .1 .0 .1 .0 .1
