@@ -9,9 +9,13 @@
  * counts, ids and numbers are, a call ends and answers as described here.
  *
  * Answers, but for mulkefi_versions and mulkefi_largest_magnitude, which refuse nothing. 0 is accepted. Otherwise the low 16 bits are a
- * refusal's number (enum mulkefi_refusal); with MULKEFI_RELATIONS_UNMET and MULKEFI_RELATIONS_BROKEN the bits above are the place, from
- * 0, of a relation that is not met, and with every other number they are 0. After a refusal not one byte of the caller's memory has
- * changed. */
+ * refusal's number (enum mulkefi_refusal, MULKEFI_NUMBER), and the bits above a place (MULKEFI_PLACE). After a refusal not one byte of
+ * the caller's memory has changed.
+ *
+ * Places. With MULKEFI_RELATIONS_UNMET and MULKEFI_RELATIONS_BROKEN the place is that of the first relation, in table order and counted
+ * from 0, that is not met; with every other number it is 0. MULKEFI_RELATIONS_UNMET counts in the image's table of relations.
+ * MULKEFI_RELATIONS_BROKEN counts in the table that the edit would have left: the image's, and behind it the relation that the edit adds,
+ * the pin. So the place may be the image's number of relations: then it is the pin's, which the image does not hold. */
 #ifndef MULKEFI_H
 #define MULKEFI_H
 
@@ -58,6 +62,10 @@ enum mulkefi_operation {
     MULKEFI_EXTEND = 3
 };
 
+/* The number and the place in what a call answers. */
+#define MULKEFI_NUMBER(refusal) ((refusal) & 0xffff)
+#define MULKEFI_PLACE(refusal) ((refusal) >> 16)
+
 enum mulkefi_refusal {
     MULKEFI_ACCEPTED = 0,
     /* of an image or a message */
@@ -74,13 +82,13 @@ enum mulkefi_refusal {
     MULKEFI_WRONG_KIND = 10,       /* not an edit for this kind of curve */
     MULKEFI_FREEFORM_NEAR = 11,    /* not while a freeform curve is in the drawing */
     MULKEFI_NO_CUT = 12,           /* no place to split at */
-    MULKEFI_RELATIONS_UNMET = 13,  /* a relation is not met; comes with its place */
+    MULKEFI_RELATIONS_UNMET = 13,  /* a relation is not met; comes with the first one's place */
     MULKEFI_END_HELD = 14,         /* the line's end is used by another curve, or fixed */
     MULKEFI_OVERLAP = 15,          /* the line lies along another curve */
     MULKEFI_OFF_LINE = 16,         /* a line too short to prolong, or a hit that lies off it */
     MULKEFI_TIE = 17,              /* two curves are met equally near */
     MULKEFI_NOTHING_MET = 18,      /* the line, prolonged, meets nothing */
-    MULKEFI_RELATIONS_BROKEN = 19, /* a relation would not be met afterwards; comes with its place */
+    MULKEFI_RELATIONS_BROKEN = 19, /* a relation would not be met afterwards; comes with the first one's place, which may be the pin's */
     /* of numbers and memory */
     MULKEFI_BAD_COEFFICIENTS = 20, /* none, more than 15, or one not finite, also in a derivative */
     MULKEFI_WORK_LIMIT = 21,       /* the budget ran out */

@@ -18,7 +18,7 @@ static int show(const double *coefficients, size_t n)
         return 0;
     }
     if (refusal != MULKEFI_ACCEPTED) {
-        printf("refused by %u\n", (unsigned)(refusal & 0xffff));
+        printf("refused by %u\n", (unsigned)MULKEFI_NUMBER(refusal));
         return 1;
     }
     printf("coefficients up to %g: %u root, at %.6f\n", largest, (unsigned)answer[0], found[0]);

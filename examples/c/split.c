@@ -24,7 +24,7 @@ int main(void)
     if (refusal == MULKEFI_ACCEPTED)
         refusal = mulkefi_wall_deliver(wall, sizeof wall, sizeof drawing, 0, message, sizeof message, wall_answer);
     if (refusal != MULKEFI_ACCEPTED) {
-        printf("refused by %u\n", (unsigned)(refusal & 0xffff));
+        printf("refused by %u\n", (unsigned)MULKEFI_NUMBER(refusal));
         return 1;
     }
     printf("desk: count %u, %u bytes\n", (unsigned)desk_answer[MULKEFI_ANSWER_COUNT], (unsigned)desk_answer[MULKEFI_ANSWER_IMAGE]);

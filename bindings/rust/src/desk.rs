@@ -52,7 +52,8 @@ impl Desk {
         self.0.count
     }
 
-    /// Applies an edit. A refusal leaves the desk as it was.
+    /// Applies an edit. A refusal leaves the desk as it was; where a relation is the reason,
+    /// [`Refusal::relation`] finds it in the desk's drawing.
     ///
     /// ```
     /// use mulkefi::{Desk, Drawing, Edit, Kind, Operation, Refusal};

@@ -121,6 +121,46 @@ impl Relation {
         }
     }
 
+    /// The points that it names, in its record's order.
+    ///
+    /// ```
+    /// use mulkefi::Relation;
+    ///
+    /// let relation = Relation::Midpoint { p: 7, line: 3 };
+    /// assert_eq!((relation.points(), relation.curves()), (vec![7], vec![3]));
+    /// let relation = Relation::Distance { p: 7, q: 2, value: 4.0 };
+    /// assert_eq!((relation.points(), relation.curves()), (vec![7, 2], vec![]));
+    /// ```
+    pub fn points(&self) -> Vec<Id> {
+        match *self {
+            Relation::Coincident { p, q } | Relation::Distance { p, q, .. } => vec![p, q],
+            Relation::PointOnCurve { p, .. } | Relation::Midpoint { p, .. } => vec![p],
+            Relation::Collinear { .. }
+            | Relation::Equal { .. }
+            | Relation::Length { .. }
+            | Relation::ArcLength { .. }
+            | Relation::ArcSweep { .. } => Vec::new(),
+        }
+    }
+
+    /// The curves that it names, in its record's order.
+    ///
+    /// ```
+    /// use mulkefi::Relation;
+    ///
+    /// assert_eq!(Relation::Equal { a: 9, b: 4 }.curves(), [9, 4]);
+    /// assert_eq!(Relation::Length { line: 9, value: 2.5 }.curves(), [9]);
+    /// ```
+    pub fn curves(&self) -> Vec<Id> {
+        match *self {
+            Relation::Collinear { a, b } | Relation::Equal { a, b } => vec![a, b],
+            Relation::PointOnCurve { curve, .. } => vec![curve],
+            Relation::Length { line, .. } | Relation::Midpoint { line, .. } => vec![line],
+            Relation::ArcLength { round, .. } | Relation::ArcSweep { round, .. } => vec![round],
+            Relation::Coincident { .. } | Relation::Distance { .. } => Vec::new(),
+        }
+    }
+
     /// The value of one that measures.
     pub fn value(&self) -> Option<f64> {
         match *self {
@@ -167,6 +207,22 @@ impl Drawing {
 
     pub fn curve(&self, id: Id) -> Option<&Curve> {
         self.curves.binary_search_by_key(&id, |curve| curve.id).ok().map(|at| &self.curves[at])
+    }
+
+    /// The relation at a place, counted from 0; a relation has no id.
+    ///
+    /// ```
+    /// use mulkefi::{Drawing, Kind, Relation};
+    ///
+    /// let mut drawing = Drawing::new();
+    /// let (a, b) = (drawing.add_point(0.0, 0.0), drawing.add_point(4.0, 0.0));
+    /// let line = drawing.add_curve(Kind::Line { a, b });
+    /// drawing.relations.push(Relation::Length { line, value: 4.0 });
+    /// assert_eq!(drawing.relation(0), Some(&Relation::Length { line, value: 4.0 }));
+    /// assert_eq!(drawing.relation(1), None);
+    /// ```
+    pub fn relation(&self, place: usize) -> Option<&Relation> {
+        self.relations.get(place)
     }
 }
 

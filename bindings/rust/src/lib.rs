@@ -24,7 +24,8 @@
 //! ```
 //!
 //! Nothing is altered by a call that is refused. A [`Refusal`] has the number that the formats'
-//! document gives it, and a sentence for the person at the screen.
+//! document gives it, and a sentence for the person at the screen; where a relation is the reason, it
+//! names the first one that is not met ([`Refusal::relation`]).
 //!
 //! The engine itself is the static library `mulkefi`; [`raw`] declares its calls. [`Drawing`], [`read`]
 //! and [`svg`] are plain Rust for making, showing and drawing images, and no part of the proof.
@@ -48,6 +49,7 @@ mod replica;
 mod roots;
 mod stroke;
 mod text;
+mod unmet_relation;
 mod wall;
 mod writer;
 
@@ -62,6 +64,7 @@ pub use reader::read;
 pub use refusal::Refusal;
 pub use roots::{roots, Roots, MOST_ROOTS};
 pub use stroke::Stroke;
+pub use unmet_relation::UnmetRelation;
 pub use wall::{Delivery, Wall};
 
 /// The versions of the two formats that the engine reads and writes.

@@ -1,8 +1,9 @@
 //! The calls of the static library as its header declares them.
 //!
-//! All but the first and the last answer 0, or a refusal's number with the place of a relation not
-//! met times 65,536 added, and a refusal alters nothing of the caller's. Slices go over as pointer
-//! and length; a length of 0 still wants a pointer that is not null. Lent memory must not overlap.
+//! All but the first and the last answer 0, or a refusal's number, to which 13 and 19 add the place of
+//! the first relation that is not met, times 65,536. A refusal alters nothing of the caller's. Slices
+//! go over as pointer and length; a length of 0 still wants a pointer that is not null. Lent memory
+//! must not overlap.
 
 extern "C" {
     /// The image's version, times 256, and the message's.

@@ -18,7 +18,8 @@ pub enum Refusal {
     Kind,
     Freeform,
     NoPlace,
-    /// With the place of a relation that is not met, counted from 0.
+    /// With the place of the first relation, in table order, that is not met. Places count from 0, and
+    /// all of the drawing's relations are looked at, not only those of the line to be extended.
     Unmet {
         place: usize,
     },
@@ -27,7 +28,9 @@ pub enum Refusal {
     Unresolved,
     Tie,
     NothingMet,
-    /// With the place of a relation that would not be met, counted from 0.
+    /// With the place of the first relation, in table order, that would not be met. Places count from 0 in
+    /// the table that the edit would have left: the drawing's relations, and behind them the pin that
+    /// the edit adds, so that the place may be the number of the drawing's relations.
     Conflict {
         place: usize,
     },
@@ -123,7 +126,8 @@ impl Refusal {
         }
     }
 
-    /// The place of a relation that is not met, or would not be, where that is the reason.
+    /// The place of the first relation that is not met (13), or would not be (19);
+    /// [`Refusal::relation`] looks it up.
     pub fn place(self) -> Option<usize> {
         match self {
             Refusal::Unmet { place } | Refusal::Conflict { place } => Some(place),

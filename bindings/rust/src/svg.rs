@@ -10,7 +10,7 @@
 //! assert!(Sheet::of(&drawing).contains("<circle"));
 //! ```
 
-use crate::drawing::{Curve, Drawing, Kind};
+use crate::drawing::{Curve, Drawing, Id, Kind, Relation};
 use crate::position::{Bounds, Position};
 use crate::stroke::Stroke;
 use std::fmt::Write;
@@ -32,6 +32,8 @@ path,circle{fill:none;stroke:#22303c;stroke-width:1.6;stroke-linecap:round}
 .centerline{stroke-dasharray:9 3 2 3}
 .away{stroke:#c2352b;stroke-width:1.5;stroke-dasharray:4 3;stroke-linecap:butt}
 .point{fill:#22303c;stroke:none}
+.highlight{stroke:#d6249f;stroke-width:5;stroke-opacity:.7}
+.highlight-point{fill:#d6249f;stroke:none}
 text{font-family:sans-serif;font-size:13px;fill:#22303c}
 ";
 
@@ -42,11 +44,35 @@ impl Sheet {
 
     /// A picture of one drawing, with its points.
     pub fn of(drawing: &Drawing) -> String {
+        Sheet::of_one(drawing, None)
+    }
+
+    /// A picture of one drawing, with its points, in which one of its relations is highlighted.
+    ///
+    /// ```
+    /// use mulkefi::svg::Sheet;
+    /// use mulkefi::{Drawing, Kind, Relation};
+    ///
+    /// let mut drawing = Drawing::new();
+    /// let [a, b, p] = [(0.0, 0.0), (4.0, 0.0), (1.0, 1.0)].map(|(x, y)| drawing.add_point(x, y));
+    /// let line = drawing.add_curve(Kind::Line { a, b });
+    /// let picture = Sheet::with_relation(&drawing, &Relation::Midpoint { p, line });
+    /// assert_eq!(picture.matches("class=\"highlight\"").count(), 1);
+    /// assert_eq!(picture.matches("class=\"highlight-point\"").count(), 1);
+    /// ```
+    pub fn with_relation(drawing: &Drawing, relation: &Relation) -> String {
+        Sheet::of_one(drawing, Some(relation))
+    }
+
+    fn of_one(drawing: &Drawing, highlighted: Option<&Relation>) -> String {
         let mut sheet = Sheet::new(800.0, 600.0);
         let area = Bounds { low: Position::new(10.0, 10.0), high: Position::new(790.0, 590.0) };
         let mut panel = sheet.panel(area, view(drawing));
         panel.drawing(drawing);
         panel.points(drawing);
+        if let Some(relation) = highlighted {
+            panel.highlight_relation(drawing, relation);
+        }
         sheet.finish()
     }
 
@@ -113,12 +139,7 @@ pub struct Panel<'s> {
 impl Panel<'_> {
     /// All curves of a drawing.
     pub fn drawing(&mut self, drawing: &Drawing) {
-        for curve in &drawing.curves {
-            if let Some(stroke) = Stroke::of(drawing, curve) {
-                let stroke = if curve.infinite { stroke.endless(&self.view) } else { stroke };
-                self.stroke(&stroke, &class(curve));
-            }
-        }
+        drawing.curves.iter().for_each(|curve| self.curve(drawing, curve, &class(curve)));
     }
 
     /// A dot for every point.
@@ -133,6 +154,32 @@ impl Panel<'_> {
     /// A piece that was cut away, dashed.
     pub fn cut_away(&mut self, stroke: &Stroke) {
         self.stroke(stroke, "away");
+    }
+
+    /// The curves and points that a relation names, over what is drawn already. Those that are not in
+    /// the drawing are passed over.
+    pub fn highlight_relation(&mut self, drawing: &Drawing, relation: &Relation) {
+        relation.curves().into_iter().for_each(|curve| self.highlight_curve(drawing, curve));
+        let points = relation.points();
+        for point in points.into_iter().filter_map(|id| drawing.point(id)) {
+            let at = self.map(Position::new(point.x, point.y));
+            self.circle(at, 5.0, "highlight-point");
+        }
+    }
+
+    /// A curve, over what is drawn already, or nothing where it is not in the drawing.
+    pub fn highlight_curve(&mut self, drawing: &Drawing, curve: Id) {
+        if let Some(curve) = drawing.curve(curve) {
+            self.curve(drawing, curve, "highlight");
+        }
+    }
+
+    /// An infinite line is drawn over the panel's edges.
+    fn curve(&mut self, drawing: &Drawing, curve: &Curve, class: &str) {
+        if let Some(stroke) = Stroke::of(drawing, curve) {
+            let stroke = if curve.infinite { stroke.endless(&self.view) } else { stroke };
+            self.stroke(&stroke, class);
+        }
     }
 
     fn stroke(&mut self, stroke: &Stroke, class: &str) {

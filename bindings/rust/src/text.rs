@@ -3,6 +3,74 @@
 use crate::drawing::{Curve, Drawing, Kind, Point, Relation};
 use std::fmt;
 
+impl Drawing {
+    /// The drawing in words, where a `>` in front marks the relation at a place and the points and
+    /// curves that it names. Where there is no such relation, nothing is marked.
+    ///
+    /// ```
+    /// use mulkefi::{Drawing, Kind, Relation};
+    ///
+    /// let mut drawing = Drawing::new();
+    /// let (a, b) = (drawing.add_point(0.0, 0.0), drawing.add_point(4.0, 0.0));
+    /// let line = drawing.add_curve(Kind::Line { a, b });
+    /// drawing.relations.push(Relation::Length { line, value: 4.0 });
+    /// drawing.relations.push(Relation::PointOnCurve { p: a, curve: line });
+    /// let text = "\
+    /// next id 4
+    /// 2 points
+    /// >      1  0.0, 0.0
+    ///        2  4.0, 0.0
+    /// 1 curves
+    /// >      3  line of 1, 2
+    /// 2 relations
+    ///        0  Length of 3, 4.0
+    /// >      1  PointOnCurve of 1, 3
+    /// ";
+    /// assert_eq!(drawing.marked(1).to_string(), text);
+    /// assert_eq!(drawing.marked(2).to_string(), drawing.to_string());
+    /// ```
+    pub fn marked(&self, place: usize) -> impl fmt::Display + '_ {
+        Listing { drawing: self, marked: Some(place) }
+    }
+}
+
+/// A drawing's records, some of them marked.
+struct Listing<'d> {
+    drawing: &'d Drawing,
+    marked: Option<usize>,
+}
+
+impl fmt::Display for Listing<'_> {
+    fn fmt(&self, f: &mut fmt::Formatter<'_>) -> fmt::Result {
+        let Listing { drawing: Drawing { next, points, curves, relations }, marked } = self;
+        let relation = marked.and_then(|place| self.drawing.relation(place));
+        let named_points = relation.map_or(Vec::new(), Relation::points);
+        let named_curves = relation.map_or(Vec::new(), Relation::curves);
+        writeln!(f, "next id {next}\n{} points", points.len())?;
+        for point in points {
+            write_record(f, named_points.contains(&point.id), point.to_string())?;
+        }
+        writeln!(f, "{} curves", curves.len())?;
+        for curve in curves {
+            write_record(f, named_curves.contains(&curve.id), curve.to_string())?;
+        }
+        writeln!(f, "{} relations", relations.len())?;
+        // A relation has no id; refusals name it by its place.
+        for (place, relation) in relations.iter().enumerate() {
+            write_record(f, *marked == Some(place), format!("{place:>8}  {relation}"))?;
+        }
+        Ok(())
+    }
+}
+
+/// The mark stands in the place of a space, so that columns stay; an id of eight digits or more has none.
+fn write_record(f: &mut fmt::Formatter<'_>, marked: bool, line: String) -> fmt::Result {
+    match marked {
+        true => writeln!(f, ">{}", line.strip_prefix(' ').unwrap_or(&line)),
+        false => writeln!(f, "{line}"),
+    }
+}
+
 /// Numbers are written so that reading them gives the same bits.
 ///
 /// ```
@@ -23,15 +91,7 @@ use std::fmt;
 /// ```
 impl fmt::Display for Drawing {
     fn fmt(&self, f: &mut fmt::Formatter<'_>) -> fmt::Result {
-        writeln!(f, "next id {}", self.next)?;
-        writeln!(f, "{} points", self.points.len())?;
-        self.points.iter().try_for_each(|point| writeln!(f, "{point}"))?;
-        writeln!(f, "{} curves", self.curves.len())?;
-        self.curves.iter().try_for_each(|curve| writeln!(f, "{curve}"))?;
-        writeln!(f, "{} relations", self.relations.len())?;
-        let mut numbered = self.relations.iter().enumerate();
-        // A relation has no id; refusals name it by its place.
-        numbered.try_for_each(|(place, relation)| writeln!(f, "{place:>8}  {relation}"))
+        Listing { drawing: self, marked: None }.fmt(f)
     }
 }
 

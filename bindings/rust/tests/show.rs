@@ -1,6 +1,6 @@
 //! `mulkefi-show` on good and bad images, from a file and from standard input.
 
-use mulkefi::{Drawing, Kind};
+use mulkefi::{Drawing, Kind, Relation};
 use std::io::Write;
 use std::process::{Command, Output, Stdio};
 
@@ -56,6 +56,68 @@ fn a_good_image_is_drawn() {
     assert_eq!(drawn.matches("<path").count(), 2);
 }
 
+/// The example with two relations, of which the second is not met.
+fn with_relations() -> Drawing {
+    let mut drawing = example();
+    drawing.relations.push(Relation::Length { line: 4, value: 4.0 });
+    drawing.relations.push(Relation::Midpoint { p: 3, line: 4 });
+    drawing
+}
+
+#[test]
+fn a_relation_is_marked_with_what_it_names() {
+    let output = show(&["--relation", "1"], &with_relations().to_image());
+    let listed = "\
+image of 206 bytes, version 1
+next id 6
+3 points
+       1  0.0, 0.0
+       2  4.0, 0.0
+>      3  2.0, 3.0
+2 curves
+>      4  line of 1, 2
+       5  Bézier of 1, 3, 2
+2 relations
+       0  Length of 4, 4.0
+>      1  Midpoint of 3, 4
+";
+    assert_eq!((output.status.code(), text(&output.stdout)), (Some(0), listed));
+}
+
+#[test]
+fn a_relation_is_highlighted_in_the_picture() {
+    let highlights = |arguments: &[&str]| {
+        let output = show(arguments, &with_relations().to_image());
+        assert_eq!(output.status.code(), Some(0));
+        let drawn = text(&output.stdout);
+        ["highlight", "highlight-point"].map(|class| {
+            let class = format!("class=\"{class}\"");
+            drawn.matches(&class).count()
+        })
+    };
+    assert_eq!(highlights(&["--svg"]), [0, 0]);
+    assert_eq!(highlights(&["--svg", "--relation", "0"]), [1, 0]);
+    assert_eq!(highlights(&["--relation", "1", "--svg"]), [1, 1]);
+}
+
+#[test]
+fn a_place_behind_the_table_is_the_pins_or_nothings() {
+    let expected = [
+        (
+            "2",
+            "no relation is at place 2, of 2 from 0; \
+             with 19 that is the place of the pin that the edit would have added",
+        ),
+        ("3", "no relation is at place 3, of 2 from 0"),
+    ];
+    for (place, why) in expected {
+        let output = show(&["--relation", place], &with_relations().to_image());
+        let why = format!("mulkefi-show: {why}\n");
+        assert_eq!((output.status.code(), text(&output.stderr)), (Some(2), why.as_str()));
+        assert!(output.stdout.is_empty());
+    }
+}
+
 #[test]
 fn a_bad_image_is_refused_at_its_byte() {
     let mut image = example().to_image();
@@ -92,4 +154,6 @@ fn files_are_read_and_wrong_calls_are_refused() {
     assert_eq!(show(&[named], &[]).status.code(), Some(2));
     assert_eq!(show(&["--png"], &[]).status.code(), Some(2));
     assert_eq!(show(&["one", "two"], &[]).status.code(), Some(2));
+    assert_eq!(show(&["--relation"], &example().to_image()).status.code(), Some(2));
+    assert_eq!(show(&["--relation", "-1"], &example().to_image()).status.code(), Some(2));
 }

@@ -1,6 +1,6 @@
 //! `mulkefi_desk_edit`.
 
-use crate::answers::{number, words, ANSWER_BEFORE, MESSAGE_SIZE};
+use crate::answers::{edit_number, words, ANSWER_BEFORE, MESSAGE_SIZE};
 use crate::buffers::Buffers;
 use crate::calls::Calls;
 use crate::inputs;
@@ -39,7 +39,7 @@ impl Subject {
         let answer = self.0.answer.lend(&ANSWER_BEFORE, inputs::edge(random)).cast();
         let (operation, curve, x, y) = (call.operation, call.curve, call.x, call.y);
         // SAFETY: three buffers apart, with their own lengths; the answer has five numbers.
-        let outcome = number(unsafe {
+        let answered = unsafe {
             (calls.desk_edit)(
                 buffer,
                 held.len(),
@@ -53,9 +53,11 @@ impl Subject {
                 lent.len(),
                 answer,
             )
-        })?;
+        };
+        let image = &held[..len.min(held.len())];
+        let outcome = edit_number(answered, image)?;
         match outcome {
-            0 => self.accepted(&held[..len.min(held.len())], count).map(|()| 0),
+            0 => self.accepted(image, count).map(|()| 0),
             _ => self.untouched().map(|()| outcome),
         }
     }

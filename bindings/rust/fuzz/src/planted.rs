@@ -4,11 +4,14 @@ use crate::calls::{Calls, ENGINE};
 use mulkefi::raw;
 
 /// Names, and what each does.
-pub const ALL: [(&str, &str); 12] = [
+pub const ALL: [(&str, &str); 15] = [
     ("writes-behind", "an accepted edit writes the byte behind its buffer"),
     ("writes-before", "an accepted edit writes the byte before its buffer"),
     ("writes-rest", "an accepted edit writes the byte behind the new image"),
     ("refused-message", "a refused edit writes to the message"),
+    ("unmet-place", "an edit's 13 has the place behind the last relation"),
+    ("broken-place", "an edit's 19 has the place behind the pin"),
+    ("other-place", "a refused edit's 18 has a place"),
     ("refused-answer", "a refused delivery writes to the answer"),
     ("reads-behind", "a delivery reads the byte behind the message"),
     ("writes-input", "the test writes to its image"),
@@ -25,6 +28,9 @@ pub fn by_name(name: &str) -> Option<Calls> {
         "writes-before" => Calls { desk_edit: edit_with::<WRITES_BEFORE>, ..ENGINE },
         "writes-rest" => Calls { desk_edit: edit_with::<WRITES_REST>, ..ENGINE },
         "refused-message" => Calls { desk_edit: edit_with::<REFUSED_MESSAGE>, ..ENGINE },
+        "unmet-place" => Calls { desk_edit: edit_with::<UNMET_PLACE>, ..ENGINE },
+        "broken-place" => Calls { desk_edit: edit_with::<BROKEN_PLACE>, ..ENGINE },
+        "other-place" => Calls { desk_edit: edit_with::<OTHER_PLACE>, ..ENGINE },
         "refused-answer" => Calls { wall_deliver: refused_answer, ..ENGINE },
         "reads-behind" => Calls { wall_deliver: reads_behind, ..ENGINE },
         "writes-input" => Calls { test: writes_input, ..ENGINE },
@@ -41,6 +47,9 @@ const WRITES_BEHIND: u8 = 0;
 const WRITES_BEFORE: u8 = 1;
 const WRITES_REST: u8 = 2;
 const REFUSED_MESSAGE: u8 = 3;
+const UNMET_PLACE: u8 = 4;
+const BROKEN_PLACE: u8 = 5;
+const OTHER_PLACE: u8 = 6;
 
 unsafe extern "C" fn edit_with<const FAULT: u8>(
     buffer: *mut u8,
@@ -68,6 +77,7 @@ unsafe extern "C" fn edit_with<const FAULT: u8>(
         message_room,
         answer,
     );
+    let number = result & 0xffff;
     match (FAULT, result) {
         (WRITES_BEHIND, 0) => buffer.add(room).write_volatile(0),
         (WRITES_BEFORE, 0) => buffer.sub(1).write_volatile(0),
@@ -76,9 +86,21 @@ unsafe extern "C" fn edit_with<const FAULT: u8>(
             rest.write_volatile(!rest.read());
         }
         (REFUSED_MESSAGE, 1..) if message_room > 0 => message.write_volatile(0),
+        (UNMET_PLACE, _) if number == 13 => return at_place(number, relations(buffer)),
+        (BROKEN_PLACE, _) if number == 19 => return at_place(number, relations(buffer) + 1),
+        (OTHER_PLACE, 18) => return at_place(number, 1),
         _ => {}
     }
     result
+}
+
+fn at_place(number: u32, place: u32) -> u32 {
+    number | place << 16
+}
+
+/// The number of relations in an image's header.
+unsafe fn relations(image: *const u8) -> u32 {
+    u16::from_be_bytes([*image.add(13), *image.add(14)]).into()
 }
 
 unsafe extern "C" fn refused_answer(

@@ -1,6 +1,6 @@
 //! `mulkefi_wall_deliver`.
 
-use crate::answers::{number, words, ANSWER_BEFORE};
+use crate::answers::{edit_number, words, ANSWER_BEFORE};
 use crate::buffers::Buffers;
 use crate::calls::Calls;
 use crate::inputs;
@@ -25,9 +25,10 @@ impl Subject {
         let message = self.0.message.lend_to_read(&sent, inputs::edge(random));
         let answer = self.0.answer.lend(&ANSWER_BEFORE, inputs::edge(random)).cast();
         // SAFETY: three buffers apart, with their own lengths; the answer has five numbers.
-        let outcome = number(unsafe {
+        let answered = unsafe {
             (calls.wall_deliver)(buffer, held.len(), len, count, message, sent.len(), answer)
-        })?;
+        };
+        let outcome = edit_number(answered, &held[..len.min(held.len())])?;
         match outcome {
             0 => self.accepted(len.min(held.len()), count),
             _ => {

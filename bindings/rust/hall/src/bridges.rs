@@ -1,10 +1,12 @@
-//! The two bridges of the hall, as a visitor left them: hangers too long or too short, arches drawn
+//! The bridges of the hall, as a visitor left them: hangers too long or too short, arches drawn
 //! as whole circles. The script finishes them.
 //!
 //! Nothing is trimmed while a freeform curve is in a drawing, so the bridge of lines, arcs and
-//! circles is trimmed, and the one with the Bézier arch is split and extended.
+//! circles is trimmed, and the one with the Bézier arch is split and extended. Each script has an
+//! extend, or two, that a relation forbids.
 
-use mulkefi::{Drawing, Edit, Id, Kind, Operation};
+use crate::footbridge::footbridge;
+use mulkefi::{Drawing, Edit, Id, Kind, Operation, Relation};
 
 pub struct Bridge {
     pub name: &'static str,
@@ -12,17 +14,18 @@ pub struct Bridge {
     pub script: Vec<Edit>,
 }
 
-pub fn all() -> [Bridge; 2] {
-    [round_arch(), free_arch()]
+pub fn all() -> [Bridge; 3] {
+    [round_arch(), free_arch(), footbridge()]
 }
 
-const DECK: f64 = 20.0;
+pub const DECK: f64 = 20.0;
 const UNDERSIDE: f64 = 18.0;
-const WEST: f64 = -20.0;
-const EAST: f64 = 140.0;
+pub const WEST: f64 = -20.0;
+pub const EAST: f64 = 140.0;
 
 impl Bridge {
-    fn new(name: &'static str) -> Bridge {
+    /// Water and a deck's underside.
+    pub fn new(name: &'static str) -> Bridge {
         let mut bridge = Bridge { name, drawing: Drawing::new(), script: Vec::new() };
         let water = bridge.line((WEST - 4.0, 0.0), (EAST + 4.0, 0.0));
         bridge.mark_construction(water);
@@ -34,7 +37,7 @@ impl Bridge {
         self.drawing.add_point(x, y)
     }
 
-    fn line(&mut self, from: (f64, f64), to: (f64, f64)) -> Id {
+    pub fn line(&mut self, from: (f64, f64), to: (f64, f64)) -> Id {
         let (a, b) = (self.point(from), self.point(to));
         self.drawing.add_curve(Kind::Line { a, b })
     }
@@ -49,12 +52,16 @@ impl Bridge {
         curve.expect("it was just added").construction = true;
     }
 
-    fn then(&mut self, operation: Operation, curve: Id, (x, y): (f64, f64)) {
+    pub fn relate(&mut self, relation: Relation) {
+        self.drawing.relations.push(relation);
+    }
+
+    pub fn then(&mut self, operation: Operation, curve: Id, (x, y): (f64, f64)) {
         self.script.push(Edit { operation, curve, x, y });
     }
 
     /// A pier of two lines from the water to the deck.
-    fn pier(&mut self, x: f64) {
+    pub fn pier(&mut self, x: f64) {
         self.line((x - 1.5, 0.0), (x - 1.5, UNDERSIDE));
         self.line((x + 1.5, 0.0), (x + 1.5, UNDERSIDE));
     }
@@ -104,7 +111,20 @@ fn round_arch() -> Bridge {
     }
     bridge.then(Operation::Split, deck, (60.0, DECK));
     bridge.then(Operation::Split, rib, (60.0, 40.0));
+    bridge.relate(Relation::Length { line: deck, value: EAST - WEST });
+    water_gauge(&mut bridge, 65.0);
     bridge
+}
+
+/// A staff in the river whose height is measured twice. Extended up to the deck it would have another,
+/// and 19 names the first of the two measures.
+fn water_gauge(bridge: &mut Bridge, x: f64) {
+    let height = 6.0;
+    let (a, b) = (bridge.point((x, 0.0)), bridge.point((x, height)));
+    let staff = bridge.drawing.add_curve(Kind::Line { a, b });
+    bridge.relate(Relation::Distance { p: a, q: b, value: height });
+    bridge.relate(Relation::Length { line: staff, value: height });
+    bridge.then(Operation::Extend, staff, (x, height));
 }
 
 /// A circle whose lower half is cut off at the springing.
@@ -147,7 +167,17 @@ fn free_arch() -> Bridge {
     bridge.then(Operation::Trim, wheel, (58.0, DECK + 3.2));
     bridge.then(Operation::Split, wheel, (58.0, DECK + 3.2));
     bridge.then(Operation::Split, deck, (60.0, DECK));
+    signpost(&mut bridge, -2.0);
     bridge
+}
+
+/// A post with an arm that a visitor put next to its top: nearer than 0.000001, so that the arm, extended,
+/// is pinned to the top, but not within 0.0000001, so that the pin is not met. 19 names the pin.
+fn signpost(bridge: &mut Bridge, x: f64) {
+    let height = DECK + 12.0;
+    bridge.line((x, DECK), (x, height + 5e-7));
+    let arm = bridge.line((x + 8.0, height), (x + 3.0, height));
+    bridge.then(Operation::Extend, arm, (x + 3.0, height));
 }
 
 /// A conic under the deck, and a column that is extended down to its crown.
@@ -171,18 +201,24 @@ fn free_lamp(bridge: &mut Bridge, x: f64) {
 #[cfg(test)]
 mod tests {
     use super::*;
-    use mulkefi::Desk;
+    use mulkefi::{read, Desk};
 
-    /// The numbers by which edits of a script are refused.
-    fn refusals(bridge: &Bridge) -> Vec<u16> {
+    /// The refusals of a script's edits, by number and place, and how many relations the desk then has.
+    fn refusals(bridge: &Bridge) -> (Vec<(u16, Option<usize>)>, usize) {
         let mut desk = Desk::start(&bridge.drawing.to_image()).expect("a bridge is a good image");
         let outcomes = bridge.script.iter().map(|edit| desk.edit(edit));
-        outcomes.filter_map(|outcome| outcome.err().map(|refusal| refusal.number())).collect()
+        let refusals = outcomes.filter_map(Result::err);
+        let refusals = refusals.map(|refusal| (refusal.number(), refusal.place())).collect();
+        (refusals, read(desk.image()).expect("a desk holds a good image").relations.len())
     }
 
     #[test]
-    fn scripts_are_applied() {
-        assert_eq!(refusals(&round_arch()), []);
-        assert_eq!(refusals(&free_arch()), [11, 11]);
+    fn scripts_are_applied_but_for_what_they_say() {
+        // The deck's length is at place 0, the gauge's two measures are behind it.
+        assert_eq!(refusals(&round_arch()).0, [(19, Some(1))]);
+        let (refused, relations) = refusals(&free_arch());
+        assert_eq!(refused, [(11, None), (11, None), (19, Some(relations))]);
+        // The handrail's length is at place 0, the posts' are behind it.
+        assert_eq!(refusals(&footbridge()).0, [(13, Some(3)), (13, Some(5))]);
     }
 }

@@ -1,13 +1,17 @@
 //! A simulated hall to try desk and wall in: `hall [SEED [PICTURE]]`, the picture being `target/hall.svg` where
 //! none is named.
 //!
-//! Two bridges each have a desk, a wall and a radio between them that loses, repeats and reorders.
+//! Three bridges each have a desk, a wall and a radio between them that loses, repeats and reorders.
 //! The desk gets a list of edits that make the bridge whole, then random ones; the wall catches up.
-//! A table counts what happened, and a picture shows each desk beside its wall.
+//! A table counts what happened, and a picture shows each desk beside its wall. Where the desk is
+//! refused by 13 or 19, the relation that is named is highlighted, and looked for in plain Rust too.
 
 mod bridges;
 mod cut_away;
 mod edits;
+mod first_unmet;
+mod footbridge;
+mod highlight;
 mod picture;
 mod radio;
 mod random;
@@ -38,7 +42,8 @@ fn main() -> ExitCode {
     }
 }
 
-/// Answers whether every wall ended with its desk's image, and every circle that was cut as a ring.
+/// Answers whether every wall ended with its desk's image, every circle that was cut as a ring, and
+/// whether every relation that was named was the first that is not met.
 fn run(seed: u64, file: &str) -> Result<bool, Box<dyn std::error::Error>> {
     let mut simulations = Vec::new();
     for (place, bridge) in bridges::all().into_iter().enumerate() {
@@ -63,6 +68,8 @@ fn print_table(simulations: &[Simulation]) {
     count("accepted", |tally| tally.accepted);
     count("pieces cut away", |tally| tally.cut_away);
     count("refused", |tally| tally.refused.values().sum());
+    count("refused by a relation", |tally| tally.named);
+    count("that is the first not met", |tally| tally.named_first);
     count("messages sent", |tally| tally.sent);
     count("lost by the radio", |tally| tally.lost);
     count("repeated", |tally| tally.repeated);

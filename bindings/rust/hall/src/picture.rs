@@ -22,16 +22,47 @@ pub fn of(simulations: &[Simulation]) -> String {
         panel(&mut sheet, (GAP, top), &desk, &simulation.desk_snapshot());
         panel(&mut sheet, (2.0 * GAP + WIDTH, top), &wall, &simulation.wall_snapshot());
     }
-    let foot = "Red and dashed: pieces cut away. Brown: arcs and circles. Blue: freeform curves.";
+    let foot = "Red and dashed: pieces cut away. Brown: arcs and circles. Blue: freeform curves. \
+                Wide and pink: the relation that the desk's last refusal by 13 or 19 names, as it was then.";
     sheet.text(Position::new(GAP, rows * row_height + CAPTION), foot);
     sheet.finish()
 }
 
 fn panel(sheet: &mut Sheet, (left, top): (f64, f64), caption: &str, snapshot: &Snapshot) {
-    sheet.text(Position::new(left, top + CAPTION - 9.0), caption);
+    let named = snapshot.highlight.as_ref().map(|highlight| format!("; {}", highlight.caption()));
+    let caption = format!("{caption}{}", named.unwrap_or_default());
+    sheet.text(Position::new(left, top + CAPTION - 9.0), &caption);
     let low = Position::new(left, top + CAPTION);
     let area = Bounds { low, high: Position::new(left + WIDTH, top + CAPTION + HEIGHT) };
     let mut panel = sheet.panel(area, VIEW);
     snapshot.cut_away.iter().for_each(|piece| panel.cut_away(piece));
     panel.drawing(&snapshot.drawing);
+    if let Some(highlight) = &snapshot.highlight {
+        highlight.draw(&mut panel);
+    }
+}
+
+#[cfg(test)]
+mod tests {
+    use super::*;
+    use crate::bridges;
+
+    /// What is highlighted after the script's last refusal, which random edits follow in a whole run.
+    #[test]
+    fn the_desks_panel_alone_is_highlighted() {
+        let expected = [
+            "refused by 19, relation 1: Distance of ",
+            "the pin that the edit would have added",
+            "refused by 13, relation 5: Length of ",
+        ];
+        for (bridge, words) in bridges::all().into_iter().zip(expected) {
+            let mut simulation = Simulation::new(bridge, 1).expect("a bridge is a good image");
+            simulation.run_script().expect("the wall is refused nothing but what is ahead");
+            let picture = of(&[simulation]);
+            assert_eq!(picture.matches(words).count(), 1, "{words}");
+            assert!(picture.contains("class=\"highlight"), "{words}");
+            let (_, after) = picture.split_once(", wall, ").expect("the wall's caption");
+            assert!(!after.contains("class=\"highlight"), "{words}");
+        }
+    }
 }

@@ -3,6 +3,8 @@
 use crate::bridges::Bridge;
 use crate::cut_away::cut_away;
 use crate::edits;
+use crate::first_unmet::{first_unmet, first_unmet_after};
+use crate::highlight::Highlight;
 use crate::radio::{Message, Radio};
 use crate::random::Random;
 use crate::rings::{RingCounts, Rings};
@@ -20,6 +22,9 @@ pub struct Tally {
     pub accepted: usize,
     pub cut_away: usize,
     pub refused: BTreeMap<u16, usize>,
+    /// Refusals that name a relation, and those of them that name the first that is not met.
+    pub named: usize,
+    pub named_first: usize,
     pub sent: usize,
     pub lost: usize,
     pub repeated: usize,
@@ -38,10 +43,12 @@ impl Tally {
     }
 }
 
-/// The drawing that a device shows, and the pieces that were cut away from it.
+/// The drawing that a device shows, the pieces that were cut away from it, and the relation that the last
+/// refusal by 13 or 19 names.
 pub struct Snapshot {
     pub drawing: Drawing,
     pub cut_away: Vec<Stroke>,
+    pub highlight: Option<Highlight>,
 }
 
 pub struct Simulation {
@@ -54,6 +61,7 @@ pub struct Simulation {
     messages: Vec<Message>,
     desk_cut_away: Vec<Stroke>,
     wall_cut_away: Vec<Stroke>,
+    highlight: Option<Highlight>,
     desk_rings: Rings,
     wall_rings: Rings,
     pub tally: Tally,
@@ -73,14 +81,13 @@ impl Simulation {
             messages: Vec::new(),
             desk_cut_away: Vec::new(),
             wall_cut_away: Vec::new(),
+            highlight: None,
             tally: Tally::default(),
         })
     }
 
     pub fn run(&mut self) -> Result<(), Refusal> {
-        for edit in self.bridge.script.clone() {
-            self.ask(&edit)?;
-        }
+        self.run_script()?;
         for _ in 0..RANDOM_EDITS {
             let edit = edits::random(&mut self.random, &drawing_of(self.desk.image()));
             self.ask(&edit)?;
@@ -90,12 +97,16 @@ impl Simulation {
         self.catch_up()
     }
 
+    pub fn run_script(&mut self) -> Result<(), Refusal> {
+        self.bridge.script.clone().iter().try_for_each(|edit| self.ask(edit))
+    }
+
     /// The desk's host: an accepted edit's message goes to the radio, and some arrive.
     fn ask(&mut self, edit: &Edit) -> Result<(), Refusal> {
         self.tally.asked += 1;
         let before = drawing_of(self.desk.image());
         match self.desk.edit(edit) {
-            Err(refusal) => *self.tally.refused.entry(refusal.number()).or_default() += 1,
+            Err(refusal) => self.follow_refusal(&before, edit, refusal),
             Ok(accepted) => {
                 self.tally.accepted += 1;
                 let after = drawing_of(self.desk.image());
@@ -108,6 +119,19 @@ impl Simulation {
             }
         }
         Ok(())
+    }
+
+    /// The desk's host: a relation that is named is highlighted, and looked for in plain Rust too.
+    fn follow_refusal(&mut self, drawing: &Drawing, edit: &Edit, refusal: Refusal) {
+        *self.tally.refused.entry(refusal.number()).or_default() += 1;
+        let first = match refusal {
+            Refusal::Unmet { .. } => first_unmet(drawing),
+            Refusal::Conflict { .. } => first_unmet_after(drawing, edit),
+            _ => return,
+        };
+        self.tally.named += 1;
+        self.tally.named_first += usize::from(refusal.place() == first);
+        self.highlight = Highlight::of(refusal, drawing, edit).or(self.highlight.take());
     }
 
     fn send(&mut self, message: Message) -> Result<(), Refusal> {
@@ -157,10 +181,12 @@ impl Simulation {
         self.desk.image() == self.wall.image() && self.desk.count() == self.wall.count()
     }
 
-    /// Whether the wall agrees with the desk, and every starting circle that was cut is a ring at both.
+    /// Whether the wall agrees with the desk, every starting circle that was cut is a ring at both, and
+    /// every relation that a refusal named was the first that is not met.
     pub fn passes(&self) -> bool {
         let all_closed = |counts: RingCounts| counts.closed == counts.cut;
-        self.agrees() && all_closed(self.desk_rings()) && all_closed(self.wall_rings())
+        let all_first = self.tally.named_first == self.tally.named;
+        self.agrees() && all_closed(self.desk_rings()) && all_closed(self.wall_rings()) && all_first
     }
 
     pub fn desk_rings(&self) -> RingCounts {
@@ -180,11 +206,15 @@ impl Simulation {
     }
 
     pub fn desk_snapshot(&self) -> Snapshot {
-        Snapshot { drawing: drawing_of(self.desk.image()), cut_away: self.desk_cut_away.clone() }
+        let cut_away = self.desk_cut_away.clone();
+        let highlight = self.highlight.clone();
+        Snapshot { drawing: drawing_of(self.desk.image()), cut_away, highlight }
     }
 
+    /// No message of an edit that was refused comes to the wall, and nothing is highlighted there.
     pub fn wall_snapshot(&self) -> Snapshot {
-        Snapshot { drawing: drawing_of(self.wall.image()), cut_away: self.wall_cut_away.clone() }
+        let cut_away = self.wall_cut_away.clone();
+        Snapshot { drawing: drawing_of(self.wall.image()), cut_away, highlight: None }
     }
 }
 
@@ -207,11 +237,14 @@ mod tests {
     #[test]
     fn walls_catch_up_whatever_the_radio_does() {
         for seed in 0..100 {
-            for bridge in bridges::all() {
-                let simulation = run(bridge, seed);
+            let simulations = bridges::all().map(|bridge| run(bridge, seed));
+            for simulation in &simulations {
                 assert!(simulation.agrees(), "seed {seed}");
                 assert_eq!(simulation.desk_cut_away, simulation.wall_cut_away, "seed {seed}");
-                assert!(simulation.tally.lost > 0 && simulation.tally.repeated > 0, "seed {seed}");
+            }
+            // The footbridge has few messages, all of which may come once.
+            for Simulation { tally, .. } in &simulations[..2] {
+                assert!(tally.lost > 0 && tally.repeated > 0, "seed {seed}");
             }
         }
     }
@@ -221,8 +254,8 @@ mod tests {
     #[test]
     fn circles_that_are_cut_are_rings_at_desk_and_wall() {
         for seed in 0..100 {
-            let [round, free] = bridges::all().map(|bridge| run(bridge, seed));
-            for simulation in [&round, &free] {
+            let [round, free, foot] = bridges::all().map(|bridge| run(bridge, seed));
+            for simulation in [&round, &free, &foot] {
                 let at_desk = simulation.desk_rings();
                 assert_eq!(at_desk.closed, at_desk.cut, "seed {seed}");
                 assert_eq!(simulation.wall_rings(), at_desk, "seed {seed}");
@@ -235,7 +268,7 @@ mod tests {
 
     #[test]
     fn a_ring_that_is_open_at_the_wall_alone_is_noticed() {
-        let [bridge, _] = bridges::all();
+        let [bridge, ..] = bridges::all();
         let mut simulation = run(bridge, 1);
         assert!(simulation.passes());
         let drawing = drawing_of(simulation.wall.image());
@@ -247,5 +280,36 @@ mod tests {
         assert!(!simulation.passes());
         assert!(simulation.agrees());
         assert_eq!(simulation.desk_rings().closed, simulation.desk_rings().cut);
+    }
+
+    #[test]
+    fn every_named_relation_is_the_first_that_is_not_met() {
+        for seed in 0..100 {
+            for bridge in bridges::all() {
+                let simulation = run(bridge, seed);
+                let Tally { named, named_first, refused, .. } = &simulation.tally;
+                let with_a_place: usize = [13, 19].iter().filter_map(|n| refused.get(n)).sum();
+                assert_eq!((*named_first, *named), (with_a_place, with_a_place), "seed {seed}");
+                assert!(*named > 0, "seed {seed}: the script has one");
+                assert!(simulation.desk_snapshot().highlight.is_some(), "seed {seed}");
+                assert!(simulation.wall_snapshot().highlight.is_none(), "seed {seed}");
+            }
+        }
+    }
+
+    /// Of the gauge's two measures, and of the two false posts', the second is named in place of the first.
+    #[test]
+    fn a_relation_that_is_not_the_first_is_noticed() {
+        let [round, _, foot] = bridges::all();
+        let second = [(round, Refusal::Conflict { place: 2 }), (foot, Refusal::Unmet { place: 6 })];
+        for (bridge, refusal) in second {
+            let drawing = bridge.drawing.clone();
+            let extend = *bridge.script.last().expect("a script has edits");
+            let mut simulation = run(bridge, 1);
+            assert!(simulation.passes());
+            simulation.follow_refusal(&drawing, &extend, refusal);
+            assert!(!simulation.passes(), "{refusal}");
+            assert!(simulation.agrees());
+        }
     }
 }
