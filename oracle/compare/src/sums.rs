@@ -182,7 +182,7 @@ impl<I: Implementation> Subject for Sums<I> {
     fn oracle(case: &Case, counts: &mut Counts) -> u32 {
         let replies = case.replies();
         counts.add(case.row(), case.outcome(&replies));
-        if let Ok(Err(Refused { place: Some(_), .. })) = replies {
+        if let (Ok(Err(Refused { place: Some(_), .. })), 1..) = (&replies, case.times) {
             places::count(case.place_rows(), case.unmet(), counts);
         }
         sum(replies, case.times)
@@ -226,7 +226,7 @@ mod tests {
     }
 
     /// Within so many cases, half of which are trims and splits, which know no place.
-    const ENOUGH: usize = 5_000;
+    const ENOUGH: usize = 20_000;
 
     fn found<F: PlaceFault>() -> String {
         let compared = subject::run::<Sums<Faulty<F>>>(ENOUGH, 7);
