@@ -21,7 +21,7 @@ use Rattle.sketch.proofs.CurveKind as K
 use Rattle.sketch.specs.Lists.{ite, every, guardNumber}
 use Rattle.sketch.specs.Blanks.{noPoint, noCurve}
 use Rattle.sketch.specs.Lookup.{among}
-use Rattle.sketch.specs.Drawing.{Drawing, limits, curveIn}
+use Rattle.sketch.specs.Drawing.{Drawing, limits}
 use Rattle.sketch.specs.Facts.{Valid}
 use Rattle.sketch.proofs.Bools.{never}
 use Rattle.sketch.proofs.Facts.{fault-valid}
@@ -41,12 +41,12 @@ use Rattle.relations.proofs.Unmoved.{named-enough}
 use Rattle.edit_plan.specs.declared.Pin.{Pin}
 use Rattle.edit_plan.specs.declared.Plan.the-variants as P
 use Rattle.edit_plan.specs.declared.Removed.{Removed}
-use Rattle.edit_plan.specs.Outcome.{Outcome, refused, accepted, guard}
+use Rattle.edit_plan.specs.Outcome.{refused, accepted, guard}
 use Rattle.edit_plan.specs.Tables.{okPosition, moved, uses, others}
 use Rattle.edit_plan.specs.Changes.{pinRelation}
-use Rattle.edit_plan.specs.Steps.{endsOf, isLine, nothing}
+use Rattle.edit_plan.specs.Steps.{isLine, nothing}
 use Rattle.edit_plan.specs.Suited.{Pinned}
-use Rattle.edit_plan.specs.ApplyPlan.{checkMet, moveEnd, applyPlanTo, applyPlanAt, applyPlan}
+use Rattle.edit_plan.specs.ApplyPlan.{checkMet, moveEnd, applyPlanTo, applyPlanAt}
 use Rattle.edit_plan.proofs.Bridge.{unlessRefused}
 use Rattle.edit_plan.proofs.Loops.{look-at}
 use Rattle.apply.specs.declared.Applied.{Applied}
@@ -65,7 +65,7 @@ use Rattle.extend.specs.Extend.{extendCurve}
 use Rattle.extend.specs.ExtendAnswer.{applyPlanned, reportedPlace}
 use Rattle.extend.specs.ExtendContracts.{planOf}
 use Rattle.extend.specs.ImageExtend.{ifFits, OutcomeWritten, refusedAt, extendIn, ExtendWritten}
-use Rattle.extend.specs.ImageExtendContracts.{FreeEnd, MovesEnd, ExtendIn, PlansExtendIn, moveIn, MoveAnswer, MovesIfMet}
+use Rattle.extend.specs.ImageExtendContracts.{MovesEnd, ExtendIn, PlansExtendIn, moveIn, MoveAnswer, MovesIfMet}
 use Rattle.extend.proofs.Places.{Placeless, placeless-below, placeless-above, place-none, place-13, place-after}
 use Rattle.extend.proofs.Refusing.{extend-number}
 use Rattle.extend.proofs.ExtendPlans.{others-than-line, not-line, unmet-line}

@@ -2,12 +2,12 @@
 use mathlib.Core.Path.{_≡_, refl, sym, ap, _∙_, subst}
 use mathlib.Core.Bool.{Bool, true, false, _&&_, not}
 use mathlib.Core.List.{List}
-use mathlib.Core.Option.{some, none}
+use mathlib.Core.Option.{some}
 use Prim.Native.Nat.{ℕ, _/_, _≤_, _<_}
 use native.Mathlib.Omega.{arith}
-use lib.ListN.{length, getD}
+use lib.ListN.{length}
 use lib.Dec.{eqb, leb}
-use borrow.Author.Tests.{eq-eqb, ne-eqb, not-true, not-false}
+use borrow.Author.Tests.{ne-eqb, not-true, not-false}
 use Rattle.big_endian.specs.Laws.{Bytes}
 use Rattle.geom.specs.declared.Vec2.{Vec2}
 use Rattle.sketch.specs.declared.Curve.{Curve}
@@ -21,7 +21,6 @@ use Rattle.image.specs.Image as I
 use Rattle.image.specs.Records.{curveSize}
 use Rattle.image.specs.Encode.{encode, drawingSize}
 use Rattle.rows.specs.Rows.{curveTable, idsIn, curvesIn}
-use Rattle.rows.proofs.Rows.{length-rows-in}
 use Rattle.rows.proofs.GoodTables.{curves-in, curves-count}
 use Rattle.rows.proofs.Holds.{holds-curves, held-curves, curve-here, curve-missing}
 use Rattle.message.specs.declared.Operation.{Operation}
@@ -49,7 +48,7 @@ use Rattle.planning.specs.Planning.{guardPlan, trimCurve, splitCurve}
 use Rattle.planning.proofs.Suits.{trim-curve-suited, split-curve-suited}
 use Rattle.extend.specs.declared.EditedImage.{EditedImage}
 use Rattle.extend.specs.ExtendAnswer.{applyPlanned, reportedPlace}
-use Rattle.extend.specs.ImageExtend.{ifFits, numberIn, OutcomeWritten, refusedAt, extendIn, ExtendWritten}
+use Rattle.extend.specs.ImageExtend.{ifFits, numberIn, OutcomeWritten, refusedAt, ExtendWritten}
 use Rattle.extend.proofs.Places.{Placeless, placeless-below, placeless-above, place-none}
 use Rattle.extend.proofs.OutcomesWritten.{editedBy, written-outcome, refused-outcome, not-accepted}
 use Rattle.extend.proofs.ImageMoves.{image-valid}

@@ -191,9 +191,10 @@ module _ (d : Drawing) (t : ℕ) (p : Vec2) where
   cut-number op ne n q = go (planEdit op d t p) refl (cut-planned op ne) q
     where
       of-applied : (k : ℕ) → among k cutting ≡ true → OfCut k
-      of-applied k h =
-          (λ z. never (subst (λ (j : ℕ). among j cutting ≡ true) z h),
-          record { not-13 = λ z. never (subst (λ (j : ℕ). among j cutting ≡ true) z h); not-19 = λ z. never (subst (λ (j : ℕ). among j cutting ≡ true) z h) })
+      of-applied k h = (
+        λ z. never (subst (λ (j : ℕ). among j cutting ≡ true) z h),
+        record { not-13 = λ z. never (subst (λ (j : ℕ). among j cutting ≡ true) z h); not-19 = λ z. never (subst (λ (j : ℕ). among j cutting ≡ true) z h) },
+      )
 
       go : (o : PlanResult) → planEdit op d t p ≡ o → PlanNumber OfCut o → applyPlanned allMet limits d t o ≡ refused n → OfCut n
       go (Refused k) e h q = let y : k ≡ n = cc in subst OfCut y h

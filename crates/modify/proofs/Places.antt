@@ -1,6 +1,6 @@
 -- The place that comes with an edit's 13 and 19 is that of a relation which is not met there, all before it being met (`place-before`, `place-after`), and it is
 -- never above the limit of relations (`place-within`). Assumes nothing.
-use mathlib.Core.Path.{_≡_, refl, sym, ap, _∙_, subst}
+use mathlib.Core.Path.{_≡_, refl, sym, _∙_, subst}
 use mathlib.Core.Bool.{Bool, true, false}
 use mathlib.Core.List.{List}
 use Prim.Native.Nat.{ℕ, zero, suc, _≤_, _<_}

@@ -18,8 +18,8 @@ use Rattle.edit_plan.specs.declared.Removed.{Removed}
 use Rattle.edit_plan.specs.Steps.{nothing}
 use Rattle.agreement.specs.Machines as M
 use Rattle.agreement.specs.Machines.{State, stateAfter, DeskStepValid, DeskRun, messages, WallStepValid, WallRun, wallTransition, Delivered}
-use Rattle.replication.specs.Protocol.{Edit, messageFor, protocol}
-use Rattle.replication.specs.Outcomes.{CallOutcome, refused, old, updated, onImage, deskOn, OutcomeSound, messageAfter}
+use Rattle.replication.specs.Protocol.{messageFor, protocol}
+use Rattle.replication.specs.Outcomes.{CallOutcome, refused, old, updated, onImage, deskOn, messageAfter}
 use Rattle.replication.specs.Transitions as R
 use Rattle.replication.specs.Transitions.{Memory, stateIn, Ready, StartsWith, memoryAfter}
 use Rattle.replication.specs.Replication.{ReplicationCorrect}

@@ -32,7 +32,7 @@ use Rattle.replication.proofs.OutcomePlaces.{within, wallPlace, reply-within}
 use Rattle.replication.proofs.StartCases.{good-size}
 use Rattle.replication.proofs.Steps.{Holding, ready-by, desk-step, wall-step}
 use Rattle.probe.specs.Edits.{withPlace, repeated}
-use Rattle.probe.specs.Replicas.{imageState, deskTally, deskAdds, wallTally, wallAdds}
+use Rattle.probe.specs.Replicas.{imageState, deskTally, deskAdds, wallTally}
 
 -- a place within the limit stands whole above the number
 with-place : (n place j p q : ℕ) → n ≡ j → place ≡ p → p ≤ limits .relations → q ≡ n + place % 65536 * 65536 → q ≡ withPlace j p

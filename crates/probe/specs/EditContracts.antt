@@ -5,11 +5,9 @@ use mathlib.Core.List.{List}
 use lib.ListN.{length}
 use Rattle.big_endian.specs.Fields.{over}
 use Rattle.geom.specs.declared.Vec2.{Vec2}
-use Rattle.sketch.specs.Drawing.{limits}
 use Rattle.image.specs.Image.{imageFault, drawingOf, maxImageSize}
 use Rattle.message.specs.declared.Operation.{Operation}
 use Rattle.edit_plan.specs.declared.Removed.{Removed}
-use Rattle.modify.specs.Edits.{editOf}
 use Rattle.probe.specs.Edits.{report, repeated, editAdds}
 
 -- 12, or all there is

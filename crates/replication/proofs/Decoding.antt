@@ -1,5 +1,5 @@
 -- A message is read as the edit and the number that it was made of, where the edit was accepted.
-use mathlib.Core.Path.{_≡_, refl, ap}
+use mathlib.Core.Path.{_≡_, ap}
 use mathlib.Core.Bool.{Bool, true, false, _&&_}
 use Prim.Native.Nat.{ℕ, _≤_, _<_}
 use native.Mathlib.Omega.{arith}
@@ -15,7 +15,7 @@ use Rattle.message.proofs.MessageRoundTrips.{parse-encode}
 use Rattle.image.specs.Stored.{Id}
 use Rattle.relations.specs.Met.{allMet}
 use Rattle.edit_plan.specs.declared.Removed.{Removed}
-use Rattle.edit_plan.specs.Outcome.{Outcome, accepted, guard}
+use Rattle.edit_plan.specs.Outcome.{accepted}
 use Rattle.modify.specs.Edits.{editOf}
 use Rattle.modify.proofs.Planned.{guard-accepted, edit-planned}
 use Rattle.chains.proofs.Edits.{Planned, plan-target}

@@ -22,14 +22,14 @@ use Rattle.edit_plan.specs.Tables.{okPosition}
 use Rattle.extend.specs.declared.EditedImage.{EditedImage}
 use Rattle.extend.proofs.Places.{placeless-above, place-none}
 use Rattle.modify.specs.Edits.{planOnFound, editOf}
-use Rattle.modify.specs.ImageEdits.{editImage, EditWritten}
+use Rattle.modify.specs.ImageEdits.{EditWritten}
 use Rattle.modify.proofs.Planned.{guard-accepted}
 use Rattle.agreement.specs.Machines.{maxEditNumber, Call, withCount}
 use Rattle.replication.specs.declared.Replica.{Replica}
 use Rattle.replication.specs.declared.DeskReply.the-variants as Desk
 use Rattle.replication.specs.declared.DeskTransition.{DeskTransition}
 use Rattle.replication.specs.Protocol.{Edit, isPick, place, messageFor}
-use Rattle.replication.specs.Outcomes.{CallOutcome, refused, updated, deskOutcome, deskOn, numberOf, OutcomeSound, messageAfter}
+use Rattle.replication.specs.Outcomes.{CallOutcome, refused, deskOutcome, deskOn, OutcomeSound, messageAfter}
 use Rattle.replication.specs.Transitions.{Memory, memory, imageIn, firstFault, memoryAfter, deskReplyTo, deskCallOutcome, DeskEdits}
 use Rattle.replication.specs.Contracts.{deskRefusing}
 use Rattle.replication.proofs.Picks.{is-number, decided-place}

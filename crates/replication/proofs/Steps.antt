@@ -1,5 +1,5 @@
 -- A call on a memory that is ready is a step of the machines, and leaves one that is ready. Assumes nothing.
-use mathlib.Core.Path.{_≡_, refl, sym, ap, ap₂, _∙_, subst}
+use mathlib.Core.Path.{_≡_, refl, sym, ap, _∙_, subst}
 use mathlib.Core.Bool.{Bool, true, false}
 use mathlib.Core.List.{List}
 use Prim.Native.Nat.{ℕ, _+_, _≤_}
@@ -10,7 +10,6 @@ use lib.Seq.{take-all, take-at}
 use borrow.Author.Tests.{le-leb, leb-true, leb-false}
 use Rattle.big_endian.specs.Fields.{over}
 use Rattle.big_endian.specs.Laws.{length-over}
-use Rattle.sketch.specs.Lists.{ite}
 use Rattle.sketch.specs.Drawing.{Drawing, limits}
 use Rattle.sketch.specs.Facts.{Valid}
 use Rattle.image.specs.Image as I

@@ -1,17 +1,14 @@
 -- The ways out of a delivery.
 use mathlib.Core.Path.{_≡_, refl, sym, ap, _∙_, subst}
-use mathlib.Core.Bool.{Bool, true, false, not, _&&_}
+use mathlib.Core.Bool.{false, not, _&&_}
 use mathlib.Core.List.{List}
 use Prim.Native.Nat.{ℕ, zero, suc, _+_, _≤_, _<_}
 use native.Mathlib.Omega.{arith}
 use lib.ListN.{length}
-use lib.Dec.{eqb}
 use lib.Ieee.{nanBits, binary64}
 use borrow.Author.Tests.{le-leb, lt-leb, eq-eqb, ne-eqb}
-use Rattle.sketch.specs.Lists.{guardNumber}
 use Rattle.sketch.specs.Drawing.{Drawing, limits}
 use Rattle.image.specs.Image as I
-use Rattle.image.specs.Encode.{drawingSize}
 use Rattle.image.proofs.RoundTrips.{image-kept, size-back, result-none}
 use Rattle.message.specs.declared.Message.{Message}
 use Rattle.message.specs.declared.MessageRead.the-variants.{Accepted, Refused}
@@ -30,9 +27,9 @@ use Rattle.replication.specs.declared.Replica.{Replica}
 use Rattle.replication.specs.declared.WallReply.the-variants as Wall
 use Rattle.replication.specs.declared.WallTransition.{WallTransition}
 use Rattle.replication.specs.Protocol.{edit, place, editIn, decodedOf, protocol}
-use Rattle.replication.specs.Outcomes.{CallOutcome, refused, old, updated, onImage, wallOutcome, wallOn, numberOf, OutcomeSound}
+use Rattle.replication.specs.Outcomes.{CallOutcome, refused, old, onImage, wallOutcome, wallOn, OutcomeSound}
 use Rattle.replication.specs.Transitions.{Memory, memory, imageIn, firstFault, memoryAfter, wallCall, wallCallOutcome, wallReplyTo, WallDelivers}
-use Rattle.replication.specs.Contracts.{wallRefusing, OldAnswered, wallAnswer, MessageApplied, DeliversMessage}
+use Rattle.replication.specs.Contracts.{wallRefusing, OldAnswered, MessageApplied, DeliversMessage}
 use Rattle.replication.proofs.Picks.{is-pick, nan-refused}
 use Rattle.replication.proofs.CallOutcomes.{first-fault-own, first-some, on-fault, on-first, applied, on-image, EditOutcome, edit-outcome}
 
