@@ -55,7 +55,7 @@ pub struct Removed {
 }
 
 // What an edit leaves. Where it is refused, by a number other than 0, that is the sketch it was given. A place comes with the
-// numbers 13 and 19: that of a relation that is not met.
+// numbers 13 and 19: that of the first relation that is not met, with 19 in the table that the edit would have left.
 pub struct Edited {
     pub sketch: Sketch,
     pub refusal: u8,

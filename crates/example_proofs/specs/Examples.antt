@@ -10,8 +10,9 @@ use Rattle.float.specs.declared.Magnitude.the-variants.{Largest, NotFinite}
 use Rattle.bernstein.specs.Roots as R
 use Rattle.bernstein.specs.Roots.{rootsOf, found}
 use Rattle.geom.specs.Plane.{vec}
+use Rattle.sketch.specs.declared.Relation.{Relation}
 use Rattle.sketch.specs.declared.Relation.the-variants.{PointOnCurve, Collinear, Length, Distance}
-use Rattle.sketch.specs.Drawing.{limits}
+use Rattle.sketch.specs.Drawing.{Drawing, limits}
 use Rattle.message.specs.declared.Operation.the-variants.{Trim, Split, Extend}
 use Rattle.image.specs.Image as I
 use Rattle.sketch_image.specs.SketchImage.{emptyDrawing}
@@ -19,8 +20,8 @@ use Rattle.image.specs.Encode.{encode}
 use Rattle.edit_plan.specs.declared.Removed.{Removed}
 use Rattle.edit_plan.specs.Outcome.{refused, accepted}
 use Rattle.edit_plan.specs.Steps.{nothing}
-use Rattle.modify.specs.Edits.{editOf}
-use Rattle.example_proofs.specs.Drawings.{mkVec, mkPoint, below, mkLine, mkDrawing, L, T, T5}
+use Rattle.modify.specs.Edits.{editOf, editPlace}
+use Rattle.example_proofs.specs.Drawings.{mkVec, mkPoint, below, mkLine, mkDrawing, L, T, upTo, T5}
 
 -- ---- images
 
@@ -32,6 +33,26 @@ emptyImage version = 0x00 ∷ 0x00 ∷ 0x00 ∷ 0x0b ∷ version ∷ 0x00 ∷ 0x
 
 abbrev pub removed : ℕ → ℕ → ℕ → Removed
 removed c a b = record { curve = c; from = a; to = b }
+
+-- an extend of the line 3 at (2, 0) is refused by a number, with a place
+abbrev pub extendRefused : Drawing → ℕ → ℕ → Type 0
+extendRefused d n place = (editOf Extend limits d 3 (mkVec 2 0) ≡ refused n) × (editPlace Extend d 3 (mkVec 2 0) n ≡ place)
+
+-- the line across is 2 long, not 3, and the level line 2, not 4
+abbrev pub unmetBefore : List Relation
+unmetBefore = Length 6 (asFloat 2) ∷ Length 6 (asFloat 3) ∷ Length 3 (asFloat 4) ∷ []
+
+-- the level line is 2 long, and so far are its ends apart, until it is extended
+abbrev pub unmetAfter : List Relation
+unmetAfter = Length 6 (asFloat 2) ∷ Length 3 (asFloat 2) ∷ Distance 1 2 (asFloat 2) ∷ []
+
+-- met before the extend and after it
+abbrev pub metBoth : List Relation
+metBoth = PointOnCurve 1 3 ∷ PointOnCurve 4 6 ∷ []
+
+-- 2^−21, which is between 1e-7 and 1e-6: so near to it the extended line is pinned to the end of the line across, and the pin is not met
+abbrev pub nearZero : Float
+nearZero = ofBits binary64 0x3ea0_0000_0000_0000
 
 -- ---- roots
 
@@ -69,8 +90,12 @@ pub record Examples : Type 0 where
   pub root-at-the-start : rootsOf (0f ∷ 1f ∷ []) 100 ≡ found (0f ∷ []) 100
   pub root-touched : rootsOf (1f ∷ neg 1f ∷ 1f ∷ []) 100 ≡ found (nearHalf ∷ []) 53
   pub extended :
-      editOf Extend limits T5 3 (mkVec 2 0)
+      editOf Extend limits (T5 []) 3 (mkVec 2 0)
       ≡ accepted (mkDrawing 7 (mkPoint 1 0 0 ∷ mkPoint 2 5 0 ∷ below 4 5 ∷ mkPoint 5 5 1 ∷ []) (mkLine 3 1 2 ∷ mkLine 6 4 5 ∷ []) (PointOnCurve 2 6 ∷ [])) nothing
+  -- of the first relation that is not met: in the drawing as it stands, in the one that the extend would have left, and there at the pin's own place
+  pub unmet-before : extendRefused (T5 unmetBefore) 13 1
+  pub unmet-after : extendRefused (T5 unmetAfter) 19 1
+  pub unmet-pin : extendRefused (upTo nearZero metBoth) 19 2
   -- 02's, of the largest magnitude
   pub magnitude-of-none : magnitudeOf [] ≡ Largest 0f
   pub magnitude-of-minus-zero : magnitudeOf (neg 0f ∷ []) ≡ Largest 0f

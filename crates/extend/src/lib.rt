@@ -14,8 +14,8 @@ enum EndPlan {
     Move(bool, usize, Vec2, Pin),
 }
 
-// What an edit of an image answers: the number of a refusal, with the place of a relation where 13 or 19 come with one; or 0, with the
-// report and the size of the new image.
+// What an edit of an image answers: the number of a refusal, with the place of a relation where 13 or 19 come with one, else 0; or 0, with
+// the report and the size of the new image.
 pub struct EditedImage {
     pub refusal: u8,
     pub place: usize,

@@ -10,7 +10,7 @@ ghost use Rattle.mulkefi.specs.Contracts.{answerWith};
 // Above this stands the place of a relation.
 const PLACES: usize = 65536;
 
-// A refusal's number, and above it the place of a relation, which is small.
+// A refusal's number, and above it the place that comes with it, which is small.
 pub(crate) fn refusal(number: u8, place: usize) -> u32
     ensures { λ r. ⌜ (r % 65536 ≡ number) × (r / 65536 ≡ place % 65536) ⌝ }
 {

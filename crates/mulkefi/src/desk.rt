@@ -13,7 +13,7 @@ ghost use Rattle.mulkefi.specs.Calls.{mkEditByNumber, DeskCallWritten};
 
 // Makes an edit of the image in the first `len` bytes of `buffer`, at a count. Accepted, it answers 0: the new image stands at the front
 // of `buffer`, the edit's message at the front of `message`, and `answer` holds the count, the image's size and the report. Refused, it
-// answers the number, plus 65536 times the place of a relation, and leaves all as it was.
+// answers the number, plus 65536 times the place that comes with it, and leaves all as it was.
 #[no_mangle]
 pub extern "C" fn mulkefi_desk_edit(
     buffer: &mut [u8],

@@ -15,7 +15,7 @@ ghost use Rattle.image.specs.Image as I;
 ghost use Rattle.message.specs.Message as M;
 ghost use Rattle.probe.specs.Probe.{ImageCopied, MessageCopied, SketchTested};
 
-// A sketch that no image gives, by its number; else that all relations are met, or the place of one that is not.
+// A sketch that no image gives, by its number; else that all relations are met, or the place of the first that is not.
 enum Verdict {
     Refused(u8),
     Met,

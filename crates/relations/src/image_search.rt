@@ -1,4 +1,4 @@
-// The search for a relation of an image that is not met, straight from its records, also once a point has moved.
+// The search for the first relation of an image that is not met, straight from its records, also once a point has moved.
 use crate::curve_data::curve_data;
 use crate::measures::close;
 use crate::measures::is_collinear;

@@ -28,7 +28,7 @@ pub struct Started {
     pub refusal: u8,
 }
 
-// The desk's reply: refused by a number, with the place of a relation where 13 or 19 come with one, or accepted with the report.
+// The desk's reply: refused by a number, with the place of a relation where 13 or 19 come with one, else 0; or accepted with the report.
 pub enum DeskReply {
     Refused(u8, usize),
     Accepted(Removed),
