@@ -26,7 +26,7 @@ use Rattle.edit_plan.specs.Changes.{isCircle}
 use Rattle.planning.specs.Planning.{guardPlan, paramOfPick, nearEnd, pinTo, between, firstGoes, trimAt, trimPlan, splitFull, atEnd, splitPlan, isFullArc, noFreeform, trimCurve, splitCurve}
 use Rattle.hit_search.specs.NearestHit.{gapOf, boundary, curveHits, better, bestOf, continueWith, nearestHit}
 use Rattle.extend.specs.Extend.{planMove, isFixed, extendEnd, extendCurve}
-use Rattle.extend.specs.ExtendAnswer.{applyPlanned, firstUnmetAfter, reportedPlace}
+use Rattle.extend.specs.ExtendAnswer.{applyPlanned, firstUnmetIn, reportedPlace}
 use Rattle.modify.specs.Edits.{planOnCurve, planOnFound}
 use Rattle.example_proofs.specs.Examples.{Examples}
 
@@ -40,7 +40,7 @@ unfolding casteljauStep casteljauSteps evaluateOf middle narrow sameSign bisectO
 opened-roots = tt
 
 unfoldable opened-edits : Unit {0}
-unfolding curveIn usesOf pointsOf okCoordinate sortOf positionOf shapeOf shapeFrom any firstOr lastOr lengthOrRadius slack inRange onBounded endPoints foundNear cutsHere cutStep cutsOn cutsBy cutsAmong within interior insertCut sortCuts inOrder lastOne firstOne beside around bracket guard curvesOf endsOf endsAt measured releaseRelation piecesOf addPieces pin swapKinds reported removePiece applyPlanTo applyPlanAt cutterOf paramOfPick nearEnd pinTo between firstGoes trimAt trimPlan splitFull atEnd splitPlan guardPlan isCircle isFullArc noFreeform trimCurve splitCurve planOnCurve planOnFound applyPlanned gapOf boundary curveHits better bestOf continueWith nearestHit planMove isFixed extendEnd extendCurve checkMet moveEnd met on lengthOrRadiusOf firstUnmetAfter reportedPlace overlaps onPiece shapeHits endlessAlong guardHits
+unfolding curveIn usesOf pointsOf okCoordinate sortOf positionOf shapeOf shapeFrom any firstOr lastOr lengthOrRadius slack inRange onBounded endPoints foundNear cutsHere cutStep cutsOn cutsBy cutsAmong within interior insertCut sortCuts inOrder lastOne firstOne beside around bracket guard curvesOf endsOf endsAt measured releaseRelation piecesOf addPieces pin swapKinds reported removePiece applyPlanTo applyPlanAt cutterOf paramOfPick nearEnd pinTo between firstGoes trimAt trimPlan splitFull atEnd splitPlan guardPlan isCircle isFullArc noFreeform trimCurve splitCurve planOnCurve planOnFound applyPlanned gapOf boundary curveHits better bestOf continueWith nearestHit planMove isFixed extendEnd extendCurve checkMet moveEnd met on lengthOrRadiusOf firstUnmetIn reportedPlace overlaps onPiece shapeHits endlessAlong guardHits
 opened-edits = tt
 
 pub examples-hold : Examples

@@ -41,8 +41,8 @@ abbrev pub T : Drawing
 T = mkDrawing 7 (mkPoint 1 0 0 ∷ mkPoint 2 4 0 ∷ below 4 1 ∷ mkPoint 5 1 1 ∷ []) (mkLine 3 1 2 ∷ mkLine 6 4 5 ∷ []) []
 
 -- T with the level line's end at (2, 0), and the line across at x = 5, from y = −1 to a height
-abbrev pub upTo : Float → List Relation → Drawing
-upTo y rs = mkDrawing 7 (mkPoint 1 0 0 ∷ mkPoint 2 2 0 ∷ below 4 5 ∷ newPoint 5 (vec (asFloat 5) y) ∷ []) (mkLine 3 1 2 ∷ mkLine 6 4 5 ∷ []) rs
+abbrev pub T5OfHeight : Float → List Relation → Drawing
+T5OfHeight y rs = mkDrawing 7 (mkPoint 1 0 0 ∷ mkPoint 2 2 0 ∷ below 4 5 ∷ newPoint 5 (vec (asFloat 5) y) ∷ []) (mkLine 3 1 2 ∷ mkLine 6 4 5 ∷ []) rs
 
 abbrev pub T5 : List Relation → Drawing
-T5 rs = upTo (asFloat 1) rs
+T5 rs = T5OfHeight (asFloat 1) rs

@@ -21,7 +21,7 @@ use Rattle.edit_plan.specs.declared.Removed.{Removed}
 use Rattle.edit_plan.specs.Outcome.{refused, accepted}
 use Rattle.edit_plan.specs.Steps.{nothing}
 use Rattle.modify.specs.Edits.{editOf, editPlace}
-use Rattle.example_proofs.specs.Drawings.{mkVec, mkPoint, below, mkLine, mkDrawing, L, T, upTo, T5}
+use Rattle.example_proofs.specs.Drawings.{mkVec, mkPoint, below, mkLine, mkDrawing, L, T, T5OfHeight, T5}
 
 -- ---- images
 
@@ -95,7 +95,7 @@ pub record Examples : Type 0 where
   -- of the first relation that is not met: in the drawing as it stands, in the one that the extend would have left, and there at the pin's own place
   pub unmet-before : extendRefused (T5 unmetBefore) 13 1
   pub unmet-after : extendRefused (T5 unmetAfter) 19 1
-  pub unmet-pin : extendRefused (upTo nearZero metBoth) 19 2
+  pub unmet-pin : extendRefused (T5OfHeight nearZero metBoth) 19 2
   -- 02's, of the largest magnitude
   pub magnitude-of-none : magnitudeOf [] ≡ Largest 0f
   pub magnitude-of-minus-zero : magnitudeOf (neg 0f ∷ []) ≡ Largest 0f

@@ -7,7 +7,7 @@ use Rattle.sketch.specs.Drawing.{Drawing}
 use Rattle.relations.specs.Met.{firstUnmet}
 use Rattle.edit_plan.specs.declared.Removed.{Removed}
 use Rattle.edit_plan.specs.Outcome.{Outcome, accepted}
-use Rattle.extend.specs.ExtendAnswer.{firstUnmetAfter, reportedPlace}
+use Rattle.extend.specs.ExtendAnswer.{firstUnmetIn, reportedPlace}
 
 -- a number that comes with no place
 pub record Placeless (n : ℕ) : Type 0 where
@@ -29,11 +29,11 @@ module _ (d : Drawing) (untested : Outcome Drawing Removed) where
   unfolding reportedPlace
   place-13 = refl
 
-  pub place-19 : reportedPlace d untested 19 ≡ firstUnmetAfter untested
+  pub place-19 : reportedPlace d untested 19 ≡ firstUnmetIn untested
   unfolding reportedPlace
   place-19 = refl
 
 -- where the edit leaves a drawing, 19's place is that of the first relation that is not met there
 pub place-after : (d : Drawing) (untested : Outcome Drawing Removed) (d′ : Drawing) (removed : Removed) → untested ≡ accepted d′ removed → reportedPlace d untested 19 ≡ firstUnmet d′
-unfolding firstUnmetAfter
-place-after d untested d′ removed e = place-19 d untested ∙ ap firstUnmetAfter e
+unfolding firstUnmetIn
+place-after d untested d′ removed e = place-19 d untested ∙ ap firstUnmetIn e

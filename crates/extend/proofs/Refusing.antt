@@ -41,14 +41,14 @@ use Rattle.extend.proofs.Places.{Placeless, placeless-below}
 -- ---- 15 and 16 in the search for hits, 20 and 21 in that for roots
 
 -- 14 or above, without 19, which comes after a move alone
-abbrev OfSearch : ℕ → Type 0
-OfSearch n = (14 ≤ n) × (n ≡ 19 → ⊥)
+abbrev SearchNumber : ℕ → Type 0
+SearchNumber n = (14 ≤ n) × (n ≡ 19 → ⊥)
 
 abbrev Later : H.HitsResult → Type 0
 Later (H.found l b) = Unit {0}
-Later (H.refused n b) = OfSearch n
+Later (H.refused n b) = SearchNumber n
 
-later-need : (t : Bool) (n b : ℕ) (o : H.HitsResult) → OfSearch n → Later o → Later (H.guardHits t n b o)
+later-need : (t : Bool) (n b : ℕ) (o : H.HitsResult) → SearchNumber n → Later o → Later (H.guardHits t n b o)
 unfolding H.guardHits
 later-need true n b o h k = k
 later-need false n b o h k = h
@@ -85,7 +85,7 @@ later-meets ps s foot o (Conic a m b rho) budget = later-along (s .a) (s .b) (no
 -- ---- the search over the curves, and the plan
 
 abbrev Stops : Search → Type 0
-Stops (stopped n) = OfSearch n
+Stops (stopped n) = SearchNumber n
 Stops (finished best) = Unit {0}
 
 stops : (ps : List Point) (s : Support) (foot : Vec2) (os : List Curve) (best : Option Best) (budget : ℕ) → Stops (nearestHit ps s foot os best budget)
@@ -101,10 +101,10 @@ stops ps s foot (o ∷ os) best budget =
     go ih (H.refused n b) h = h
 
 abbrev From14 : PlanResult → Type 0
-From14 (Refused n) = OfSearch n
+From14 (Refused n) = SearchNumber n
 From14 (Accepted plan) = Unit {0}
 
-from-guard : (b : Bool) (n : ℕ) (o : PlanResult) → OfSearch n → From14 o → From14 (guardPlan b n o)
+from-guard : (b : Bool) (n : ℕ) (o : PlanResult) → SearchNumber n → From14 o → From14 (guardPlan b n o)
 unfolding guardPlan
 from-guard true n o h k = k
 from-guard false n o h k = h
@@ -131,7 +131,7 @@ extend-number d p c (Line i j) n m e =
     let atB = le (distance p b) (distance p a) in
     let x : PlanResult = extendEnd d (c .id) p (record { a = a; b = b; atB = atB }) (cond atB j i) in
     let q : x ≡ Refused n = sym (ap (λ t. guardPlan t 13 x) m) ∙ e in
-    let h : OfSearch n = subst From14 q (from-end d (c .id) p (record { a = a; b = b; atB = atB }) (cond atB j i)) in
+    let h : SearchNumber n = subst From14 q (from-end d (c .id) p (record { a = a; b = b; atB = atB }) (cond atB j i)) in
     (λ z. omega (arith, h .0), record { not-13 = λ z. omega (arith, h .0); not-19 = h .1 })
 extend-number d p c (Arc m i j) n h e = let z : 10 ≡ n = cc in (λ q. omega arith, placeless-below (omega arith))
 extend-number d p c (Circle m r) n h e = let z : 10 ≡ n = cc in (λ q. omega arith, placeless-below (omega arith))

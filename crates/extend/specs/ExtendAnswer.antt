@@ -20,11 +20,11 @@ applyPlanned met m d t (Accepted plan) = applyPlan met m d t plan
 -- ---- the place that comes with a refusal (02's, CR 6)
 
 -- of the first unmet relation in the drawing that an edit leaves; 0 where it leaves none
-unfoldable pub firstUnmetAfter : Outcome Drawing Removed → ℕ
-firstUnmetAfter (refused n) = 0
-firstUnmetAfter (accepted d removed) = firstUnmet d
+unfoldable pub firstUnmetIn : Outcome Drawing Removed → ℕ
+firstUnmetIn (refused n) = 0
+firstUnmetIn (accepted d removed) = firstUnmet d
 
 -- with 13 of the first unmet relation of the drawing d; with 19 of the first in the drawing that the edit would have left, which is its outcome without the
 -- test of relations at its end; with any other number 0
 unfoldable pub reportedPlace : Drawing → Outcome Drawing Removed → ℕ → ℕ
-reportedPlace d untested n = ite (eqb n 13) (firstUnmet d) (ite (eqb n 19) (firstUnmetAfter untested) 0)
+reportedPlace d untested n = ite (eqb n 13) (firstUnmet d) (ite (eqb n 19) (firstUnmetIn untested) 0)

@@ -57,33 +57,33 @@ guarded P true n o h k = k
 guarded P false n o h k = h
 
 -- a cut's number: above 0, and with no place
-abbrev OfCut : ℕ → Type 0
-OfCut n = (n ≡ 0 → ⊥) × Placeless n
+abbrev CutNumber : ℕ → Type 0
+CutNumber n = (n ≡ 0 → ⊥) × Placeless n
 
 -- those of a cut's plan are 8 to 12
-of-cut : (n : ℕ) → 0 < n → n ≤ 12 → OfCut n
-of-cut n h k = (λ z. omega arith, placeless-below k)
+low-cut-number : (n : ℕ) → 0 < n → n ≤ 12 → CutNumber n
+low-cut-number n h k = (λ z. omega arith, placeless-below k)
 
-trim-number : (d : Drawing) (p : Vec2) (c : Curve) (o : Option Shape) → PlanNumber OfCut (trimCurve d p c o)
+trim-number : (d : Drawing) (p : Vec2) (c : Curve) (o : Option Shape) → PlanNumber CutNumber (trimCurve d p c o)
 unfolding trimCurve
-trim-number d p c none = of-cut 10 (omega arith) (omega arith)
-trim-number d p c (some sh) = guarded OfCut _ 10 _ (of-cut 10 (omega arith) (omega arith)) (guarded OfCut _ 11 _ (of-cut 11 (omega arith) (omega arith)) tt)
+trim-number d p c none = low-cut-number 10 (omega arith) (omega arith)
+trim-number d p c (some sh) = guarded CutNumber _ 10 _ (low-cut-number 10 (omega arith) (omega arith)) (guarded CutNumber _ 11 _ (low-cut-number 11 (omega arith) (omega arith)) tt)
 
-split-number : (d : Drawing) (p : Vec2) (c : Curve) (o : Option Shape) → PlanNumber OfCut (splitCurve d p c o)
+split-number : (d : Drawing) (p : Vec2) (c : Curve) (o : Option Shape) → PlanNumber CutNumber (splitCurve d p c o)
 unfolding splitCurve splitPlan splitFull
-split-number d p c none = of-cut 10 (omega arith) (omega arith)
+split-number d p c none = low-cut-number 10 (omega arith) (omega arith)
 split-number d p c (some sh) =
-    guarded OfCut _ 10 _ (of-cut 10 (omega arith) (omega arith))
-    (guarded OfCut _ 11 _ (of-cut 11 (omega arith) (omega arith)) (let t = paramOfPick sh p in go (isFull sh) (bracket sh t (cutsOf d (c .id) sh)) (atEnd sh t) (P.Divide (point sh t))))
+    guarded CutNumber _ 10 _ (low-cut-number 10 (omega arith) (omega arith))
+    (guarded CutNumber _ 11 _ (low-cut-number 11 (omega arith) (omega arith)) (let t = paramOfPick sh p in go (isFull sh) (bracket sh t (cutsOf d (c .id) sh)) (atEnd sh t) (P.Divide (point sh t))))
   where
-    full : (cs : List Cut) → PlanNumber OfCut (splitFull sh cs)
-    full [] = of-cut 12 (omega arith) (omega arith)
-    full (k ∷ []) = of-cut 12 (omega arith) (omega arith)
+    full : (cs : List Cut) → PlanNumber CutNumber (splitFull sh cs)
+    full [] = low-cut-number 12 (omega arith) (omega arith)
+    full (k ∷ []) = low-cut-number 12 (omega arith) (omega arith)
     full (k ∷ j ∷ l) = tt
 
-    go : (a : Bool) (cs : List Cut) (b : Bool) (plan : Plan) → PlanNumber OfCut (cond a (splitFull sh cs) (cond b (Refused 12) (Accepted plan)))
+    go : (a : Bool) (cs : List Cut) (b : Bool) (plan : Plan) → PlanNumber CutNumber (cond a (splitFull sh cs) (cond b (Refused 12) (Accepted plan)))
     go true cs b plan = full cs
-    go false cs true plan = of-cut 12 (omega arith) (omega arith)
+    go false cs true plan = low-cut-number 12 (omega arith) (omega arith)
     go false cs false plan = tt
 
 failed : (b : Bool) (k : ℕ) (o : PlanResult) (n : ℕ) → b ≡ false → guardPlan b k o ≡ Refused n → k ≡ n
@@ -92,56 +92,56 @@ failed true k o n h e = never (sym h)
 failed false k o n h e = cc
 
 -- the number of an extend's plan: above 0, not 19, and 13 only where relations are not met
-pub record OfExtend (d : Drawing) (n : ℕ) : Type 0 where
+pub record ExtendPlanNumber (d : Drawing) (n : ℕ) : Type 0 where
   pub some-number : n ≡ 0 → ⊥
   pub unmet-13 : n ≡ 13 → allMet d ≡ false
   pub not-19 : n ≡ 19 → ⊥
 
-of-extend : (d : Drawing) (n : ℕ) → (n ≡ 0 → ⊥) → Placeless n → OfExtend d n
-of-extend d n h k = record { some-number = h; unmet-13 = λ z. absurd (k .not-13 z); not-19 = k .not-19 }
+placeless-number : (d : Drawing) (n : ℕ) → (n ≡ 0 → ⊥) → Placeless n → ExtendPlanNumber d n
+placeless-number d n h k = record { some-number = h; unmet-13 = λ z. absurd (k .not-13 z); not-19 = k .not-19 }
 
-extend-plan-number : (d : Drawing) (p : Vec2) (c : Curve) (k : CurveKind) → PlanNumber (OfExtend d) (extendCurve d p c k)
+extend-plan-number : (d : Drawing) (p : Vec2) (c : Curve) (k : CurveKind) → PlanNumber (ExtendPlanNumber d) (extendCurve d p c k)
 unfolding extendCurve guardPlan
 extend-plan-number d p c k = go (extendCurve d p c k) refl
   where
-    other : (n : ℕ) → 10 ≡ n → OfExtend d n
-    other n e = of-extend d n (λ z. omega arith) (placeless-below (omega arith))
+    other : (n : ℕ) → 10 ≡ n → ExtendPlanNumber d n
+    other n e = placeless-number d n (λ z. omega arith) (placeless-below (omega arith))
 
-    unmet : (k : CurveKind) (n : ℕ) → allMet d ≡ false → extendCurve d p c k ≡ Refused n → OfExtend d n
+    unmet : (k : CurveKind) (n : ℕ) → allMet d ≡ false → extendCurve d p c k ≡ Refused n → ExtendPlanNumber d n
     unmet (Line i j) n m e = let y = failed (allMet d) 13 _ n m e in record { some-number = λ z. omega arith; unmet-13 = λ z. m; not-19 = λ z. omega arith }
     unmet (Arc m i j) n h e = other n cc
     unmet (Circle m r) n h e = other n cc
     unmet (Bezier m) n h e = other n cc
     unmet (Conic i m j rho) n h e = other n cc
 
-    by-met : (b : Bool) → allMet d ≡ b → (n : ℕ) → extendCurve d p c k ≡ Refused n → OfExtend d n
-    by-met true m n e = let h = extend-number d p c k n m e in of-extend d n (h .0) (h .1)
+    by-met : (b : Bool) → allMet d ≡ b → (n : ℕ) → extendCurve d p c k ≡ Refused n → ExtendPlanNumber d n
+    by-met true m n e = let h = extend-number d p c k n m e in placeless-number d n (h .0) (h .1)
     by-met false m n e = unmet k n m e
 
-    go : (o : PlanResult) → extendCurve d p c k ≡ o → PlanNumber (OfExtend d) o
+    go : (o : PlanResult) → extendCurve d p c k ≡ o → PlanNumber (ExtendPlanNumber d) o
     go (Refused n) e = by-met (allMet d) refl n e
     go (Accepted plan) e = tt
 
 -- ---- the plan of the curve that is named
 
 module _ (d : Drawing) (t : ℕ) (p : Vec2) where
-  cut-found : (op : Operation) → (op ≡ Extend → ⊥) → (o : Option Curve) → PlanNumber OfCut (planOnFound op d p o)
+  cut-found : (op : Operation) → (op ≡ Extend → ⊥) → (o : Option Curve) → PlanNumber CutNumber (planOnFound op d p o)
   unfolding planOnFound planOnCurve
-  cut-found op ne none = of-cut 8 (omega arith) (omega arith)
+  cut-found op ne none = low-cut-number 8 (omega arith) (omega arith)
   cut-found Trim ne (some c) = trim-number d p c (shapeOf (d .points) (c .kind))
   cut-found Split ne (some c) = split-number d p c (shapeOf (d .points) (c .kind))
   cut-found Extend ne (some c) = absurd (ne refl)
 
-  cut-planned : (op : Operation) → (op ≡ Extend → ⊥) → PlanNumber OfCut (planEdit op d t p)
-  cut-planned op ne = guarded OfCut (okPosition p) 9 _ (of-cut 9 (omega arith) (omega arith)) (cut-found op ne (curveIn (d .curves) t))
+  cut-planned : (op : Operation) → (op ≡ Extend → ⊥) → PlanNumber CutNumber (planEdit op d t p)
+  cut-planned op ne = guarded CutNumber (okPosition p) 9 _ (low-cut-number 9 (omega arith) (omega arith)) (cut-found op ne (curveIn (d .curves) t))
 
-  extend-found : (o : Option Curve) → PlanNumber (OfExtend d) (planOnFound Extend d p o)
+  extend-found : (o : Option Curve) → PlanNumber (ExtendPlanNumber d) (planOnFound Extend d p o)
   unfolding planOnFound planOnCurve
-  extend-found none = of-extend d 8 (λ z. omega arith) (placeless-below (omega arith))
+  extend-found none = placeless-number d 8 (λ z. omega arith) (placeless-below (omega arith))
   extend-found (some c) = extend-plan-number d p c (c .kind)
 
-  extend-planned : PlanNumber (OfExtend d) (planEdit Extend d t p)
-  extend-planned = guarded (OfExtend d) (okPosition p) 9 _ (of-extend d 9 (λ z. omega arith) (placeless-below (omega arith))) (extend-found (curveIn (d .curves) t))
+  extend-planned : PlanNumber (ExtendPlanNumber d) (planEdit Extend d t p)
+  extend-planned = guarded (ExtendPlanNumber d) (okPosition p) 9 _ (placeless-number d 9 (λ z. omega arith) (placeless-below (omega arith))) (extend-found (curveIn (d .curves) t))
 
   -- ---- the plan applied
 
@@ -186,19 +186,19 @@ module _ (d : Drawing) (t : ℕ) (p : Vec2) where
   -- ---- the edit
 
   -- a cut's refusal comes with no place
-  pub cut-number : (op : Operation) → (op ≡ Extend → ⊥) → (n : ℕ) → editOf op limits d t p ≡ refused n → OfCut n
+  pub cut-number : (op : Operation) → (op ≡ Extend → ⊥) → (n : ℕ) → editOf op limits d t p ≡ refused n → CutNumber n
   unfolding applyPlanned
   cut-number op ne n q = go (planEdit op d t p) refl (cut-planned op ne) q
     where
-      of-applied : (k : ℕ) → among k cutting ≡ true → OfCut k
-      of-applied k h = (
+      applied-number : (k : ℕ) → among k cutting ≡ true → CutNumber k
+      applied-number k h = (
         λ z. never (subst (λ (j : ℕ). among j cutting ≡ true) z h),
         record { not-13 = λ z. never (subst (λ (j : ℕ). among j cutting ≡ true) z h); not-19 = λ z. never (subst (λ (j : ℕ). among j cutting ≡ true) z h) },
       )
 
-      go : (o : PlanResult) → planEdit op d t p ≡ o → PlanNumber OfCut o → applyPlanned allMet limits d t o ≡ refused n → OfCut n
-      go (Refused k) e h q = let y : k ≡ n = cc in subst OfCut y h
-      go (Accepted plan) e h q = of-applied n (subst (By cutting) q (cut-applied op ne plan e))
+      go : (o : PlanResult) → planEdit op d t p ≡ o → PlanNumber CutNumber o → applyPlanned allMet limits d t o ≡ refused n → CutNumber n
+      go (Refused k) e h q = let y : k ≡ n = cc in subst CutNumber y h
+      go (Accepted plan) e h q = applied-number n (subst (By cutting) q (cut-applied op ne plan e))
 
   -- an extend's 13 says that a relation is not met, and its 19 that one would not be met in the drawing that it would have left
   pub record ExtendNumber (n : ℕ) : Type 0 where
@@ -216,7 +216,7 @@ module _ (d : Drawing) (t : ℕ) (p : Vec2) where
           let (d′, here, fails) = move-fails limits allMet d t (w .curve) (w .at-end) (w .to) (w .pin) (w .found) (w .line) (ap (applyPlan allMet limits d t) (sym (w .is)) ∙ q) in
           (d′, ap (applyPlanned (λ x. true) limits d t) e ∙ ap (applyPlan (λ x. true) limits d t) (w .is) ∙ here, fails)
 
-      go : (o : PlanResult) → planEdit Extend d t p ≡ o → PlanNumber (OfExtend d) o → applyPlanned allMet limits d t o ≡ refused n → ExtendNumber n
+      go : (o : PlanResult) → planEdit Extend d t p ≡ o → PlanNumber (ExtendPlanNumber d) o → applyPlanned allMet limits d t o ≡ refused n → ExtendNumber n
       go (Refused k) e h q =
           let y : k ≡ n = cc in
           record { some-number = λ z. h .some-number (y ∙ z); unmet-before = λ z. h .unmet-13 (y ∙ z); unmet-after = λ z. absurd (h .not-19 (y ∙ z)) }

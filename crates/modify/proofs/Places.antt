@@ -22,7 +22,7 @@ use Rattle.edit_plan.specs.declared.Removed.{Removed}
 use Rattle.edit_plan.specs.Outcome.{Outcome, refused, accepted, guard}
 use Rattle.edit_plan.specs.Steps.{nothing}
 use Rattle.extend.specs.declared.EditedImage.{EditedImage}
-use Rattle.extend.specs.ExtendAnswer.{firstUnmetAfter, reportedPlace}
+use Rattle.extend.specs.ExtendAnswer.{firstUnmetIn, reportedPlace}
 use Rattle.extend.specs.ImageExtend.{ifFits, numberIn}
 use Rattle.extend.proofs.Places as P
 use Rattle.extend.proofs.ImageMoves.{image-valid}
@@ -66,14 +66,14 @@ module _ (op : Operation) (d : Drawing) (t : ℕ) (p : Vec2) where
   within x v = omega (arith, first-within (met (x .points) (x .curves)) (x .relations), v .relations-fit)
 
   pub place-within : Valid limits d → (n : ℕ) → editPlace op d t p n ≤ limits .relations
-  unfolding reportedPlace firstUnmetAfter
+  unfolding reportedPlace firstUnmetIn
   place-within v n = go (eqb n 13) (eqb n 19)
     where
-      left : (o : Outcome Drawing Removed) → editUntested op limits d t p ≡ o → firstUnmetAfter o ≤ limits .relations
+      left : (o : Outcome Drawing Removed) → editUntested op limits d t p ≡ o → firstUnmetIn o ≤ limits .relations
       left (refused k) e = omega arith
       left (accepted d′ r) e = within d′ (edit-valid (λ x. true) op limits d t p d′ r v e)
 
-      go : (a b : Bool) → ite a (firstUnmet d) (ite b (firstUnmetAfter (editUntested op limits d t p)) 0) ≤ limits .relations
+      go : (a b : Bool) → ite a (firstUnmet d) (ite b (firstUnmetIn (editUntested op limits d t p)) 0) ≤ limits .relations
       go true b = within d v
       go false true = left (editUntested op limits d t p) refl
       go false false = omega arith

@@ -4,6 +4,7 @@ use mulkefi::{Delivery, Desk, Report, Wall, MESSAGE_SIZE};
 use oracle::message::{Edit, Operation};
 use oracle::steps::{State, Step};
 use std::fmt;
+use std::marker::PhantomData;
 
 /// All that a call answers and leaves.
 #[derive(Clone, PartialEq)]
@@ -129,42 +130,42 @@ impl Implementation for Engine {
     }
 }
 
-/// The crate with a fault: it reports a removed piece's ends the wrong way round.
+/// A fault in what a call answers.
+pub trait Fault {
+    fn alter(outcome: &mut Outcome);
+}
+
+/// A removed piece's ends reported the wrong way round.
 pub struct SwappedEnds;
 
-impl SwappedEnds {
-    fn swapped(mut outcome: Outcome) -> Outcome {
+impl Fault for SwappedEnds {
+    fn alter(outcome: &mut Outcome) {
         outcome.report.swap(1, 2);
-        outcome
     }
 }
 
-impl Implementation for SwappedEnds {
-    fn edit(state: &State, edit: &Edit) -> Outcome {
-        SwappedEnds::swapped(Engine::edit(state, edit))
-    }
-
-    fn deliver(state: &State, message: &[u8]) -> Outcome {
-        SwappedEnds::swapped(Engine::deliver(state, message))
-    }
-}
-
-/// The crate with a fault: it tells no place with a refusal.
+/// No place told with a refusal.
 pub struct WithoutPlace;
 
-impl WithoutPlace {
-    fn dropped(mut outcome: Outcome) -> Outcome {
+impl Fault for WithoutPlace {
+    fn alter(outcome: &mut Outcome) {
         outcome.answer &= 0xffff;
-        outcome
     }
 }
 
-impl Implementation for WithoutPlace {
+/// The crate with a fault.
+pub struct Planted<F>(PhantomData<F>);
+
+impl<F: Fault> Implementation for Planted<F> {
     fn edit(state: &State, edit: &Edit) -> Outcome {
-        WithoutPlace::dropped(Engine::edit(state, edit))
+        let mut outcome = Engine::edit(state, edit);
+        F::alter(&mut outcome);
+        outcome
     }
 
     fn deliver(state: &State, message: &[u8]) -> Outcome {
-        WithoutPlace::dropped(Engine::deliver(state, message))
+        let mut outcome = Engine::deliver(state, message);
+        F::alter(&mut outcome);
+        outcome
     }
 }

@@ -17,7 +17,7 @@ mod runs;
 mod searches;
 
 use coverage::Coverage;
-use implementations::{Engine, Implementation, Oracle, SwappedEnds, WithoutPlace};
+use implementations::{Engine, Fault, Implementation, Oracle, Planted, SwappedEnds, WithoutPlace};
 use oracle::generate::random::Random;
 use oracle::upstream;
 use std::process::ExitCode;
@@ -111,10 +111,10 @@ fn planted_faults_are_seen() -> Result<(), String> {
     Ok(())
 }
 
-fn planted_fault_is_seen<I: Implementation>(name: &str) -> Result<(), String> {
+fn planted_fault_is_seen<F: Fault>(name: &str) -> Result<(), String> {
     let seen = &mut Coverage::default();
     for case in [cases::desk, cases::wall] {
-        if steps::<I>(&mut Random::new(3), 4_000, case, seen).is_ok() {
+        if steps::<Planted<F>>(&mut Random::new(3), 4_000, case, seen).is_ok() {
             return Err(format!("a planted fault was not seen: {name}"));
         }
     }
