@@ -16,8 +16,8 @@ use Rattle.sketch.specs.Facts.{Valid}
 use Rattle.image.specs.Image as I
 use Rattle.message.specs.declared.Operation.{Operation}
 use Rattle.message.specs.declared.Operation.the-variants.{Trim, Split, Extend}
-use Rattle.relations.specs.Met.{met, allMet, unmetAt, firstUnmet}
-use Rattle.relations.proofs.Failing.{first-within, first-unmet-fails, first-unmet-first}
+use Rattle.relations.specs.Met.{met, allMet, firstUnmet}
+use Rattle.relations.proofs.Failing.{unmetAt, first-within, first-unmet-fails, first-unmet-first}
 use Rattle.edit_plan.specs.declared.Removed.{Removed}
 use Rattle.edit_plan.specs.Outcome.{Outcome, refused, accepted, guard}
 use Rattle.edit_plan.specs.Steps.{nothing}

@@ -13,7 +13,19 @@ use Rattle.sketch.specs.declared.Relation.{Relation}
 use Rattle.sketch.specs.Lists.{ite, every}
 use Rattle.sketch.proofs.Bools.{never}
 use Rattle.sketch.specs.Drawing.{Drawing}
-use Rattle.relations.specs.Met.{met, allMet, failsAt, unmetAt, firstFailing, firstUnmet}
+use Rattle.relations.specs.Met.{met, allMet, firstFailing, firstUnmet}
+
+-- there is an entry at the place, and it fails the test
+abbrev pub failsAt : {A : Type 0} → (A → Bool) → List A → ℕ → Bool
+failsAt f [] k = false
+failsAt f (a ∷ l) zero = not (f a)
+failsAt f (a ∷ l) (suc k) = failsAt f l k
+
+-- the relation at the place is not met
+abbrev pub unmetAt : Drawing → ℕ → Bool
+unmetAt d k = failsAt (met (d .points) (d .curves)) (d .relations) k
+
+-- ---- the search
 
 -- i entries are passed, of the n that count
 pub record Passed {A B : Type 0} (f : B → Bool) (g : A → B) (n : ℕ) (xs : List A) (i : ℕ) : Type 0 where

@@ -1,6 +1,6 @@
 -- Which relations of a drawing are met (01's term): those that hold within 1e-7. Each operation is rounded once, from left to right. Definitions only.
-use Prim.Native.Nat.{ℕ, zero, suc}
-use mathlib.Core.Bool.{Bool, true, false, not}
+use Prim.Native.Nat.{ℕ, suc}
+use mathlib.Core.Bool.{Bool, true}
 use mathlib.Core.List.{List, [], _∷_}
 use mathlib.Core.Option.{Option, some, none}
 use lib.Ieee.{Float, nan, le}
@@ -83,13 +83,3 @@ firstFailing f (a ∷ l) = ite (f a) (suc (firstFailing f l)) 0
 -- the place of the first relation that is not met (02's, CR 6); their number where all are
 abbrev pub firstUnmet : Drawing → ℕ
 firstUnmet d = firstFailing (met (d .points) (d .curves)) (d .relations)
-
--- there is an entry at the place, and it fails the test
-abbrev pub failsAt : {A : Type 0} → (A → Bool) → List A → ℕ → Bool
-failsAt f [] k = false
-failsAt f (a ∷ l) zero = not (f a)
-failsAt f (a ∷ l) (suc k) = failsAt f l k
-
--- the relation at the place is not met
-abbrev pub unmetAt : Drawing → ℕ → Bool
-unmetAt d k = failsAt (met (d .points) (d .curves)) (d .relations) k
