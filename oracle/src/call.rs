@@ -65,7 +65,7 @@ pub fn write(after: &Drawing, report: &Report, out: &mut [u8]) -> Result<(), Ref
     image::encode(after, &mut out[REPORT_SIZE..]).map(|_| ())
 }
 
-/// 0, or the refusal's number with the place of a relation not met times 65,536 added.
+/// 0, or the refusal's number with the place of the first relation not met times 65,536 added.
 pub fn answer<T>(outcome: &Result<T, Refused>) -> u32 {
     match outcome {
         Ok(_) => 0,

@@ -16,7 +16,7 @@ pub struct State {
 /// What a call answers.
 #[derive(Clone, Debug, PartialEq, Eq)]
 pub struct Step {
-    /// 0, or a refusal's number with the place of a relation not met times 65,536 added.
+    /// 0, or a refusal's number with the place of the first relation not met times 65,536 added.
     pub answer: u32,
     /// Whether a delivery was old, which is no refusal.
     pub old: bool,

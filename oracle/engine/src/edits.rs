@@ -44,7 +44,7 @@ mod interface {
     }
 }
 
-/// Answers the refusal's number, with the place of a relation not met times 65,536 added. An
+/// Answers the refusal's number, with the place of the first relation not met times 65,536 added. An
 /// accepted edit writes the removed curve and its ends, then the image, to the front of `out`.
 #[inline]
 pub fn edit(operation: u32, image: &[u8], curve: u32, x: f64, y: f64, out: &mut [u8]) -> u32 {
@@ -56,8 +56,8 @@ pub fn edit(operation: u32, image: &[u8], curve: u32, x: f64, y: f64, out: &mut 
 }
 
 /// Tests the image once, then does the edit so many times, each of the same bytes into the same
-/// buffer. Each adds to the sum that is answered: a refusal's number and the place of a relation not
-/// met times 65,536, or the next id and the id of the removed curve.
+/// buffer. Each adds to the sum that is answered: a refusal's number and the place of the first
+/// relation not met times 65,536, or the next id and the id of the removed curve.
 #[inline]
 pub fn repeated(operation: u32, image: &[u8], curve: u32, x: f64, y: f64, times: u32) -> u32 {
     let (bytes, len) = (image.as_ptr(), image.len());

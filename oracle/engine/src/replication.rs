@@ -37,8 +37,8 @@ pub fn wall(input: &[u8], out: &mut [u8]) -> usize {
 }
 
 /// Reads the image once, then edits at a desk with its sketch and the count so many times. Each adds
-/// to the sum that is answered: a refusal's number and the place of a relation not met times 65,536,
-/// or `ACCEPTED` and the count after it.
+/// to the sum that is answered: a refusal's number and the place of the first relation not met times
+/// 65,536, or `ACCEPTED` and the count after it.
 #[inline]
 pub fn desk_repeated(
     image: &[u8],
@@ -54,8 +54,8 @@ pub fn desk_repeated(
 }
 
 /// Reads the image once, then delivers a message to a wall with its sketch and the count so many
-/// times. Each adds a refusal's number and the place of a relation not met times 65,536, `ACCEPTED`
-/// where it is old, or `ACCEPTED` and the count after it.
+/// times. Each adds a refusal's number and the place of the first relation not met times 65,536,
+/// `ACCEPTED` where it is old, or `ACCEPTED` and the count after it.
 #[inline]
 pub fn deliver_repeated(image: &[u8], count: u32, message: &[u8], times: u32) -> u32 {
     let (bytes, len) = (image.as_ptr(), image.len());
