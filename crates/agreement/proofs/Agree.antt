@@ -14,7 +14,7 @@ use Rattle.agreement.proofs.Wall.{appliedReply, Keeping, Read, Inv, wal
 module _ {D E R : Type 0} (p : Protocol D E R) (Valid : D → Type 0) (keeps : Keeping p Valid) (read : Read p Valid) where
   pub agreement :
       (start : D) (desk : List (DeskStep D E R)) (wall : List (WallStep D R))
-      → Valid start → DeskRun p (initial start) desk → WallRun p (initial start) wall → Delivered (messages desk) wall
+      → Valid start → DeskRun p (initial start) desk → WallRun p (initial start) wall → Delivered p (messages desk) wall
       → Agreement p start desk wall
   agreement start desk wall y dr wr dv =
       record {
@@ -46,8 +46,8 @@ module _ {D E R : Type 0} (p : Protocol D E R) (Valid : D → Type 0) (keeps : K
       run : (before later : List (WallStep D R)) → wall ≡ before ++ later → WallRun p S before × WallRun p (wallAfter S before) later
       run before later e = wall-parts p S before later (subst (WallRun p S) e wr)
 
-      given : (before later : List (WallStep D R)) → wall ≡ before ++ later → Delivered (map (written p) l) before × Delivered (map (written p) l) later
-      given before later e = delivered-parts (map (written p) l) before later (subst (λ (m : List (List ℕ)). Delivered m (before ++ later)) mm (subst (Delivered (messages desk)) e dv))
+      given : (before later : List (WallStep D R)) → wall ≡ before ++ later → Delivered p (map (written p) l) before × Delivered p (map (written p) l) later
+      given before later e = delivered-parts p (map (written p) l) before later (subst (λ (m : List (List ℕ)). Delivered p m (before ++ later)) mm (subst (Delivered p (messages desk)) e dv))
 
       there :
           (before later : List (WallStep D R)) → wall ≡ before ++ later

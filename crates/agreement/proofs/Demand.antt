@@ -22,7 +22,7 @@ module _ {D E : Type 0} (p : Protocol D E Removed) (v : CurveView D) (target : E
 
   module _
       (read : Read p Valid) (start : D) (desk : List (DeskStep D E Removed)) (wall : List (WallStep D Removed))
-      (y : Valid start) (dr : DeskRun p (initial start) desk) (wr : WallRun p (initial start) wall) (dv : Delivered (messages desk) wall)
+      (y : Valid start) (dr : DeskRun p (initial start) desk) (wr : WallRun p (initial start) wall) (dv : Delivered p (messages desk) wall)
     where
       pub demand-3 : Demand3 p v target start desk wall
       demand-3 =

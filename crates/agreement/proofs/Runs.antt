@@ -38,6 +38,6 @@ module _ {D E R : Type 0} (p : Protocol D E R) where
   wall-parts s [] ys h = (tt, h)
   wall-parts s (x ∷ xs) ys h = let i = wall-parts (x .state) xs ys (h .1) in ((h .0, i .0), i .1)
 
-pub delivered-parts : {D R : Type 0} (ms : List (List ℕ)) (xs ys : List (WallStep D R)) → Delivered ms (xs ++ ys) → Delivered ms xs × Delivered ms ys
-delivered-parts ms [] ys h = (tt, h)
-delivered-parts ms (x ∷ xs) ys h = let i = delivered-parts ms xs ys (h .1) in ((h .0, i .0), i .1)
+  pub delivered-parts : (ms : List (List ℕ)) (xs ys : List (WallStep D R)) → Delivered p ms (xs ++ ys) → Delivered p ms xs × Delivered p ms ys
+  delivered-parts ms [] ys h = (tt, h)
+  delivered-parts ms (x ∷ xs) ys h = let i = delivered-parts ms xs ys (h .1) in ((h .0, i .0), i .1)

@@ -1,9 +1,9 @@
--- The wall's run beside the reference machine's entries: each delivery is the next message, and gives the next entry's state, or leaves the wall. Assumes that edits keep
+-- The wall's run beside the reference machine's entries: each delivery is the next message, and gives the next entry's state, or leaves the wall, as what is not read does. Assumes that edits keep
 -- drawings valid (`Keeping`), whatever that means, and that the message of an edit accepted on a valid drawing is read as what it was made of (`Read`).
 use mathlib.Core.Path.{_≡_, refl, sym, ap, _∙_, subst}
 use mathlib.Core.List.{List, [], _∷_, _++_, map, append-nil, List·Memᴰ, List·Memᴰ·cases-cons, List·Memᴰ·not-nil}
 use mathlib.Core.Option.{some}
-use mathlib.Core.Logic.{inl, inr, ⊎-elim}
+use mathlib.Core.Logic.{_⊎_, inl, inr, ⊎-elim}
 use Prim.Native.Nat.{ℕ, zero, suc, _+_, _≤_, _<_}
 use native.Mathlib.Numerals.{add-one}
 use native.Mathlib.Omega.{arith}
@@ -13,7 +13,7 @@ use lib.Dec.{ltb}
 use borrow.Author.Tests.{lt-ltb, le-ltb, le-leb, lt-leb, eq-eqb, ne-eqb}
 use Rattle.sketch.specs.Lists.{ite}
 use Rattle.edit_plan.specs.Outcome.{accepted}
-use Rattle.agreement.specs.Machines.{State, message, Protocol, maxEditNumber, Entry, WallReply, wallRefused, wallOld, wallApplied, WallStep, wallAfter, Delivered, wallTransition, WallStepValid, WallRun}
+use Rattle.agreement.specs.Machines.{State, Decoded, message, Protocol, maxEditNumber, Entry, WallReply, wallRefused, wallOld, wallApplied, WallStep, wallAfter, Unread, Delivered, wallTransition, WallStepValid, WallRun}
 use Rattle.agreement.specs.Agreement.{stateAt, appliedReplies, Subsequence, CountStep}
 use Rattle.agreement.proofs.Orders.{some-inj, lookup-below, take-more, drop-end, order-nil, order-stay, order-next}
 use Rattle.agreement.proofs.Reference.{Linked, state-count}
@@ -142,16 +142,30 @@ module _ {D E R : Type 0} (p : Protocol D E R) (Valid : D → Type 0) (keeps : K
         let n : s₀ .count + f .i + 1 ≡ f .i + 1 = omega arith in
         ap (p .decode) (f .is) ∙ read _ (f .e) _ _ (f .valid) (f .gives) (s₀ .count + f .i + 1) (omega arith) (omega (arith, f .fits)) ∙ ap (λ (k : ℕ). message k (f .e)) n
 
+    -- the message at place k is read as its number and an edit
+    numbered-read : (k : ℕ) (m : List ℕ) → getElem? (map (written p) l) k ≡ some m → (e : E) × (p .decode m ≡ message (s₀ .count + k + 1) e)
+    numbered-read k m q =
+        let n = numbered s₀ l h g k m q in
+        (n .e, ap (p .decode) (n .is) ∙ read _ (n .e) _ _ (n .valid) (n .gives) (s₀ .count + k + 1) (omega arith) (omega (arith, n .fits)))
+
     not-next : (k : ℕ) (m : List ℕ) (f : Found s₀ l m) → (f .i ≡ k → ⊥) → getElem? (map (written p) l) k ≡ some m → ⊥
     not-next k m f ne q =
-        let n = numbered s₀ l h g k m q in
-        let u : p .decode m ≡ message (s₀ .count + k + 1) (n .e) = ap (p .decode) (n .is) ∙ read _ (n .e) _ _ (n .valid) (n .gives) (s₀ .count + k + 1) (omega arith) (omega (arith, n .fits)) in
+        let (e, u) = numbered-read k m q in
         let v = decoded m f in
         let j : f .i + 1 ≡ s₀ .count + k + 1 = cc in
         ne (omega arith)
 
-    moved : (w : State D) (x : WallStep D R) → Inv w → WallStepValid p w x → List·Memᴰ (x .bytes) (map (written p) l) → Moved w x
-    moved w x v y q = old-case (decLe (f .i + 1) (w .count))
+    -- what is not read is no message, and leaves the wall
+    unread-stays : (w : State D) (x : WallStep D R) → WallStepValid p w x → Unread p (x .bytes) → Moved w x
+    unread-stays w x y (n, u) =
+        stays (y .state ∙ ap (λ (d : Decoded E). wallTransition p w d .0) u)
+        (λ q.
+        let (e, v) = numbered-read (w .count) (x .bytes) q in
+        let z : _≡_ {A = ℕ} 0 1 = cc in
+        absurd (omega arith))
+
+    own-moved : (w : State D) (x : WallStep D R) → Inv w → WallStepValid p w x → List·Memᴰ (x .bytes) (map (written p) l) → Moved w x
+    own-moved w x v y q = old-case (decLe (f .i + 1) (w .count))
       where
         f : Found s₀ l (x .bytes)
         f = found s₀ l h g (x .bytes) q
@@ -182,6 +196,9 @@ module _ {D E R : Type 0} (p : Protocol D E R) (Valid : D → Type 0) (keeps : K
         old-case (yes b) = stay wallOld (rw (le-leb (f .i + 1) (w .count) b)) (λ i. omega arith)
         old-case (no nb) = new-case nb (ℕ-discrete (f .i + 1) (w .count + 1))
 
+    moved : (w : State D) (x : WallStep D R) → Inv w → WallStepValid p w x → List·Memᴰ (x .bytes) (map (written p) l) ⊎ Unread p (x .bytes) → Moved w x
+    moved w x v y = ⊎-elim (own-moved w x v y) (unread-stays w x y)
+
     -- the invariant goes on
     inv-stays : (w t : State D) → t ≡ w → Inv w → Inv t
     inv-stays w t e v = subst Inv (sym e) v
@@ -195,7 +212,7 @@ module _ {D E R : Type 0} (p : Protocol D E R) (Valid : D → Type 0) (keeps : K
     below w m e = omega (arith, lookup-below (map (written p) l) (w .count) m e, length-map l (written p))
 
     pub walked :
-        (w : State D) (xs : List (WallStep D R)) → Inv w → WallRun p w xs → Delivered (map (written p) l) xs
+        (w : State D) (xs : List (WallStep D R)) → Inv w → WallRun p w xs → Delivered p (map (written p) l) xs
         → Inv (wallAfter w xs) × (take (w .count) (map appliedReply l) ++ appliedReplies w xs ≡ take (wallAfter w xs .count) (map appliedReply l))
     walked w [] v y q = (v, append-nil _)
     walked w (x ∷ xs) v y q = step (moved w x v (y .0) (q .0)) (λ u. walked (x .state) xs u (y .1) (q .1))
@@ -221,7 +238,7 @@ module _ {D E R : Type 0} (p : Protocol D E R) (Valid : D → Type 0) (keeps : K
 
     -- every message in its order brings the count to all
     pub reached :
-        (w : State D) (xs : List (WallStep D R)) → Inv w → WallRun p w xs → Delivered (map (written p) l) xs
+        (w : State D) (xs : List (WallStep D R)) → Inv w → WallRun p w xs → Delivered p (map (written p) l) xs
         → Subsequence (drop (w .count) (map (written p) l)) (map (λ (x : WallStep D R). x .bytes) xs) → wallAfter w xs .count ≡ length l
     reached w [] v y q o = let e = drop-end (map (written p) l) (w .count) (order-nil _ _ o refl) in omega (arith, length-map l (written p))
     reached w (x ∷ xs) v y q o = step (moved w x v (y .0) (q .0)) (λ u. reached (x .state) xs u (y .1) (q .1))
@@ -240,7 +257,7 @@ module _ {D E R : Type 0} (p : Protocol D E R) (Valid : D → Type 0) (keeps : K
             (subst (λ (n : ℕ). Subsequence (drop n (map (written p) l)) (map (λ (x : WallStep D R). x .bytes) xs)) (sym (c .0))
             (order-next (map (written p) l) (w .count) (x .bytes) _ o b))
 
-    pub rose : (w : State D) (x : WallStep D R) → Inv w → WallStepValid p w x → List·Memᴰ (x .bytes) (map (written p) l) → CountStep (map (written p) l) (w .count) x
+    pub rose : (w : State D) (x : WallStep D R) → Inv w → WallStepValid p w x → List·Memᴰ (x .bytes) (map (written p) l) ⊎ Unread p (x .bytes) → CountStep (map (written p) l) (w .count) x
     rose w x v y q = step (moved w x v y q)
       where
         step : Moved w x → CountStep (map (written p) l) (w .count) x

@@ -2,6 +2,7 @@
 -- reference machine (document 01's book) applies the desk's accepted calls alone. "Desk" and "wall" are 01's terms. Definitions only.
 use mathlib.Core.Path.{_≡_}
 use mathlib.Core.List.{List, [], _∷_, map, List·Memᴰ}
+use mathlib.Core.Logic.{_⊎_}
 use Prim.Native.Nat.{ℕ, _+_}
 use lib.Dec.{leb, ltb, eqb}
 use Rattle.sketch.specs.Lists.{ite}
@@ -137,10 +138,15 @@ abbrev pub wallAfter : {D R : Type 0} → State D → List (WallStep D R) → St
 wallAfter s [] = s
 wallAfter s (x ∷ xs) = wallAfter (x .state) xs
 
--- each delivery is one of the messages, as written
-abbrev pub Delivered : {D R : Type 0} → List (List ℕ) → List (WallStep D R) → Type 0
-Delivered ms [] = Unit {0}
-Delivered ms (x ∷ xs) = List·Memᴰ (x .bytes) ms × Delivered ms xs
+module _ {D E R : Type 0} (p : Protocol D E R) where
+  -- bytes that the wall does not read
+  abbrev pub Unread : List ℕ → Type 0
+  Unread m = (k : ℕ) × (p .decode m ≡ invalid k)
+
+  -- each delivery is one of the messages, as written, or is not read
+  abbrev pub Delivered : List (List ℕ) → List (WallStep D R) → Type 0
+  Delivered ms [] = Unit {0}
+  Delivered ms (x ∷ xs) = (List·Memᴰ (x .bytes) ms ⊎ Unread (x .bytes)) × Delivered ms xs
 
 -- ---- the reference machine, 01's book: it sees the desk's calls alone
 

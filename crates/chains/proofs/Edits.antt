@@ -88,6 +88,6 @@ module _ {E : Type 0} (target : E → ℕ) (met : Drawing → Bool) (m : Limits)
 
     pub planned-demand-3 :
         Read p (Valid m) → (start : Drawing) (desk : List (DeskStep Drawing E Removed)) (wall : List (WallStep Drawing Removed))
-        → Valid m start → DeskRun p (initial start) desk → WallRun p (initial start) wall → Delivered (messages desk) wall
+        → Valid m start → DeskRun p (initial start) desk → WallRun p (initial start) wall → Delivered p (messages desk) wall
         → Demand3 p curveView target start desk wall
     planned-demand-3 = demand-3 p curveView target (Valid m) planned-keeps

@@ -2,7 +2,8 @@
 -- calls show what it says.
 use mathlib.Core.Path.{_≡_, refl}
 use mathlib.Core.Bool.{Bool, true, false, not, _&&_}
-use mathlib.Core.List.{List, [], _∷_, List·Memᴰ·head, List·Memᴰ·tail}
+use mathlib.Core.List.{List, [], _∷_, List·Memᴰ, List·Memᴰ·head, List·Memᴰ·tail}
+use mathlib.Core.Logic.{inl, inr}
 use Prim.Native.Nat.{ℕ}
 use native.Mathlib.Omega.{arith}
 use lib.Dec.{eqb}
@@ -98,7 +99,7 @@ planned d e d′ r v q = go (eqb (e .by) 0) q
 
 pub model-correct :
     (start : Drawing) (desk : List (DeskStep Drawing Order Removed)) (wall : List (WallStep Drawing Removed))
-    → Valid limits start → DeskRun rules (initial start) desk → WallRun rules (initial start) wall → Delivered (messages desk) wall
+    → Valid limits start → DeskRun rules (initial start) desk → WallRun rules (initial start) wall → Delivered rules (messages desk) wall
     → Demand3 rules curveView target start desk wall
 model-correct = planned-demand-3 target met limits rules planned read
 
@@ -158,11 +159,12 @@ desk =
     ∷ record { call = call divide 3; state = state divided 2; reply = deskAccepted nothing (2 ∷ 3 ∷ 0 ∷ []) }
     ∷ []
 
--- the second message, ahead; the first; the first again, old; the second
+-- the second message, ahead; the first; a message that is not read; the first again, old; the second
 abbrev wall : List (WallStep Drawing Removed)
 wall =
     record { bytes = 2 ∷ 3 ∷ 0 ∷ []; state = state crossed 0; reply = wallRefused 7 0 }
     ∷ record { bytes = 1 ∷ 3 ∷ 6 ∷ []; state = state trimmed 1; reply = wallApplied (record { curve = 8; from = 1; to = 7 }) }
+    ∷ record { bytes = 2 ∷ 3 ∷ 6 ∷ 0 ∷ []; state = state trimmed 1; reply = wallRefused 1 0 }
     ∷ record { bytes = 1 ∷ 3 ∷ 6 ∷ []; state = state trimmed 1; reply = wallOld }
     ∷ record { bytes = 2 ∷ 3 ∷ 0 ∷ []; state = state divided 2; reply = wallApplied nothing }
     ∷ []
@@ -182,13 +184,19 @@ desk-run = (record { state = refl; reply = refl }, (record { state = refl; reply
 
 wall-run : WallRun rules (initial crossed) wall
 unfolding opened
-wall-run = (record { state = refl; reply = refl }, (record { state = refl; reply = refl }, (record { state = refl; reply = refl }, (record { state = refl; reply = refl }, tt))))
+wall-run = (record { state = refl; reply = refl }, (record { state = refl; reply = refl }, (record { state = refl; reply = refl }, (record { state = refl; reply = refl }, (record { state = refl; reply = refl }, tt)))))
 
-as-written : Delivered (messages desk) wall
-as-written = (List·Memᴰ·tail (List·Memᴰ·head refl), (List·Memᴰ·head refl, (List·Memᴰ·head refl, (List·Memᴰ·tail (List·Memᴰ·head refl), tt))))
+own-or-unread : Delivered rules (messages desk) wall
+own-or-unread = (inl second, (inl first, (inr (1, refl), (inl first, (inl second, tt)))))
+  where
+    first : List·Memᴰ (1 ∷ 3 ∷ 6 ∷ []) (messages desk)
+    first = List·Memᴰ·head refl
+
+    second : List·Memᴰ (2 ∷ 3 ∷ 0 ∷ []) (messages desk)
+    second = List·Memᴰ·tail (List·Memᴰ·head refl)
 
 pub example-correct : Demand3 rules curveView target crossed desk wall
-example-correct = model-correct crossed desk wall crossed-valid desk-run wall-run as-written
+example-correct = model-correct crossed desk wall crossed-valid desk-run wall-run own-or-unread
 
 -- the line's family: itself, the piece that the trim removed, the piece that the division added
 pub example-family : family curveView target crossed (3 ∷ []) (acceptedLog rules (initial crossed) (calls desk)) ≡ 3 ∷ 8 ∷ 10 ∷ []

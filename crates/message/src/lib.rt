@@ -2,6 +2,7 @@
 mod layout;
 mod messages;
 
+pub use layout::MARK_SIZE;
 pub use layout::MESSAGE_SIZE;
 pub use messages::is_operation;
 pub use messages::operation_of;
@@ -10,7 +11,10 @@ pub use messages::write_message;
 use sketch::Id;
 
 // The version that is read and written.
-pub const MESSAGE_VERSION: u8 = 1;
+pub const MESSAGE_VERSION: u8 = 2;
+
+// A mark (02's term): eight bytes from the host, by which the messages of one start of a desk are told from all others.
+pub type Mark = u64;
 
 // The number of an edit, from 1, and a count of edits.
 pub type EditNumber = u32;

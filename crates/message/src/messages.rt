@@ -1,10 +1,13 @@
 // Edit messages: read and written.
 use crate::MESSAGE_VERSION;
+use crate::Mark;
 use crate::Message;
 use crate::MessageRead;
 use crate::Operation;
 use crate::layout::CURVE_AT;
 use crate::layout::EDIT_NUMBER_AT;
+use crate::layout::LENGTH_SIZE;
+use crate::layout::MARK_AT;
 use crate::layout::MESSAGE_SIZE;
 use crate::layout::OPERATION_AT;
 use crate::layout::VERSION_AT;
@@ -20,7 +23,7 @@ ghost use mathlib.Core.Path.{_≡_};
 ghost use Rattle.message.specs.Message.{isOperation, operationOf, operationByte, parse, MessageWritten};
 
 // What a message's length field holds: the bytes behind it.
-const MESSAGE_LENGTH: u32 = MESSAGE_SIZE as u32 - 4;
+const MESSAGE_LENGTH: u32 = MESSAGE_SIZE as u32 - LENGTH_SIZE as u32;
 
 // Whether a number means an operation.
 pub fn is_operation(number: u32) -> bool
@@ -50,12 +53,12 @@ fn operation_byte(operation: Operation) -> u64
     }
 }
 
-// Reads a message, or answers the number of the first rule that it breaks.
-pub fn read_message(s: &[u8]) -> MessageRead
-    ensures { λ r. ⌜ r ≡ parse (now (s .entry)) ⌝ }
+// Reads a message that came to a start with a mark, or answers the number of the first rule that it breaks.
+pub fn read_message(s: &[u8], mark: Mark) -> MessageRead
+    ensures { λ r. ⌜ r ≡ parse mark (now (s .entry)) ⌝ }
 {
     let n = s.len();
-    if n < 5 {
+    if n < MARK_AT {
         return MessageRead::Refused(1);
     }
     if get1(s, VERSION_AT) != MESSAGE_VERSION {
@@ -66,6 +69,9 @@ pub fn read_message(s: &[u8]) -> MessageRead
     }
     if get4(s, 0) != MESSAGE_LENGTH {
         return MessageRead::Refused(1);
+    }
+    if get8(s, MARK_AT) != mark {
+        return MessageRead::Refused(28);
     }
     let number = get4(s, EDIT_NUMBER_AT);
     if number < 1 {
@@ -85,10 +91,10 @@ pub fn read_message(s: &[u8]) -> MessageRead
     })
 }
 
-// Writes a message to the buffer's front and answers 0; or answers 6 for the number 0, or 25 for a buffer that is
-// too short, and leaves the buffer.
-pub fn write_message(m: Message, buf: &mut [u8]) -> u8
-    ensures { λ r. ⌜ MessageWritten m (now (buf .entry)) (now (buf .exit)) r ⌝ }
+// Writes a message of a start with a mark to the buffer's front and answers 0; or answers 6 for the number 0, or 25 for a buffer
+// that is too short, and leaves the buffer.
+pub fn write_message(m: Message, mark: Mark, buf: &mut [u8]) -> u8
+    ensures { λ r. ⌜ MessageWritten mark m (now (buf .entry)) (now (buf .exit)) r ⌝ }
 {
     if m.number < 1 {
         return 6;
@@ -99,6 +105,7 @@ pub fn write_message(m: Message, buf: &mut [u8]) -> u8
     let operation = m.operation;
     put4(buf, 0, MESSAGE_LENGTH as u64);
     put1(buf, VERSION_AT, MESSAGE_VERSION as u64);
+    put8(buf, MARK_AT, mark);
     put4(buf, EDIT_NUMBER_AT, m.number as u64);
     put1(buf, OPERATION_AT, operation_byte(operation));
     put4(buf, CURVE_AT, m.curve as u64);

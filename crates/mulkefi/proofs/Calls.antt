@@ -24,7 +24,7 @@ use Rattle.replication.specs.declared.DeskReply.{DeskReply}
 use Rattle.replication.specs.declared.DeskReply.the-variants as Desk
 use Rattle.replication.specs.declared.WallReply.{WallReply}
 use Rattle.replication.specs.declared.WallReply.the-variants as Wall
-use Rattle.replication.specs.Protocol.{Edit, protocol}
+use Rattle.replication.specs.Protocol.{Edit, place, protocol}
 use Rattle.replication.specs.Outcomes.{CallOutcome, refused, old, updated, onImage, deskOutcome, deskOn, wallOutcome, wallOn, numberOf, placeOf, OutcomeSound, messageAfter}
 use Rattle.replication.specs.Transitions as R
 use Rattle.replication.specs.Transitions.{Memory, imageIn, firstFault, memoryAfter, deskReplyTo, DeskEdits, wallReplyTo, WallDelivers}
@@ -112,9 +112,9 @@ desk-not-old m e room = on (I.parse (imageIn m))
     out f (O.refused k) = tt
     out f (O.accepted t q) = fits t q (leb (E.drawingSize (t .drawing)) (length (m .buffer)))
 
-    on : (p : I.ParseResult) → NotOld (onImage p (m .count) (deskOn (length (m .buffer)) (record { edit = e; room = room })))
+    on : (p : I.ParseResult) → NotOld (onImage p (m .count) (deskOn (m .mark) (length (m .buffer)) (record { edit = e; room = room })))
     on (I.refused k) = tt
-    on (I.accepted d) = out (protocol .place d e) (callOutcome protocol (record { drawing = d; count = m .count }) (record { edit = e; room = room }))
+    on (I.accepted d) = out (place d e) (callOutcome (protocol (m .mark)) (record { drawing = d; count = m .count }) (record { edit = e; room = room }))
 
 -- the outcome by the reply
 desk-reply-refused : (v : CallOutcome) (n q : ℕ) → NotOld v → Desk.Refused n q ≡ deskReplyTo v → v ≡ refused n q
@@ -136,24 +136,24 @@ first-low s {n} e = go (I.imageFault s) (image-fault-low s) e
     go zero h e = omega (arith, e)
     go (suc k) h e = let q : n ≡ suc k = e ∙ rw (ne-eqb (suc k) 0 (λ z. omega arith)) in omega arith
 
-module _ (b : List ℕ) (len count operation : ℕ) (e : Edit) (l a : List ℕ) where
+module _ (b : List ℕ) (len count mark operation : ℕ) (e : Edit) (l a : List ℕ) where
   abbrev m : Memory
-  m = record { buffer = b; size = len; count = count }
+  m = record { buffer = b; size = len; mark = mark; count = count }
 
   abbrev call : Call Edit
   call = record { edit = e; room = length l }
 
   abbrev outcome : CallOutcome
-  outcome = deskOutcomeByNumber b len count operation e (length l)
+  outcome = deskOutcomeByNumber b len count mark operation e (length l)
 
-  pub desk-unknown : isOperation operation ≡ false → {image : List ℕ} {n : ℕ} → image ≡ take len b → n ≡ firstFault image 6 → DeskCallWritten len count operation e b b l l a a n
+  pub desk-unknown : isOperation operation ≡ false → {image : List ℕ} {n : ℕ} → image ≡ take len b → n ≡ firstFault image 6 → DeskCallWritten len count mark operation e b b l l a a n
   desk-unknown k {image} {n} is f =
       let own : n ≡ firstFault (take len b) 6 = first-of (take len b) 6 is f in
-      let g : outcome ≡ refused n 0 = on-first (take len b) count (deskByNumber (length b) operation call) 6 n own (rw k) in
+      let g : outcome ≡ refused n 0 = on-first (take len b) count (deskByNumber mark (length b) operation call) 6 n own (rw k) in
       let small = first-low (take len b) own in
       record {
         served = refused-written outcome n 0 n g (first-some (take len b) 6 n (λ z. omega arith) own) (omega arith) (omega arith) b a;
-        written = sym (ap (λ (v : CallOutcome). messageAfter v e l) g);
+        written = sym (ap (λ (v : CallOutcome). messageAfter mark v e l) g);
       }
 
   module _ (known : isOperation operation ≡ true) (left : Memory) (reply : DeskReply) (l′ : List ℕ) (w : DeskEdits m (record { edit = e; before = l; after = l′; left = left; reply = reply })) where
@@ -163,14 +163,14 @@ module _ (b : List ℕ) (len count operation : ℕ) (e : Edit) (l a : List ℕ) 
     same : outcome ≡ desks
     same = on (I.parse (take len b))
       where
-        on : (p : I.ParseResult) → onImage p count (deskByNumber (length b) operation call) ≡ onImage p count (deskOn (length b) call)
+        on : (p : I.ParseResult) → onImage p count (deskByNumber mark (length b) operation call) ≡ onImage p count (deskOn mark (length b) call)
         on (I.refused k) = refl
         on (I.accepted d) = rw known
 
-    message-is : l′ ≡ messageAfter outcome e l
-    message-is = w .message-is ∙ sym (ap (λ (v : CallOutcome). messageAfter v e l) same)
+    message-is : l′ ≡ messageAfter mark outcome e l
+    message-is = w .message-is ∙ sym (ap (λ (v : CallOutcome). messageAfter mark v e l) same)
 
-    pub desk-refused : (n place : ℕ) → reply ≡ Desk.Refused n place → Bytes b → (r : ℕ) → r % 65536 ≡ n → r / 65536 ≡ place % 65536 → DeskCallWritten len count operation e b (left .buffer) l l′ a a r
+    pub desk-refused : (n place : ℕ) → reply ≡ Desk.Refused n place → Bytes b → (r : ℕ) → r % 65536 ≡ n → r / 65536 ≡ place % 65536 → DeskCallWritten len count mark operation e b (left .buffer) l l′ a a r
     desk-refused n place q are r low high =
         let g = desk-reply-refused desks n place (desk-not-old m e (length l)) (sym q ∙ w .reply-is) in
         let c = refused-written outcome n place r (same ∙ g) (subst OutcomeSound g (w .sound)) low (whole-place desks n place r g (desk-place-within m are e (length l)) high) b a in
@@ -186,7 +186,7 @@ module _ (b : List ℕ) (len count operation : ℕ) (e : Edit) (l a : List ℕ) 
       pub desk-size : left .size ≤ I.maxImageSize
       desk-size = updated-size m desks (w .sound) left (w .left-is) (done .0) q (done .1)
 
-      pub desk-accepted : (a′ : List ℕ) (r : ℕ) → (r ≡ 0) × (a′ ≡ answerWith a (left .count) (left .size) q) → DeskCallWritten len count operation e b (left .buffer) l l′ a a′ r
+      pub desk-accepted : (a′ : List ℕ) (r : ℕ) → (r ≡ 0) × (a′ ≡ answerWith a (left .count) (left .size) q) → DeskCallWritten len count mark operation e b (left .buffer) l l′ a a′ r
       desk-accepted a′ r (z, n) =
           record {
             served = subst (λ (v : CallOutcome). CallWritten v b (left .buffer) a a′ r) (sym same) (updated-written m desks (w .sound) left (w .left-is) (done .0) q (done .1) a a′ r z n);
@@ -234,22 +234,22 @@ old-at room s x c = by c
 old-size : (m : Memory) (bytes : List ℕ) (s : State Drawing) → R.wallCallOutcome m bytes ≡ old s → E.drawingSize (s .drawing) ≤ I.maxImageSize
 old-size m bytes s g = on (I.parse (imageIn m)) refl g
   where
-    on : (p : I.ParseResult) → I.parse (imageIn m) ≡ p → onImage p (m .count) (wallOn (length (m .buffer)) bytes) ≡ old s → E.drawingSize (s .drawing) ≤ I.maxImageSize
+    on : (p : I.ParseResult) → I.parse (imageIn m) ≡ p → onImage p (m .count) (wallOn (m .mark) (length (m .buffer)) bytes) ≡ old s → E.drawingSize (s .drawing) ≤ I.maxImageSize
     on (I.refused k) e g = absurd (subst NotOld g tt)
     on (I.accepted d) e g =
         let found : State Drawing = record { drawing = d; count = m .count } in
-        let same : s .drawing ≡ d = subst (OldAt d) g (old-at (length (m .buffer)) found (wallTransition protocol found (protocol .decode bytes)) (wall-case found (protocol .decode bytes))) in
+        let same : s .drawing ≡ d = subst (OldAt d) g (old-at (length (m .buffer)) found (wallTransition (protocol (m .mark)) found (protocol (m .mark) .decode bytes)) (wall-case (m .mark) found (protocol (m .mark) .decode bytes))) in
         let size : length (imageIn m) ≡ E.drawingSize (s .drawing) = length-parsed (imageIn m) d e ∙ ap E.drawingSize (sym same) in
         omega (arith, size, good-size (imageIn m) (result-accepted (I.imageFault (imageIn m)) (I.drawingOf (imageIn m)) d e .0))
 
-module _ (b : List ℕ) (len count : ℕ) (bytes a : List ℕ) (left : Memory) (reply : WallReply) (w : WallDelivers (record { buffer = b; size = len; count = count }) (record { bytes = bytes; left = left; reply = reply })) where
+module _ (b : List ℕ) (len count mark : ℕ) (bytes a : List ℕ) (left : Memory) (reply : WallReply) (w : WallDelivers (record { buffer = b; size = len; mark = mark; count = count }) (record { bytes = bytes; left = left; reply = reply })) where
   abbrev found : Memory
-  found = record { buffer = b; size = len; count = count }
+  found = record { buffer = b; size = len; mark = mark; count = count }
 
   abbrev walls : CallOutcome
   walls = R.wallCallOutcome found bytes
 
-  pub wall-refused : (n place : ℕ) → reply ≡ Wall.Refused n place → Bytes b → (r : ℕ) → r % 65536 ≡ n → r / 65536 ≡ place % 65536 → WallCallWritten len count bytes b (left .buffer) a a r
+  pub wall-refused : (n place : ℕ) → reply ≡ Wall.Refused n place → Bytes b → (r : ℕ) → r % 65536 ≡ n → r / 65536 ≡ place % 65536 → WallCallWritten len count mark bytes b (left .buffer) a a r
   wall-refused n place q are r low high =
       let g = wall-reply-refused walls n place (sym q ∙ w .reply-is) in
       let c = refused-written walls n place r g (subst OutcomeSound g (w .sound)) low (whole-place walls n place r g (wall-place-within found are bytes) high) b a in
@@ -264,7 +264,7 @@ module _ (b : List ℕ) (len count : ℕ) (bytes a : List ℕ) (left : Memory) (
         let l : left .size ≡ E.drawingSize (was-old .0 .drawing) = ap (λ (m : Memory). m .size) (w .left-is ∙ ap (λ (v : CallOutcome). memoryAfter v found) (was-old .1)) in
         omega (arith, l, old-size found bytes (was-old .0) (was-old .1))
 
-    pub wall-old : (a′ : List ℕ) (r : ℕ) → (r ≡ 0) × (a′ ≡ answerWith a (left .count) (left .size) nothing) → WallCallWritten len count bytes b (left .buffer) a a′ r
+    pub wall-old : (a′ : List ℕ) (r : ℕ) → (r ≡ 0) × (a′ ≡ answerWith a (left .count) (left .size) nothing) → WallCallWritten len count mark bytes b (left .buffer) a a′ r
     wall-old a′ r (z, n) = old-written found walls (w .sound) left (w .left-is) (was-old .0) (was-old .1) a a′ r z n
 
   module _ (q : Removed) (is : reply ≡ Wall.Applied q) where
@@ -274,5 +274,5 @@ module _ (b : List ℕ) (len count : ℕ) (bytes a : List ℕ) (left : Memory) (
     pub wall-size : left .size ≤ I.maxImageSize
     wall-size = updated-size found walls (w .sound) left (w .left-is) (was-applied .0) q (was-applied .1)
 
-    pub wall-applied : (a′ : List ℕ) (r : ℕ) → (r ≡ 0) × (a′ ≡ answerWith a (left .count) (left .size) q) → WallCallWritten len count bytes b (left .buffer) a a′ r
+    pub wall-applied : (a′ : List ℕ) (r : ℕ) → (r ≡ 0) × (a′ ≡ answerWith a (left .count) (left .size) q) → WallCallWritten len count mark bytes b (left .buffer) a a′ r
     wall-applied a′ r (z, n) = updated-written found walls (w .sound) left (w .left-is) (was-applied .0) q (was-applied .1) a a′ r z n

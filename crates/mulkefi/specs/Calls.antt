@@ -53,21 +53,21 @@ abbrev pub mkEditByNumber : ℕ → ℕ → Float → Float → Edit
 mkEditByNumber operation curve x y = mkEdit (operationOf operation) curve x y
 
 -- 6 for an unknown operation, before what the desk refuses
-abbrev pub deskByNumber : ℕ → ℕ → Call Edit → State Drawing → CallOutcome
-deskByNumber room operation call s = ite (isOperation operation) (deskOn room call s) (refused 6 0)
+abbrev pub deskByNumber : ℕ → ℕ → ℕ → Call Edit → State Drawing → CallOutcome
+deskByNumber mark room operation call s = ite (isOperation operation) (deskOn mark room call s) (refused 6 0)
 
 -- the image is the first `len` bytes of the buffer, all of it where it is shorter; `room` is lent for the message
-abbrev pub deskOutcomeByNumber : List ℕ → ℕ → ℕ → ℕ → Edit → ℕ → CallOutcome
-deskOutcomeByNumber buffer len count operation e room =
-    onImage (I.parse (take len buffer)) count (deskByNumber (length buffer) operation (record { edit = e; room = room }))
+abbrev pub deskOutcomeByNumber : List ℕ → ℕ → ℕ → ℕ → ℕ → Edit → ℕ → CallOutcome
+deskOutcomeByNumber buffer len count mark operation e room =
+    onImage (I.parse (take len buffer)) count (deskByNumber mark (length buffer) operation (record { edit = e; room = room }))
 
 -- the outcome's answer, and the message
-pub record DeskCallWritten (len count operation : ℕ) (e : Edit) (buffer buffer′ message message′ answer answer′ : List ℕ) (r : ℕ) : Type 0 where
-  pub served : CallWritten (deskOutcomeByNumber buffer len count operation e (length message)) buffer buffer′ answer answer′ r
-  pub written : message′ ≡ messageAfter (deskOutcomeByNumber buffer len count operation e (length message)) e message
+pub record DeskCallWritten (len count mark operation : ℕ) (e : Edit) (buffer buffer′ message message′ answer answer′ : List ℕ) (r : ℕ) : Type 0 where
+  pub served : CallWritten (deskOutcomeByNumber buffer len count mark operation e (length message)) buffer buffer′ answer answer′ r
+  pub written : message′ ≡ messageAfter mark (deskOutcomeByNumber buffer len count mark operation e (length message)) e message
 
 -- ---- the wall
 
 -- the outcome's answer
-abbrev pub WallCallWritten : ℕ → ℕ → List ℕ → List ℕ → List ℕ → List ℕ → List ℕ → ℕ → Type 0
-WallCallWritten len count bytes buffer buffer′ answer answer′ r = CallWritten (wallCallOutcome (record { buffer = buffer; size = len; count = count }) bytes) buffer buffer′ answer answer′ r
+abbrev pub WallCallWritten : ℕ → ℕ → ℕ → List ℕ → List ℕ → List ℕ → List ℕ → List ℕ → ℕ → Type 0
+WallCallWritten len count mark bytes buffer buffer′ answer answer′ r = CallWritten (wallCallOutcome (record { buffer = buffer; size = len; mark = mark; count = count }) bytes) buffer buffer′ answer answer′ r

@@ -15,10 +15,10 @@ use Rattle.replication.specs.Protocol.{Edit}
 use Rattle.replication.specs.Transitions.{Memory, stateIn}
 use Rattle.mulkefi.specs.Calls.{mkEditByNumber, DeskCallWritten, WallCallWritten}
 
--- the memory as a call leaves it: a host takes over the size and count of an answer 0, and keeps them after any other
+-- the memory as a call leaves it: a host takes over the size and count of an answer 0, and keeps them after any other; the mark it keeps always
 abbrev pub afterCall : Memory → List ℕ → List ℕ → ℕ → Memory
-afterCall m buffer answer zero = record { buffer = buffer; size = getD answer 1 0; count = getD answer 0 0 }
-afterCall m buffer answer (suc r) = record { buffer = buffer; size = m .size; count = m .count }
+afterCall m buffer answer zero = record { buffer = buffer; size = getD answer 1 0; mark = m .mark; count = getD answer 0 0 }
+afterCall m buffer answer (suc r) = record { buffer = buffer; size = m .size; mark = m .mark; count = m .count }
 
 -- the report in an answer
 abbrev pub reportIn : List ℕ → Removed
@@ -61,7 +61,7 @@ deskStepsIn m (u ∷ us) = ite (isOperation (u .operation)) (deskStepIn m u ∷ 
 abbrev pub DeskUses : Memory → List DeskUse → Type 0
 DeskUses m [] = Unit {0}
 DeskUses m (u ∷ us) =
-    DeskCallWritten (m .size) (m .count) (u .operation) (editOfUse u) (m .buffer) (u .buffer) (u .lent) (u .message) (u .before) (u .answer) (u .result)
+    DeskCallWritten (m .size) (m .count) (m .mark) (u .operation) (editOfUse u) (m .buffer) (u .buffer) (u .lent) (u .message) (u .before) (u .answer) (u .result)
     × (length (u .before) ≡ 5) × DeskUses (afterDesk m u) us
 
 -- ---- the wall
@@ -93,5 +93,5 @@ wallStepsIn m (u ∷ us) = wallStepIn m u ∷ wallStepsIn (afterWall m u) us
 abbrev pub WallUses : Memory → List WallUse → Type 0
 WallUses m [] = Unit {0}
 WallUses m (u ∷ us) =
-    WallCallWritten (m .size) (m .count) (u .bytes) (m .buffer) (u .buffer) (u .before) (u .answer) (u .result)
+    WallCallWritten (m .size) (m .count) (m .mark) (u .bytes) (m .buffer) (u .buffer) (u .before) (u .answer) (u .result)
     × (length (u .before) ≡ 5) × WallUses (afterWall m u) us

@@ -3,6 +3,7 @@ use crate::AnswerField;
 use crate::buffers::refusal;
 use crate::buffers::write_answer;
 use message::EditNumber;
+use message::Mark;
 use replication::DeskReply;
 use replication::Replica;
 use replication::desk_edit;
@@ -12,13 +13,14 @@ use sketch::Id;
 ghost use Rattle.mulkefi.specs.Calls.{mkEditByNumber, DeskCallWritten};
 
 // Makes an edit of the image in the first `len` bytes of `buffer`, at a count. Accepted, it answers 0: the new image stands at the front
-// of `buffer`, the edit's message at the front of `message`, and `answer` holds the count, the image's size and the report. Refused, it
+// of `buffer`, the edit's message, under the mark, at the front of `message`, and `answer` holds the count, the image's size and the report. Refused, it
 // answers the number, plus 65536 times the place that comes with it, and leaves all as it was.
 #[no_mangle]
 pub extern "C" fn mulkefi_desk_edit(
     buffer: &mut [u8],
     len: usize,
     count: EditNumber,
+    mark: Mark,
     operation: u32,
     curve: Id,
     x: f64,
@@ -26,12 +28,16 @@ pub extern "C" fn mulkefi_desk_edit(
     message: &mut [u8],
     answer: &mut [AnswerField; 5],
 ) -> u32
-    ensures { λ r. ⌜ DeskCallWritten len count operation (mkEditByNumber operation curve x y) (now (buffer .entry)) (now (buffer .exit)) (now (message .entry)) (now (message .exit)) (now (answer .entry)) (now (answer .exit)) r ⌝ }
+    ensures { λ r. ⌜ DeskCallWritten len count mark operation (mkEditByNumber operation curve x y) (now (buffer .entry)) (now (buffer .exit)) (now (message .entry)) (now (message .exit)) (now (answer .entry)) (now (answer .exit)) r ⌝ }
 {
     if !message::is_operation(operation) {
         return first_fault(front(&buffer[..], len), 6) as u32;
     }
-    let replica = Replica { size: len, count };
+    let replica = Replica {
+        size: len,
+        mark,
+        count,
+    };
     let operation = message::operation_of(operation);
     let edited = desk_edit(replica, buffer, operation, curve, x, y, message);
     let after = edited.replica;

@@ -46,11 +46,11 @@ image-copied s before later sk r n b a z e w =
     let c : encode (view sk) ≡ s = ap encode v ∙ encode-back s b k in
     record { number = w .number ∙ rw (f, i, l); buffer = w .buffer ∙ rw (f, i, l, c) }
 
-pub message-copied : (s before later : List ℕ) (m : Message) (n : ℕ) → Bytes s → M.parse s ≡ Accepted m → M.MessageWritten m before later n → Copied (messageFault s) s before later n
+pub message-copied : (mark : ℕ) (s before later : List ℕ) (m : Message) (n : ℕ) → Bytes s → M.parse mark s ≡ Accepted m → M.MessageWritten mark m before later n → Copied (messageFault mark s) s before later n
 unfolding guardNumber
-message-copied s before later m n b e w =
-    let v = result-accepted (messageFault s) (messageOf s) m e in
-    let k = message-kept s (v .0) in
+message-copied mark s before later m n b e w =
+    let v = result-accepted (messageFault mark s) (messageOf s) m e in
+    let k = message-kept mark s (v .0) in
     let g : 1 ≤ m .number = rw (← v .1) (k .numbered) in
-    let c : M.encode m ≡ s = rw (← v .1) (T.encode-back s b k) in
+    let c : M.encode mark m ≡ s = rw (← v .1) (T.encode-back mark s b k) in
     record { number = w .number ∙ rw (le-leb 1 (m .number) g, v .0, k .long); buffer = w .buffer ∙ rw (le-leb 1 (m .number) g, v .0, k .long, c) }

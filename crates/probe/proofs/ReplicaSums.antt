@@ -38,27 +38,27 @@ use Rattle.probe.specs.Replicas.{imageState, deskTally, deskAdds, wallTa
 with-place : (n place j p q : ℕ) → n ≡ j → place ≡ p → p ≤ limits .relations → q ≡ n + place % 65536 * 65536 → q ≡ withPlace j p
 with-place n place j p q e f h is = omega arith
 
-module _ (d : Drawing) (v : Valid limits d) (e : Edit) (m : List ℕ) (reply : DeskReply) where
+module _ (mark : ℕ) (d : Drawing) (v : Valid limits d) (e : Edit) (m : List ℕ) (reply : DeskReply) where
   pub desk-refused :
-      (o : Outcome (State Drawing) Removed) (n place : ℕ) → reply ≡ Desk.Refused n place → deskReply reply m ≡ M.replyTo protocol d e o → {k : ℕ} → k ≡ n + place % 65536 * 65536
-      → k ≡ deskTally (protocol .place d e) o
+      (o : Outcome (State Drawing) Removed) (n place : ℕ) → reply ≡ Desk.Refused n place → deskReply reply m ≡ M.replyTo (protocol mark) d e o → {k : ℕ} → k ≡ n + place % 65536 * 65536
+      → k ≡ deskTally (protocol mark .place d e) o
   unfolding deskTally
   desk-refused (refused j) n place q h is =
-      let w : _≡_ {A = M.DeskReply Removed} (M.deskRefused n place) (M.deskRefused j (protocol .place d e j)) = ap (λ x. deskReply x m) (sym q) ∙ h in
+      let w : _≡_ {A = M.DeskReply Removed} (M.deskRefused n place) (M.deskRefused j (protocol mark .place d e j)) = ap (λ x. deskReply x m) (sym q) ∙ h in
       let number : n ≡ j = cc in
-      let placed : place ≡ protocol .place d e j = cc in
-      with-place n place j (protocol .place d e j) _ number placed (within d v e j) is
+      let placed : place ≡ protocol mark .place d e j = cc in
+      with-place n place j (protocol mark .place d e j) _ number placed (within d v e j) is
   desk-refused (accepted t r) n place q h is =
-      let w : _≡_ {A = M.DeskReply Removed} (M.deskRefused n place) (M.replyTo protocol d e (accepted t r)) = ap (λ x. deskReply x m) (sym q) ∙ h in
+      let w : _≡_ {A = M.DeskReply Removed} (M.deskRefused n place) (M.replyTo (protocol mark) d e (accepted t r)) = ap (λ x. deskReply x m) (sym q) ∙ h in
       let z : _≡_ {A = ℕ} 0 1 = cc in
       absurd (omega arith)
 
   pub desk-done :
-      (o : Outcome (State Drawing) Removed) (was now : State Drawing) (gone : Removed) → reply ≡ Desk.Accepted gone → deskReply reply m ≡ M.replyTo protocol d e o → now ≡ stateAfter was o
-      → {k : ℕ} → k ≡ (now .count + 256) % 2 ^ 32 → k ≡ deskTally (protocol .place d e) o
+      (o : Outcome (State Drawing) Removed) (was now : State Drawing) (gone : Removed) → reply ≡ Desk.Accepted gone → deskReply reply m ≡ M.replyTo (protocol mark) d e o → now ≡ stateAfter was o
+      → {k : ℕ} → k ≡ (now .count + 256) % 2 ^ 32 → k ≡ deskTally (protocol mark .place d e) o
   unfolding deskTally
   desk-done (refused k) was now gone q h g f =
-      let w : _≡_ {A = M.DeskReply Removed} (M.deskAccepted gone m) (M.deskRefused k (protocol .place d e k)) = ap (λ x. deskReply x m) (sym q) ∙ h in
+      let w : _≡_ {A = M.DeskReply Removed} (M.deskAccepted gone m) (M.deskRefused k (protocol mark .place d e k)) = ap (λ x. deskReply x m) (sym q) ∙ h in
       let z : _≡_ {A = ℕ} 0 1 = cc in
       absurd (omega arith)
   desk-done (accepted t r) was now gone q h g f = f ∙ ap (λ (x : State Drawing). (x .count + 256) % 2 ^ 32) g
@@ -109,14 +109,14 @@ module _ (reply : WallReply) where
 -- ---- so many on one image
 
 -- an image put to a buffer's front is a replica's
-module _ (image : List ℕ) (are : Bytes image) (good : imageFault image ≡ 0) (count : ℕ) (b : List ℕ) (room : maxImageSize ≤ length b) (b′ : List ℕ) (put : b′ ≡ overIfFits b 0 image) where
+module _ (image : List ℕ) (are : Bytes image) (good : imageFault image ≡ 0) (count mark : ℕ) (b : List ℕ) (room : maxImageSize ≤ length b) (b′ : List ℕ) (put : b′ ≡ overIfFits b 0 image) where
   abbrev found : Memory
-  found = memory (record { size = length image; count = count }) b′
+  found = memory (record { size = length image; mark = mark; count = count }) b′
 
   pub drawing-valid : Valid limits (drawingOf image)
   drawing-valid = fault-valid limits (drawingOf image) (valid image (drawingOf image) are (result-none (imageFault image) (drawingOf image) good))
 
-  held : Holding found (imageState image count)
+  held : Holding mark found (imageState image count)
   unfolding over
   held =
       let l = good-size image good in
@@ -128,17 +128,18 @@ module _ (image : List ℕ) (are : Bytes image) (good : imageFault image ≡ 0) 
       let long : maxImageSize ≤ length b′ = subst (λ (n : ℕ). maxImageSize ≤ n) (sym (ap length is ∙ length-over b 0 image fits)) room in
       record {
         ready = ready-by found (drawingOf image) e drawing-valid long;
+        mark-is = refl;
         state = λ i. record { drawing = ap drawingIn e i; count = count };
       }
 
-  pub place-low : (message : List ℕ) → wallPlace (M.wallTransition protocol (imageState image count) (protocol .decode message) .1) ≤ limits .relations
-  place-low message = reply-within (imageState image count) drawing-valid (protocol .decode message)
+  pub place-low : (message : List ℕ) → wallPlace (M.wallTransition (protocol mark) (imageState image count) (protocol mark .decode message) .1) ≤ limits .relations
+  place-low message = reply-within mark (imageState image count) drawing-valid (protocol mark .decode message)
 
-  pub desk-valid : (c : DeskCall) → DeskEdits found c → DeskStepValid protocol (imageState image count) (deskStep c)
-  desk-valid c w = subst (λ (s : State Drawing). DeskStepValid protocol s (deskStep c)) (held .state) (desk-step found (held .ready) c w .0)
+  pub desk-valid : (c : DeskCall) → DeskEdits found c → DeskStepValid (protocol mark) (imageState image count) (deskStep c)
+  desk-valid c w = subst (λ (s : State Drawing). DeskStepValid (protocol mark) s (deskStep c)) (held .state) (desk-step found (held .ready) c w .0)
 
-  pub wall-valid : (c : WallCall) → WallDelivers found c → WallStepValid protocol (imageState image count) (wallStep c)
-  wall-valid c w = subst (λ (s : State Drawing). WallStepValid protocol s (wallStep c)) (held .state) (wall-step found (held .ready) c w .0)
+  pub wall-valid : (c : WallCall) → WallDelivers found c → WallStepValid (protocol mark) (imageState image count) (wallStep c)
+  wall-valid c w = subst (λ (s : State Drawing). WallStepValid (protocol mark) s (wallStep c)) (held .state) (wall-step found (held .ready) c w .0)
 
 pub desk-read :
     (s : List ℕ) (count op t : ℕ) (x y : Float) (times : ℕ) {op′ : Operation} {n : ℕ} → op′ ≡ operationOf op

@@ -24,8 +24,8 @@ pub record Copied (fault : ℕ) (bytes before later : List ℕ) (r : ℕ) : Type
 abbrev pub ImageCopied : List ℕ → List ℕ → List ℕ → ℕ → Type 0
 ImageCopied bytes before later r = Copied (imageFault bytes) bytes before later r
 
-abbrev pub MessageCopied : List ℕ → List ℕ → List ℕ → ℕ → Type 0
-MessageCopied bytes before later r = Copied (messageFault bytes) bytes before later r
+abbrev pub MessageCopied : ℕ → List ℕ → List ℕ → List ℕ → ℕ → Type 0
+MessageCopied mark bytes before later r = Copied (messageFault mark bytes) bytes before later r
 
 -- the sketch with another next id and other counts
 abbrev pub altered : Sketch → ℕ → ℕ → ℕ → ℕ → Sketch

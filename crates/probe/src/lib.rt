@@ -7,6 +7,7 @@ mod shapes;
 mod typed_edits;
 mod verdicts;
 
+use message::Mark;
 use message::MessageRead;
 use sketch::Id;
 ghost use mathlib.Core.Path.{_≡_};
@@ -52,14 +53,14 @@ pub extern "C" fn mulkefi_image_copy(bytes: &[u8], out: &mut [u8]) -> u32
     sketch_image::write(sk, out) as u32
 }
 
-// Reads a message and writes it again.
+// Reads a message at a mark and writes it again.
 #[no_mangle]
-pub extern "C" fn mulkefi_message_copy(bytes: &[u8], out: &mut [u8]) -> u32
-    ensures { λ r. ⌜ MessageCopied (now (bytes .entry)) (now (out .entry)) (now (out .exit)) r ⌝ }
+pub extern "C" fn mulkefi_message_copy(bytes: &[u8], mark: Mark, out: &mut [u8]) -> u32
+    ensures { λ r. ⌜ MessageCopied mark (now (bytes .entry)) (now (out .entry)) (now (out .exit)) r ⌝ }
 {
-    match message::read_message(bytes) {
+    match message::read_message(bytes, mark) {
         MessageRead::Refused(number) => number as u32,
-        MessageRead::Accepted(m) => message::write_message(m, out) as u32,
+        MessageRead::Accepted(m) => message::write_message(m, mark, out) as u32,
     }
 }
 

@@ -3,6 +3,7 @@ use crate::edits::with_place;
 use image::MAX_IMAGE_SIZE;
 use message::EditNumber;
 use message::MESSAGE_SIZE;
+use message::Mark;
 use message::Operation;
 use message::is_operation;
 use message::operation_of;
@@ -51,6 +52,7 @@ fn desk_adds(
     put_run(image, buffer, 0);
     let replica = Replica {
         size: image.len(),
+        mark: 0,
         count,
     };
     let mut message = [0u8; MESSAGE_SIZE];
@@ -109,15 +111,16 @@ pub extern "C" fn mulkefi_desk_repeated(
     desks_sum(bytes, count, operation_of(operation), curve, x, y, times)
 }
 
-// What one delivery to a wall that has an image and a count adds to a sum: a refusal's number with its place, 256 for an old message, or 256 and
+// What one delivery to a wall that has an image, a count and a mark adds to a sum: a refusal's number with its place, 256 for an old message, or 256 and
 // the count.
-fn wall_adds(image: &[u8], count: EditNumber, message: &[u8], buffer: &mut [u8]) -> u32
+fn wall_adds(image: &[u8], count: EditNumber, mark: Mark, message: &[u8], buffer: &mut [u8]) -> u32
     requires { ⌜ (imageFault (now image) ≡ 0) × (maxImageSize ≤ length (now buffer)) ⌝ }
-    ensures { λ r. ⌜ r ≡ wallAdds (now (message .entry)) (imageState (now (image .entry)) count) ⌝ }
+    ensures { λ r. ⌜ r ≡ wallAdds mark (now (message .entry)) (imageState (now (image .entry)) count) ⌝ }
 {
     put_run(image, buffer, 0);
     let replica = Replica {
         size: image.len(),
+        mark,
         count,
     };
     let answer = replication::wall_deliver(replica, buffer, message);
@@ -130,34 +133,35 @@ fn wall_adds(image: &[u8], count: EditNumber, message: &[u8], buffer: &mut [u8])
     }
 }
 
-fn walls_sum(image: &[u8], count: EditNumber, message: &[u8], times: u32) -> u32
+fn walls_sum(image: &[u8], count: EditNumber, mark: Mark, message: &[u8], times: u32) -> u32
     requires { ⌜ imageFault (now image) ≡ 0 ⌝ }
-    ensures { λ r. ⌜ r ≡ repeated times (wallAdds (now (message .entry)) (imageState (now (image .entry)) count)) ⌝ }
+    ensures { λ r. ⌜ r ≡ repeated times (wallAdds mark (now (message .entry)) (imageState (now (image .entry)) count)) ⌝ }
 {
     let mut buffer = [0u8; MAX_IMAGE_SIZE];
     let mut sum = 0u32;
     let mut i = 0u32;
     while i < times {
-        let more = wall_adds(image, count, message, &mut buffer);
+        let more = wall_adds(image, count, mark, message, &mut buffer);
         sum = std::num::wrapping_add_u32(sum, more);
         i += 1;
     }
     sum
 }
 
-// Delivers a message to a wall with an image and a count so many times, each on that image.
+// Delivers a message to a wall with an image, a count and a mark so many times, each on that image.
 #[no_mangle]
 pub extern "C" fn mulkefi_deliver_repeated(
     bytes: &[u8],
     count: EditNumber,
+    mark: Mark,
     message: &[u8],
     times: u32,
 ) -> u32
-    ensures { λ r. ⌜ r ≡ wallsSum (now (bytes .entry)) count (now (message .entry)) times ⌝ }
+    ensures { λ r. ⌜ r ≡ wallsSum (now (bytes .entry)) count mark (now (message .entry)) times ⌝ }
 {
     let fault = first_fault(bytes, 0);
     if fault != 0 {
         return fault as u32;
     }
-    walls_sum(bytes, count, message, times)
+    walls_sum(bytes, count, mark, message, times)
 }

@@ -1,4 +1,4 @@
--- A message is read as the edit and the number that it was made of, where the edit was accepted.
+-- At its own mark a message is read as the edit and the number that it was made of, where the edit was accepted; at any other it is not read.
 use mathlib.Core.Path.{_≡_, ap}
 use mathlib.Core.Bool.{Bool, true, false, _&&_}
 use Prim.Native.Nat.{ℕ, _≤_, _<_}
@@ -11,6 +11,7 @@ use Rattle.sketch.specs.Lists.{guardNumber}
 use Rattle.sketch.specs.Drawing.{Drawing, limits}
 use Rattle.sketch.specs.Facts.{Valid}
 use Rattle.message.specs.Message.{encode, resultOf}
+use Rattle.message.specs.Stored.{Mark}
 use Rattle.message.proofs.MessageRoundTrips.{parse-encode}
 use Rattle.image.specs.Stored.{Id}
 use Rattle.relations.specs.Met.{allMet}
@@ -32,7 +33,7 @@ both-fit false b e = let z : _≡_ {A = ℕ} 0 1 = cc in absurd (omega arith)
 pub literal : (d : Drawing) (e : Edit) (d′ : Drawing) (r : Removed) → edit d e ≡ accepted d′ r → editOf (e .operation) limits d (e .curve) (e .at) ≡ accepted d′ r
 literal d e d′ r q = guard-accepted (isPick (e .at)) 9 (editOf (e .operation) limits d (e .curve) (e .at)) d′ r q .1
 
-pub planned : Planned target allMet limits (protocol .edit)
+pub planned : Planned target allMet limits edit
 planned d e d′ r v q = edit-planned allMet (e .operation) limits d (e .curve) (e .at) d′ r (literal d e d′ r q)
 
 -- a pick's bits give it back
@@ -42,11 +43,11 @@ edit-in-message n e a b =
     let q = ofBits-toBits binary64 (e .at .y) b in
     λ i. record { operation = e .operation; curve = e .curve; at = record { x = p i; y = q i } }
 
-pub read-back : (n : ℕ) (e : Edit) → 0 < n → n ≤ maxEditNumber → Id (e .curve) → isPick (e .at) ≡ true → protocol .decode (protocol .encode n e) ≡ message n e
+pub read-back : (mark : ℕ) → Mark mark → (n : ℕ) (e : Edit) → 0 < n → n ≤ maxEditNumber → Id (e .curve) → isPick (e .at) ≡ true → protocol mark .decode (protocol mark .encode n e) ≡ message n e
 unfolding decodedOf resultOf guardNumber
-read-back n e l h c f =
+read-back mark k n e l h c f =
     let (a, b) = both-fit (fits binary64 (e .at .x)) (fits binary64 (e .at .y)) f in
-    let w = parse-encode (messageFor n e) (record {
+    let w = parse-encode mark k (messageFor n e) (record {
       number-fits = omega arith;
       curve-fits = c;
       x-fits = toBits-lt binary64 (e .at .x) a;
@@ -54,9 +55,9 @@ read-back n e l h c f =
     }) in
     rw (w, le-leb 1 n l) (ap (message n) (edit-in-message n e a b))
 
-pub read : Read protocol (Valid limits)
-read d e d′ r v q n l h =
+pub read : (mark : ℕ) → Mark mark → Read (protocol mark) (Valid limits)
+read mark k d e d′ r v q n l h =
     let f = guard-accepted (isPick (e .at)) 9 (editOf (e .operation) limits d (e .curve) (e .at)) d′ r q .0 in
-    let (plan, k, o) = planned d e d′ r v q in
+    let (plan, p, o) = planned d e d′ r v q in
     let t = plan-target allMet limits d v (e .curve) plan d′ r o .1 in
-    read-back n e l h (omega (arith, t, v .next-high)) f
+    read-back mark k n e l h (omega (arith, t, v .next-high)) f

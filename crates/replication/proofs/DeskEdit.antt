@@ -55,14 +55,14 @@ module _ (s : Replica) (b : List ℕ) (e : Edit) (l : List ℕ) where
       record {
         reply-is = sym (ap deskReplyTo g);
         left-is = sym (ap (λ (v : CallOutcome). memoryAfter v m) g);
-        message-is = sym (ap (λ (v : CallOutcome). messageAfter v e l) g);
+        message-is = sym (ap (λ (v : CallOutcome). messageAfter (s .mark) v e l) g);
         sound = subst OutcomeSound (sym g) z;
       }
 
   -- refused before the edit is looked at
-  first : (k : ℕ) → (k ≡ 0 → ⊥) → deskOn (length b) call (record { drawing = I.drawingOf (imageIn m); count = s .count }) ≡ refused k 0 → {n : ℕ} → n ≡ firstFault (imageIn m) k → {r : DeskTransition} → r ≡ deskRefusing s n 0 → Answers b l r
+  first : (k : ℕ) → (k ≡ 0 → ⊥) → deskOn (s .mark) (length b) call (record { drawing = I.drawingOf (imageIn m); count = s .count }) ≡ refused k 0 → {n : ℕ} → n ≡ firstFault (imageIn m) k → {r : DeskTransition} → r ≡ deskRefusing s n 0 → Answers b l r
   first k h g {n} f q =
-      subst (Answers b l) (sym q) (refusing n 0 (on-first (imageIn m) (s .count) (deskOn (length b) call) k n f g) (first-some (imageIn m) k n h f))
+      subst (Answers b l) (sym q) (refusing n 0 (on-first (imageIn m) (s .count) (deskOn (s .mark) (length b) call) k n f g) (first-some (imageIn m) k n h f))
 
   -- 23 and 25 come with no place
   placed-none : (k : ℕ) → 20 ≤ k → refused k (place (I.drawingOf (imageIn m)) e k) ≡ refused k 0
@@ -86,7 +86,7 @@ module _ (s : Replica) (b : List ℕ) (e : Edit) (l : List ℕ) where
       unfolding guard
       came =
           edit-outcome (imageIn m) e b b′ x w (s .count + 1) outcome
-          (on-image (imageIn m) (s .count) (deskOn (length b) call) (length b) (s .count + 1) e
+          (on-image (imageIn m) (s .count) (deskOn (s .mark) (length b) call) (length b) (s .count + 1) e
           (rw (le-leb messageSize (length l) room, lt-ltb (s .count) maxEditNumber low, pick) (counted (s .count + 1) (place (I.drawingOf (imageIn m)) e) (editOf (e .operation) limits (I.drawingOf (imageIn m)) (e .curve) (e .at)))))
 
       pub desk-declined : (x .refusal ≡ 0 → ⊥) → {r : DeskTransition} → r ≡ deskRefusing s (x .refusal) (x .place) → Answers b′ l r
@@ -106,16 +106,16 @@ module _ (s : Replica) (b : List ℕ) (e : Edit) (l : List ℕ) where
           (is-number (e .at .x) p, is-number (e .at .y) q)
 
       pub desk-done :
-          x .refusal ≡ 0 → (l′ : List ℕ) (k : ℕ) → MessageWritten (messageFor (s .count + 1) e) l l′ k
-          → Answers b′ l′ (record { replica = record { size = x .size; count = s .count + 1 }; reply = Desk.Accepted (x .removed) })
+          x .refusal ≡ 0 → (l′ : List ℕ) (k : ℕ) → MessageWritten (s .mark) (messageFor (s .count + 1) e) l l′ k
+          → Answers b′ l′ (record { replica = record { size = x .size; mark = s .mark; count = s .count + 1 }; reply = Desk.Accepted (x .removed) })
       unfolding guardNumber
       desk-done z l′ k u =
           let t = came .when-done z in
           let g = t .outcome in
-          let sent : l′ ≡ over l 0 (encode (messageFor (s .count + 1) e)) = u .buffer ∙ rw (le-leb 1 (s .count + 1) (omega arith), le-leb messageSize (length l) room) in
+          let sent : l′ ≡ over l 0 (encode (s .mark) (messageFor (s .count + 1) e)) = u .buffer ∙ rw (le-leb 1 (s .count + 1) (omega arith), le-leb messageSize (length l) room) in
           record {
             reply-is = sym (ap deskReplyTo g);
-            left-is = (λ i. record { buffer = t .buffer-is i; size = t .size-is i; count = s .count + 1 }) ∙ sym (ap (λ (v : CallOutcome). memoryAfter v m) g);
-            message-is = sent ∙ sym (ap (λ (v : CallOutcome). messageAfter v e l) g);
+            left-is = (λ i. record { buffer = t .buffer-is i; size = t .size-is i; mark = s .mark; count = s .count + 1 }) ∙ sym (ap (λ (v : CallOutcome). memoryAfter v m) g);
+            message-is = sent ∙ sym (ap (λ (v : CallOutcome). messageAfter (s .mark) v e l) g);
             sound = subst OutcomeSound (sym g) (t .sound);
           }

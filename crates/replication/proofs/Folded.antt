@@ -15,9 +15,9 @@ use Rattle.replication.specs.Replication.{applyEdits, edits}
 use Rattle.replication.proofs.Decoding.{literal}
 
 pub folded :
-    (s : State Drawing) (l : List (Entry Drawing Edit Removed)) (n : ℕ) → Linked protocol s l
+    (mark : ℕ) (s : State Drawing) (l : List (Entry Drawing Edit Removed)) (n : ℕ) → Linked (protocol mark) s l
     → applyEdits (s .drawing) (edits (take n l)) ≡ accepted (stateAt s l n .drawing) (reports (take n l))
-folded s l zero h = refl
-folded s [] (suc n) h = refl
-folded s (x ∷ xs) (suc n) h =
-    rw (literal (s .drawing) (x .edit) (x .after .drawing) (x .report) (h .0 .gives), folded (x .after) xs n (h .1))
+folded mark s l zero h = refl
+folded mark s [] (suc n) h = refl
+folded mark s (x ∷ xs) (suc n) h =
+    rw (literal (s .drawing) (x .edit) (x .after .drawing) (x .report) (h .0 .gives), folded mark (x .after) xs n (h .1))

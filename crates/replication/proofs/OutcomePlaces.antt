@@ -20,7 +20,7 @@ use Rattle.edit_plan.specs.Outcome as O
 use Rattle.modify.proofs.Places.{place-within}
 use Rattle.agreement.specs.Machines as M
 use Rattle.agreement.specs.Machines.{State, Call, Decoded, invalid, message, callOutcome, wallTransition}
-use Rattle.replication.specs.Protocol.{Edit, place, protocol}
+use Rattle.replication.specs.Protocol.{Edit, edit, place, protocol}
 use Rattle.replication.specs.Outcomes.{CallOutcome, refused, updated, ifImageFits, onImage, deskOutcome, deskOn, wallOutcome, wallOn, placeOf}
 use Rattle.replication.specs.Transitions.{Memory, imageIn, deskCallOutcome, wallCallOutcome}
 
@@ -34,17 +34,17 @@ wallPlace (M.wallRefused k place) = place
 wallPlace M.wallOld = 0
 wallPlace (M.wallApplied r) = 0
 
-pub reply-within : (s : State Drawing) → Valid limits (s .drawing) → (x : Decoded Edit) → wallPlace (wallTransition protocol s x .1) ≤ limits .relations
-reply-within s v (invalid k) = omega arith
-reply-within s v (message n e) = go (leb n (s .count)) (eqb n (s .count + 1))
+pub reply-within : (mark : ℕ) (s : State Drawing) → Valid limits (s .drawing) → (x : Decoded Edit) → wallPlace (wallTransition (protocol mark) s x .1) ≤ limits .relations
+reply-within mark s v (invalid k) = omega arith
+reply-within mark s v (message n e) = go (leb n (s .count)) (eqb n (s .count + 1))
   where
-    applied : (o : O.Outcome Drawing Removed) → wallPlace (M.wallApply protocol s n e o .1) ≤ limits .relations
+    applied : (o : O.Outcome Drawing Removed) → wallPlace (M.wallApply (protocol mark) s n e o .1) ≤ limits .relations
     applied (O.refused k) = within (s .drawing) v e k
     applied (O.accepted d r) = omega arith
 
-    go : (a b : Bool) → wallPlace (ite {A = State Drawing × M.WallReply Removed} a (s, M.wallOld) (ite b (M.wallApply protocol s n e (protocol .edit (s .drawing) e)) (s, M.wallRefused 7 0)) .1) ≤ limits .relations
+    go : (a b : Bool) → wallPlace (ite {A = State Drawing × M.WallReply Removed} a (s, M.wallOld) (ite b (M.wallApply (protocol mark) s n e (edit (s .drawing) e)) (s, M.wallRefused 7 0)) .1) ≤ limits .relations
     go true b = omega arith
-    go false true = applied (protocol .edit (s .drawing) e)
+    go false true = applied (edit (s .drawing) e)
     go false false = omega arith
 
 -- a new image, or 25, comes with none
@@ -65,7 +65,7 @@ module _ (m : Memory) (are : Bytes (m .buffer)) where
       go (I.accepted d) e = h d (fault-valid limits d (T.valid (imageIn m) d (bytes-take (m .size) (m .buffer) are) e))
 
   pub desk-place-within : (e : Edit) (room : ℕ) → placeOf (deskCallOutcome m e room) ≤ limits .relations
-  desk-place-within e room = on-within (deskOn (length (m .buffer)) call) λ d v. go d v (callOutcome protocol (record { drawing = d; count = m .count }) call)
+  desk-place-within e room = on-within (deskOn (m .mark) (length (m .buffer)) call) λ d v. go d v (callOutcome (protocol (m .mark)) (record { drawing = d; count = m .count }) call)
     where
       call : Call Edit
       call = record { edit = e; room = room }
@@ -76,10 +76,10 @@ module _ (m : Memory) (are : Bytes (m .buffer)) where
 
   pub wall-place-within : (bytes : List ℕ) → placeOf (wallCallOutcome m bytes) ≤ limits .relations
   wall-place-within bytes =
-      on-within (wallOn (length (m .buffer)) bytes) λ d v.
+      on-within (wallOn (m .mark) (length (m .buffer)) bytes) λ d v.
       let found : State Drawing = record { drawing = d; count = m .count } in
-      let x = wallTransition protocol found (protocol .decode bytes) in
-      go (x .0) (x .1) (reply-within found v (protocol .decode bytes))
+      let x = wallTransition (protocol (m .mark)) found (protocol (m .mark) .decode bytes) in
+      go (x .0) (x .1) (reply-within (m .mark) found v (protocol (m .mark) .decode bytes))
     where
       go : (s : State Drawing) (r : M.WallReply Removed) → wallPlace r ≤ limits .relations → placeOf (wallOutcome (length (m .buffer)) s r) ≤ limits .relations
       go s (M.wallRefused k place) h = h

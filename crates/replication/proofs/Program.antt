@@ -19,13 +19,13 @@ use Rattle.agreement.specs.Machines.{State, initial, wallTransition}
 use Rattle.replication.specs.declared.Started.{Started}
 use Rattle.replication.specs.Protocol.{protocol}
 use Rattle.replication.specs.Transitions.{Memory, memory, imageIn, stateIn, Ready, firstNonzero, Starts, WallCall, WallDelivers}
-use Rattle.replication.specs.Program.{imageEnd, chunksUpTo, chunks, wallAfterMessages, outcomeOn, programOutcome, WritesOutcome, DeliversAll, WritesImage}
+use Rattle.replication.specs.Program.{imageEnd, markIn, markEnd, chunksUpTo, chunks, wallAfterMessages, outcomeOn, programOutcome, WritesOutcome, DeliversAll, WritesImage}
 use Rattle.replication.proofs.Steps.{length-parsed, Holding, wall-step}
 use Rattle.replication.proofs.StartCases.{start-image, starts-with, held-at-start}
 
 -- ---- the lesser of two sizes
 
-abbrev least : ℕ → ℕ → ℕ
+abbrev pub least : ℕ → ℕ → ℕ
 least a b = ite (leb a b) a b
 
 pub least-first : (a b : ℕ) → a ≤ b → (a ≡ least a b) × (a ≤ a) × (a ≤ b)
@@ -76,17 +76,19 @@ pieces-more (b ∷ l) h =
 
 -- one more message
 more : (s : Memory) (l : List ℕ) → 0 < length l → (c : WallCall) → Ready s → c .bytes ≡ take messageSize l → WallDelivers s c
-    → wallAfterMessages (stateIn (c .left)) (chunks (drop messageSize l)) ≡ wallAfterMessages (stateIn s) (chunks l)
+    → wallAfterMessages (s .mark) (stateIn (c .left)) (chunks (drop messageSize l)) ≡ wallAfterMessages (s .mark) (stateIn s) (chunks l)
 more s l h c v e w =
-    let x : stateIn (c .left) ≡ wallTransition protocol (stateIn s) (protocol .decode (take messageSize l)) .0 =
-    wall-step s v c w .0 .state ∙ ap (λ (m : List ℕ). wallTransition protocol (stateIn s) (protocol .decode m) .0) e in
-    ap (λ (t : State Drawing). wallAfterMessages t (chunks (drop messageSize l))) x ∙ sym (ap (wallAfterMessages (stateIn s)) (pieces-more l h))
+    let p = protocol (s .mark) in
+    let x : stateIn (c .left) ≡ wallTransition p (stateIn s) (p .decode (take messageSize l)) .0 =
+    wall-step s v c w .0 .state ∙ ap (λ (m : List ℕ). wallTransition p (stateIn s) (p .decode m) .0) e in
+    ap (λ (t : State Drawing). wallAfterMessages (s .mark) t (chunks (drop messageSize l))) x ∙ sym (ap (wallAfterMessages (s .mark) (stateIn s)) (pieces-more l h))
 
 -- what the loop keeps
 pub record Follows (s₀ : Memory) (bytes : List ℕ) (s : Memory) (at : ℕ) : Type 0 where
   pub within : at ≤ length bytes
   pub ready : Ready s
-  pub on : wallAfterMessages (stateIn s) (chunks (drop at bytes)) ≡ wallAfterMessages (stateIn s₀) (chunks bytes)
+  pub mark-is : s .mark ≡ s₀ .mark
+  pub on : wallAfterMessages (s₀ .mark) (stateIn s) (chunks (drop at bytes)) ≡ wallAfterMessages (s₀ .mark) (stateIn s₀) (chunks bytes)
 
 pub delivers-more :
     (s₀ : Memory) (bytes : List ℕ) (s : Memory) (at r : ℕ) → Follows s₀ bytes s at → at < length bytes → r ≡ least messageSize (length bytes - at) → r ≤ length bytes - at
@@ -98,15 +100,20 @@ delivers-more s₀ bytes s at r f h e le c b w =
     let e2 : r ≡ least messageSize (length l) = e ∙ ap (least messageSize) (sym n) in
     let t : take (at + r - at) l ≡ take messageSize l = ap (λ (k : ℕ). take k l) (q ∙ e2) ∙ take-least messageSize l in
     let d : drop (at + r) bytes ≡ drop messageSize l = sym (drop-drop r at bytes) ∙ ap (λ (k : ℕ). drop k l) e2 ∙ drop-least messageSize l in
+    let one = more s l (omega arith) c (f .ready) (b ∙ t) w in
+    let left = wall-step s (f .ready) c w .1 in
     record {
       within = omega arith;
-      ready = wall-step s (f .ready) c w .1;
-      on = ap (λ (m : List ℕ). wallAfterMessages (stateIn (c .left)) (chunks m)) d ∙ more s l (omega arith) c (f .ready) (b ∙ t) w ∙ f .on;
+      ready = left .0;
+      mark-is = left .1 ∙ f .mark-is;
+      on =
+          ap (λ (m : List ℕ). wallAfterMessages (s₀ .mark) (stateIn (c .left)) (chunks m)) d
+          ∙ subst (λ (k : ℕ). wallAfterMessages k (stateIn (c .left)) (chunks (drop messageSize l)) ≡ wallAfterMessages k (stateIn s) (chunks l)) (f .mark-is) one ∙ f .on;
     }
 
 pub delivers-all : (s₀ : Memory) (bytes : List ℕ) (s : Memory) (at : ℕ) → Follows s₀ bytes s at → length bytes ≤ at → DeliversAll s₀ bytes s
 delivers-all s₀ bytes s at f h =
-    record { is = ap (λ (l : List ℕ). wallAfterMessages (stateIn s) (chunks l)) (sym (drop-of-length-le bytes h)) ∙ f .on; ready = f .ready }
+    record { is = ap (λ (l : List ℕ). wallAfterMessages (s₀ .mark) (stateIn s) (chunks l)) (sym (drop-of-length-le bytes h)) ∙ f .on; ready = f .ready }
 
 -- ---- what is written
 
@@ -145,48 +152,63 @@ module _ (image b : List ℕ) (are : Bytes image) where
 
 -- ---- the whole
 
-pub end-is : (n : ℕ) {f k r : ℕ} → k ≡ f → r ≡ least (4 + k) n → r ≡ least (4 + f) n
-end-is n p q = q ∙ ap (λ (k : ℕ). least (4 + k) n) p
+-- a place that is counted from the image's end, by the length that was read
+pub by-length : (f : ℕ → ℕ) {k l r : ℕ} → k ≡ l → r ≡ f k → r ≡ f l
+by-length f p q = q ∙ ap f p
 
-module _ (s : List ℕ) (end : ℕ) (e : end ≡ least (imageEnd s) (length s)) (b b′ : List ℕ) (r : Started) (st : Starts (take end s) b b′ r) where
-  image-is : take end s ≡ take (imageEnd s) s
-  image-is = ap (λ (n : ℕ). take n s) e ∙ take-least (imageEnd s) s
+module _
+    (s : List ℕ) (end from mark : ℕ) (e : end ≡ least (imageEnd s) (length s)) (g : from ≡ least (markEnd s) (length s)) (k : mark ≡ markIn s)
+    (b b′ : List ℕ) (r : Started) (st : Starts (take end s) mark b b′ r)
+  where
+    image-is : take end s ≡ take (imageEnd s) s
+    image-is = ap (λ (n : ℕ). take n s) e ∙ take-least (imageEnd s) s
 
-  rest-is : take (length s - end) (drop end s) ≡ drop (imageEnd s) s
-  rest-is =
-      let n : length (drop end s) ≡ length s - end = length-drop end s in
-      take-all (length s - end) (drop end s) (omega arith) ∙ ap (λ (n : ℕ). drop n s) e ∙ drop-least (imageEnd s) s
+    rest-is : take (length s - from) (drop from s) ≡ drop (markEnd s) s
+    rest-is =
+        let n : length (drop from s) ≡ length s - from = length-drop from s in
+        take-all (length s - from) (drop from s) (omega arith) ∙ ap (λ (n : ℕ). drop n s) g ∙ drop-least (markEnd s) s
 
-  -- the buffer has room for any image, so that a refusal is the image's
-  pub outcome-refused : I.maxImageSize ≤ length b → (r .refusal ≡ 0 → ⊥) → (l now : List ℕ) (n : ℕ) → WritesOutcome (I.refused (r .refusal)) l now n → WritesOutcome (programOutcome s) l now n
-  unfolding guardNumber
-  outcome-refused room h l now n w =
-      let own : r .refusal ≡ I.imageFault (take end s) = st .number ∙ rw (le-leb I.maxImageSize (length b) room) (go (I.imageFault (take end s))) in
-      let z : I.imageFault (take end s) ≡ 0 → ⊥ = λ y. h (own ∙ y) in
-      let q : programOutcome s ≡ I.refused (r .refusal) =
-      ap (λ (o : I.ParseResult). outcomeOn o (chunks (drop (imageEnd s) s))) (ap I.parse (sym image-is) ∙ result-refused (I.imageFault (take end s)) _ z) ∙ ap I.refused (sym own) in
-      subst (λ (o : I.ParseResult). WritesOutcome o l now n) (sym q) w
-    where
-      go : (k : ℕ) → firstNonzero k 0 ≡ k
-      go zero = refl
-      go (suc k) = refl
+    -- the buffer has room for any image, so that a refusal is the image's
+    pub outcome-refused : I.maxImageSize ≤ length b → (r .refusal ≡ 0 → ⊥) → (l now : List ℕ) (n : ℕ) → WritesOutcome (I.refused (r .refusal)) l now n → WritesOutcome (programOutcome s) l now n
+    unfolding guardNumber
+    outcome-refused room h l now n w =
+        let own : r .refusal ≡ I.imageFault (take end s) = st .number ∙ rw (le-leb I.maxImageSize (length b) room) (go (I.imageFault (take end s))) in
+        let z : I.imageFault (take end s) ≡ 0 → ⊥ = λ y. h (own ∙ y) in
+        let q : programOutcome s ≡ I.refused (r .refusal) =
+        ap (λ (o : I.ParseResult). outcomeOn (markIn s) o (chunks (drop (markEnd s) s))) (ap I.parse (sym image-is) ∙ result-refused (I.imageFault (take end s)) _ z) ∙ ap I.refused (sym own) in
+        subst (λ (o : I.ParseResult). WritesOutcome o l now n) (sym q) w
+      where
+        go : (k : ℕ) → firstNonzero k 0 ≡ k
+        go zero = refl
+        go (suc k) = refl
 
-  module _ (z : r .refusal ≡ 0) (are : Bytes (take end s)) where
-    start-drawing : I.parse (take end s) ≡ I.accepted (I.drawingOf (take end s))
-    start-drawing = result-none (I.imageFault (take end s)) (I.drawingOf (take end s)) (start-image (take end s) b b′ r st z)
+    module _ (z : r .refusal ≡ 0) (are : Bytes (take end s)) where
+      start-drawing : I.parse (take end s) ≡ I.accepted (I.drawingOf (take end s))
+      start-drawing = result-none (I.imageFault (take end s)) (I.drawingOf (take end s)) (start-image (take end s) mark b b′ r st z)
 
-    pub program-start : Holding (memory (r .replica) b′) (initial (I.drawingOf (take end s)))
-    program-start = held-at-start (take end s) are (I.drawingOf (take end s)) start-drawing (memory (r .replica) b′) (starts-with (take end s) b b′ r st z)
+      pub program-start : Holding mark (memory (r .replica) b′) (initial (I.drawingOf (take end s)))
+      program-start = held-at-start (take end s) are mark (I.drawingOf (take end s)) start-drawing (memory (r .replica) b′) (starts-with (take end s) mark b b′ r st z)
 
-    pub program-outcome :
-        (last : Memory) → DeliversAll (memory (r .replica) b′) (take (length s - end) (drop end s)) last → {image : List ℕ} → image ≡ imageIn last → (l now : List ℕ) (n : ℕ)
-        → WritesImage image l now n → WritesOutcome (programOutcome s) l now n
-    program-outcome last f {image} g l now n w =
-        let d = I.drawingOf (take end s) in
-        let m : stateIn last ≡ wallAfterMessages (initial d) (chunks (drop (imageEnd s) s)) =
-        f .is ∙ ap (λ (l : List ℕ). wallAfterMessages (stateIn (memory (r .replica) b′)) (chunks l)) rest-is ∙ ap (λ (t : State Drawing). wallAfterMessages t (chunks (drop (imageEnd s) s))) (program-start .state)
-        in
-        let q : programOutcome s ≡ I.accepted (stateIn last .drawing) =
-        ap (λ (o : I.ParseResult). outcomeOn o (chunks (drop (imageEnd s) s))) (ap I.parse (sym image-is) ∙ start-drawing) ∙ ap (λ (t : State Drawing). I.accepted (t .drawing)) (sym m)
-        in
-        subst (λ (o : I.ParseResult). WritesOutcome o l now n) (sym q) (w (stateIn last .drawing) (ap I.parse g ∙ f .ready .image-is))
+      pub program-outcome :
+          (last : Memory) → DeliversAll (memory (r .replica) b′) (take (length s - from) (drop from s)) last → {image : List ℕ} → image ≡ imageIn last → (l now : List ℕ) (n : ℕ)
+          → WritesImage image l now n → WritesOutcome (programOutcome s) l now n
+      program-outcome last f {image} h l now n w =
+          let d = I.drawingOf (take end s) in
+          let m : stateIn last ≡ wallAfterMessages (markIn s) (initial d) (chunks (drop (markEnd s) s)) =
+          f .is ∙ ap (λ (l : List ℕ). wallAfterMessages (r .replica .mark) (stateIn (memory (r .replica) b′)) (chunks l)) rest-is
+          ∙ ap₂ (λ (k : ℕ) (t : State Drawing). wallAfterMessages k t (chunks (drop (markEnd s) s))) (program-start .mark-is ∙ k) (program-start .state)
+          in
+          let q : programOutcome s ≡ I.accepted (stateIn last .drawing) =
+          ap (λ (o : I.ParseResult). outcomeOn (markIn s) o (chunks (drop (markEnd s) s))) (ap I.parse (sym image-is) ∙ start-drawing) ∙ ap (λ (t : State Drawing). I.accepted (t .drawing)) (sym m)
+          in
+          subst (λ (o : I.ParseResult). WritesOutcome o l now n) (sym q) (w (stateIn last .drawing) (ap I.parse h ∙ f .ready .image-is))
+
+-- with fewer bytes than a mark's after the image, the outcome is the image's own
+pub without-mark : (s : List ℕ) → length s < markEnd s → programOutcome s ≡ I.parse (take (imageEnd s) s)
+without-mark s h =
+    let short : length s ≤ markEnd s = omega arith in
+    ap (λ (l : List ℕ). outcomeOn (markIn s) (I.parse (take (imageEnd s) s)) (chunks l)) (drop-of-length-le s short) ∙ go (I.parse (take (imageEnd s) s))
+  where
+    go : (p : I.ParseResult) → outcomeOn (markIn s) p [] ≡ p
+    go (I.refused k) = refl
+    go (I.accepted d) = refl

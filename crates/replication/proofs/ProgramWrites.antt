@@ -14,18 +14,18 @@ use Rattle.image.proofs.RoundTrips as T
 use Rattle.image.proofs.Sizes.{image-size}
 use Rattle.image.proofs.Tables.{bytes-take}
 use Rattle.agreement.specs.Machines.{initial}
-use Rattle.replication.specs.Program.{imageEnd, chunks, outcomeOn, programOutcome, output, outputSize, WritesOutcome}
+use Rattle.replication.specs.Program.{imageEnd, markIn, markEnd, chunks, outcomeOn, programOutcome, output, outputSize, WritesOutcome}
 use Rattle.replication.proofs.WallCases.{deliveries-valid}
 
-outcome-small : (image : List ℕ) (ms : List (List ℕ)) → Bytes image → (p : I.ParseResult) → I.parse image ≡ p → outputSize (outcomeOn p ms) ≤ I.maxImageSize
-outcome-small image ms b (I.refused k) e = omega arith
-outcome-small image ms b (I.accepted d) e = image-size _ (deliveries-valid (initial d) ms (fault-valid limits d (T.valid image d b e)))
+outcome-small : (mark : ℕ) (image : List ℕ) (ms : List (List ℕ)) → Bytes image → (p : I.ParseResult) → I.parse image ≡ p → outputSize (outcomeOn mark p ms) ≤ I.maxImageSize
+outcome-small mark image ms b (I.refused k) e = omega arith
+outcome-small mark image ms b (I.accepted d) e = image-size _ (deliveries-valid mark (initial d) ms (fault-valid limits d (T.valid image d b e)))
 
 pub program-writes :
     (input : List ℕ) → Bytes input → (before later : List ℕ) (r : ℕ) → I.maxImageSize ≤ length before → WritesOutcome (programOutcome input) before later r
     → (r ≡ outputSize (programOutcome input)) × (later ≡ over before 0 (output (programOutcome input)))
 program-writes input b before later r room w =
     let image = take (imageEnd input) input in
-    let small = outcome-small image (chunks (drop (imageEnd input) input)) (bytes-take (imageEnd input) input b) (I.parse image) refl in
+    let small = outcome-small (markIn input) image (chunks (drop (markEnd input) input)) (bytes-take (imageEnd input) input b) (I.parse image) refl in
     let fits = le-leb (outputSize (programOutcome input)) (length before) (omega arith) in
     (w .size ∙ rw fits, w .buffer ∙ rw fits)

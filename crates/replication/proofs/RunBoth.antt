@@ -1,5 +1,5 @@
 -- The ways out of a run over both whole lists.
-use mathlib.Core.Path.{_≡_, refl, sym, ap, _∙_, subst}
+use mathlib.Core.Path.{_≡_, refl, sym, ap, _∙_, subst, subst₂}
 use mathlib.Core.Bool.{Bool, true, false, _&&_}
 use mathlib.Core.List.{List}
 use Prim.Native.Nat.{ℕ, zero, suc, _+_, _*_, _-_, _/_, _≤_, _<_}
@@ -14,12 +14,13 @@ use Rattle.sketch.proofs.Bools.{and-both}
 use Rattle.image.specs.Image as I
 use Rattle.image.proofs.RoundTrips.{result-none}
 use Rattle.message.specs.Message.{messageSize}
+use Rattle.message.specs.Stored.{Mark}
 use Rattle.agreement.specs.Machines.{State, initial, messages, WallRun, wallAfter}
 use Rattle.replication.specs.declared.Replica.{Replica}
 use Rattle.replication.specs.declared.Started.{Started}
 use Rattle.replication.specs.declared.RunResult.{RunResult}
 use Rattle.replication.specs.Protocol.{protocol}
-use Rattle.replication.specs.Transitions.{memory, stateIn, firstNonzero, Starts, firstFault}
+use Rattle.replication.specs.Transitions.{memory, stateIn, noReplica, firstNonzero, Starts, firstFault}
 use Rattle.replication.specs.RunBoth.{callsIn, hasRoom, holdsAny, runBothFault, DeskRan, messagesInLog, WallRan, RunsBoth, callSize, maxRoom}
 use Rattle.replication.proofs.Steps.{Holding}
 use Rattle.replication.proofs.StartCases.{nonzero-first, nonzero-second, above-first, starts-with, held-at-start}
@@ -45,9 +46,9 @@ room-is size room e = go (leb maxRoom room) refl (leb (size / callSize) ((room -
 -- ---- the ways out
 
 abbrev refusedRun : ℕ → RunResult
-refusedRun k = record { desk = record { size = 0; count = 0 }; wall = record { size = 0; count = 0 }; refusal = k }
+refusedRun k = record { desk = noReplica; wall = noReplica; refusal = k }
 
-module _ (image entries order before desk wall : List ℕ) where
+module _ (image : List ℕ) (mark : ℕ) (entries order before desk wall : List ℕ) where
   abbrev hasAll : Bool
   hasAll = hasRoom (length entries) (length before) && (holdsAny (length desk) && holdsAny (length wall))
 
@@ -60,16 +61,16 @@ module _ (image entries order before desk wall : List ℕ) where
       and-assoc true y z = refl
       and-assoc false y z = refl
 
-  refusing : (k : ℕ) → k ≡ runBothFault image (length entries) (length before) (length desk) (length wall) → (k ≡ 0 → ⊥) → RunsBoth image entries order before before desk desk wall wall (refusedRun k)
+  refusing : (k : ℕ) → k ≡ runBothFault image (length entries) (length before) (length desk) (length wall) → (k ≡ 0 → ⊥) → RunsBoth image mark entries order before before desk desk wall wall (refusedRun k)
   refusing k e z = record { number = e; kept = λ y. (refl, refl, refl, refl, refl); held = λ y. absurd (z y) }
 
-  pub run-short : hasAll ≡ false → {k : ℕ} → k ≡ firstFault image 25 → {r : RunResult} → r ≡ refusedRun k → RunsBoth image entries order before before desk desk wall wall r
+  pub run-short : hasAll ≡ false → {k : ℕ} → k ≡ firstFault image 25 → {r : RunResult} → r ≡ refusedRun k → RunsBoth image mark entries order before before desk desk wall wall r
   unfolding guardNumber
   run-short h {k} e q =
       let f : k ≡ firstNonzero (I.imageFault image) 25 = e ∙ sym (nonzero-first (I.imageFault image) 25) in
       rw q (refusing k (f ∙ sym (rw h)) (λ z. above-first (I.imageFault image) 25 (λ y. omega arith) (sym f ∙ z)))
 
-  module _ (enough : hasAll ≡ true) (d : Started) (desk₀ : List ℕ) (sd : Starts image desk desk₀ d) where
+  module _ (enough : hasAll ≡ true) (d : Started) (desk₀ : List ℕ) (sd : Starts image mark desk desk₀ d) where
     rooms : (holdsAny (length desk) ≡ true) × (holdsAny (length wall) ≡ true)
     rooms = and-both (holdsAny (length desk)) (holdsAny (length wall)) (and-both (hasRoom (length entries) (length before)) (holdsAny (length desk) && holdsAny (length wall)) enough .1)
 
@@ -88,10 +89,10 @@ module _ (image entries order before desk wall : List ℕ) where
     unfolding guardNumber
     number-is = sd .number ∙ ap (λ (b : Bool). firstNonzero (I.imageFault image) (guardNumber b 25 0)) (rooms .0 ∙ sym enough)
 
-    pub run-refused : (d .refusal ≡ 0 → ⊥) → {r : RunResult} → r ≡ refusedRun (d .refusal) → RunsBoth image entries order before before desk desk₀ wall wall r
-    run-refused z q = rw q (subst (λ (l : List ℕ). RunsBoth image entries order before before desk l wall wall (refusedRun (d .refusal))) (sym (sd .when-refused z .0)) (refusing (d .refusal) number-is z))
+    pub run-refused : (d .refusal ≡ 0 → ⊥) → {r : RunResult} → r ≡ refusedRun (d .refusal) → RunsBoth image mark entries order before before desk desk₀ wall wall r
+    run-refused z q = rw q (subst (λ (l : List ℕ). RunsBoth image mark entries order before before desk l wall wall (refusedRun (d .refusal))) (sym (sd .when-refused z .0)) (refusing (d .refusal) number-is z))
 
-    module _ (z : d .refusal ≡ 0) (are : Bytes image) (w : Started) (wall₀ : List ℕ) (sw : Starts image wall wall₀ w) where
+    module _ (z : d .refusal ≡ 0) (are : Bytes image) (w : Started) (wall₀ : List ℕ) (sw : Starts image mark wall wall₀ w) where
       abbrev start : Drawing
       start = I.drawingOf image
 
@@ -102,19 +103,19 @@ module _ (image entries order before desk wall : List ℕ) where
       image-read : I.parse image ≡ I.accepted start
       image-read = result-none (I.imageFault image) start (sym fault-is ∙ z)
 
-      pub at-desk : Holding (memory (d .replica) desk₀) (initial start)
-      at-desk = held-at-start image are start image-read (memory (d .replica) desk₀) (starts-with image desk desk₀ d sd z)
+      pub at-desk : Holding mark (memory (d .replica) desk₀) (initial start)
+      at-desk = held-at-start image are mark start image-read (memory (d .replica) desk₀) (starts-with image mark desk desk₀ d sd z)
 
-      pub at-wall : Holding (memory (w .replica) wall₀) (initial start)
-      at-wall = held-at-start image are start image-read (memory (w .replica) wall₀) (starts-with image wall wall₀ w sw wall-started)
+      pub at-wall : Holding mark (memory (w .replica) wall₀) (initial start)
+      at-wall = held-at-start image are mark start image-read (memory (w .replica) wall₀) (starts-with image mark wall wall₀ w sw wall-started)
 
-      module _ (log desk′ wall′ : List ℕ) (x y : Replica) (r : DeskRan (stateIn (memory (d .replica) desk₀) .drawing) (callsIn entries) before log (memory x desk′)) where
-        pub both-ran : WallRan (memory (w .replica) wall₀) (messagesInLog (x .count) log order) (memory y wall′) → RunsBoth image entries order before log desk desk′ wall wall′ (record { desk = x; wall = y; refusal = 0 })
+      module _ (log desk′ wall′ : List ℕ) (x y : Replica) (k : Mark mark) (r : DeskRan (d .replica .mark) (stateIn (memory (d .replica) desk₀) .drawing) (callsIn entries) before log (memory x desk′)) where
+        pub both-ran : WallRan (memory (w .replica) wall₀) (messagesInLog (x .count) log order) (memory y wall′) → RunsBoth image mark entries order before log desk desk′ wall wall′ (record { desk = x; wall = y; refusal = 0 })
         both-ran a =
             let same : stateIn (memory (d .replica) desk₀) .drawing ≡ start = ap (λ (t : State Drawing). t .drawing) (at-desk .state) in
-            let r2 : DeskRan start (callsIn entries) before log (memory x desk′) = subst (λ (d : Drawing). DeskRan d (callsIn entries) before log (memory x desk′)) same r in
-            let fed = a .fed ∙ log-holds start (callsIn entries) before log (memory x desk′) r2 order in
-            let run : WallRun protocol (initial start) (a .steps) = subst (λ (u : State Drawing). WallRun protocol u (a .steps)) (at-wall .state) (a .run) in
+            let r2 : DeskRan mark start (callsIn entries) before log (memory x desk′) = subst₂ (λ (k : ℕ) (d : Drawing). DeskRan k d (callsIn entries) before log (memory x desk′)) (at-desk .mark-is) same r in
+            let fed = a .fed ∙ log-holds mark start (callsIn entries) before log (memory x desk′) r2 order in
+            let run : WallRun (protocol mark) (initial start) (a .steps) = subst₂ (λ (k : ℕ) (u : State Drawing). WallRun (protocol k) u (a .steps)) (at-wall .mark-is) (at-wall .state) (a .run) in
             record {
               number = sym z ∙ number-is;
               kept = λ y. absurd (y refl);
@@ -129,7 +130,9 @@ module _ (image entries order before desk wall : List ℕ) where
                 wall-fed = fed;
                 desk-ends = r2 .ends;
                 wall-ends = ap (λ (u : State Drawing). wallAfter u (a .steps)) (sym (at-wall .state)) ∙ a .ends;
-                log-is = log-after start (callsIn entries) before log (memory x desk′) r2;
-                correct = demand-3 image are start image-read (r2 .steps) (a .steps) (r2 .run) run (deliver (messages (r2 .steps)) order (a .steps) fed);
+                desk-mark = r2 .mark-is;
+                wall-mark = a .mark-is ∙ at-wall .mark-is;
+                log-is = log-after mark start (callsIn entries) before log (memory x desk′) r2;
+                correct = demand-3 image are mark k start image-read (r2 .steps) (a .steps) (r2 .run) run (deliver mark (messages (r2 .steps)) order (a .steps) fed);
               };
             }

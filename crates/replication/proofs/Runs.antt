@@ -1,7 +1,8 @@
 -- Runs of desk and wall over whole lists, and the log between them.
-use mathlib.Core.Path.{_≡_, refl, sym, ap, ap₂, _∙_, subst}
+use mathlib.Core.Path.{_≡_, refl, sym, ap, ap₂, _∙_, subst, subst₂}
 use mathlib.Core.Bool.{Bool, true, false}
 use mathlib.Core.List.{List, [], _∷_, _++_, map, append-nil, append-assoc, List·Memᴰ, List·Memᴰ·head, List·Memᴰ·tail}
+use mathlib.Core.Logic.{inl}
 use Prim.Native.Nat.{ℕ, zero, suc, _+_, _*_, _-_, _/_, _≤_, _<_}
 use native.Mathlib.Omega.{arith}
 use native.Mathlib.Nat.{zero-add}
@@ -28,7 +29,7 @@ use Rattle.agreement.specs.Machines.{State, initial, Call, callOutcome, stateAf
 use Rattle.agreement.proofs.Reference.{Step, called}
 use Rattle.replication.specs.declared.DeskReply.{DeskReply}
 use Rattle.replication.specs.declared.DeskReply.the-variants as Desk
-use Rattle.replication.specs.Protocol.{Edit, messageFor, protocol}
+use Rattle.replication.specs.Protocol.{Edit, place, messageFor, protocol}
 use Rattle.replication.specs.Outcomes.{CallOutcome, refused, updated, messageAfter}
 use Rattle.replication.specs.Transitions.{Memory, stateIn, Ready, memoryAfter, DeskCall, deskReply, deskStep, deskReplyTo, deskCallOutcome, DeskEdits, WallCall, wallStep, WallDelivers}
 use Rattle.replication.specs.RunBoth.{editAt, callAt, callsIn, concat, MessageSized, DeskRan, messagesInLog, WallRan, messagesAt, roomAt, callSize, maxRoom}
@@ -58,16 +59,16 @@ take-past (x ∷ xs) ys (suc n) k h =
 
 -- ---- a run of the wall
 
-wall-more : (s : State Drawing) (xs : List (WallStep Drawing Removed)) (x : WallStep Drawing Removed) → WallRun protocol s xs → WallStepValid protocol (wallAfter s xs) x → WallRun protocol s (xs ++ (x ∷ []))
-wall-more s [] x h y = (y, tt)
-wall-more s (u ∷ xs) x h y = (h .0, wall-more (u .state) xs x (h .1) y)
+wall-more : (mark : ℕ) (s : State Drawing) (xs : List (WallStep Drawing Removed)) (x : WallStep Drawing Removed) → WallRun (protocol mark) s xs → WallStepValid (protocol mark) (wallAfter s xs) x → WallRun (protocol mark) s (xs ++ (x ∷ []))
+wall-more mark s [] x h y = (y, tt)
+wall-more mark s (u ∷ xs) x h y = (h .0, wall-more mark (u .state) xs x (h .1) y)
 
 wall-after-more : (s : State Drawing) (xs : List (WallStep Drawing Removed)) (x : WallStep Drawing Removed) → wallAfter s (xs ++ (x ∷ [])) ≡ x .state
 wall-after-more s [] x = refl
 wall-after-more s (u ∷ xs) x = wall-after-more (u .state) xs x
 
 pub ran-none : (s : Memory) → Ready s → WallRan s [] s
-ran-none s v = record { steps = []; run = tt; fed = refl; ends = refl; ready = v }
+ran-none s v = record { steps = []; run = tt; fed = refl; ends = refl; mark-is = refl; ready = v }
 
 -- one place more of the log's n
 module _ (s t : Memory) (n : ℕ) (log order : List ℕ) (j : ℕ) (h : j < length order) (r : WallRan s (messagesInLog n log (take j order)) t) where
@@ -88,16 +89,17 @@ module _ (s t : Memory) (n : ℕ) (log order : List ℕ) (j : ℕ) (h : j < leng
       let e : from + messageSize - from ≡ messageSize = omega arith in
       let g : from ≡ messageSize * o = omega arith in
       let m : c .bytes ≡ delivery = b ∙ ap₂ (λ (k l : ℕ). take k (drop l log)) e g in
-      let (valid, ready) = wall-step t (r .ready) c w in
+      let (valid, left) = wall-step t (r .ready) c w in
       record {
         steps = r .steps ++ (wallStep c ∷ []);
-        run = wall-more (stateIn s) (r .steps) (wallStep c) (r .run) (subst (λ (u : State Drawing). WallStepValid protocol u (wallStep c)) (sym (r .ends)) valid);
+        run = wall-more (s .mark) (stateIn s) (r .steps) (wallStep c) (r .run) (subst₂ (λ (k : ℕ) (u : State Drawing). WallStepValid (protocol k) u (wallStep c)) (r .mark-is) (sym (r .ends)) valid);
         fed =
             map-more (λ (x : WallStep Drawing Removed). x .bytes) (r .steps) (wallStep c)
             ∙ ap₂ (λ (l : List (List ℕ)) (m : List ℕ). l ++ (m ∷ [])) (r .fed) m
             ∙ sym (grows ∙ rw (lt-ltb o n k));
         ends = wall-after-more (stateIn s) (r .steps) (wallStep c);
-        ready = ready;
+        mark-is = left .1 ∙ r .mark-is;
+        ready = left .0;
       }
 
 pub ran-all : (s t : Memory) (n : ℕ) (log order : List ℕ) (j : ℕ) → length order ≤ j → WallRan s (messagesInLog n log (take j order)) t → WallRan s (messagesInLog n log order) t
@@ -105,9 +107,9 @@ ran-all s t n log order j h r = subst (λ (l : List ℕ). WallRan s (messagesInL
 
 -- ---- a run of the desk
 
-desk-more : (s : State Drawing) (xs : List (DeskStep Drawing Edit Removed)) (x : DeskStep Drawing Edit Removed) → DeskRun protocol s xs → DeskStepValid protocol (deskAfter s xs) x → DeskRun protocol s (xs ++ (x ∷ []))
-desk-more s [] x h y = (y, tt)
-desk-more s (u ∷ xs) x h y = (h .0, desk-more (u .state) xs x (h .1) y)
+desk-more : (mark : ℕ) (s : State Drawing) (xs : List (DeskStep Drawing Edit Removed)) (x : DeskStep Drawing Edit Removed) → DeskRun (protocol mark) s xs → DeskStepValid (protocol mark) (deskAfter s xs) x → DeskRun (protocol mark) s (xs ++ (x ∷ []))
+desk-more mark s [] x h y = (y, tt)
+desk-more mark s (u ∷ xs) x h y = (h .0, desk-more mark (u .state) xs x (h .1) y)
 
 desk-after-more : (s : State Drawing) (xs : List (DeskStep Drawing Edit Removed)) (x : DeskStep Drawing Edit Removed) → deskAfter s (xs ++ (x ∷ [])) ≡ x .state
 desk-after-more s [] x = refl
@@ -129,7 +131,7 @@ message-sized-append : (xs ys : List (List ℕ)) → MessageSized xs → Message
 message-sized-append [] ys h k = k
 message-sized-append (m ∷ xs) ys h k = (h .0, message-sized-append xs ys (h .1) k)
 
-desk-ran-none : (s : Memory) (log : List ℕ) → Ready s → s .count ≡ 0 → DeskRan (stateIn s .drawing) [] log log s
+desk-ran-none : (s : Memory) (log : List ℕ) → Ready s → s .count ≡ 0 → DeskRan (s .mark) (stateIn s .drawing) [] log log s
 desk-ran-none s log v z =
     let n : messageSize * s .count ≡ 0 = omega arith in
     record {
@@ -137,6 +139,7 @@ desk-ran-none s log v z =
       run = tt;
       fed = refl;
       ends = λ i. record { drawing = stateIn s .drawing; count = sym z i };
+      mark-is = refl;
       logged = sym (ap (λ (k : ℕ). take k log) n);
       rest = refl;
       fits = omega arith;
@@ -147,7 +150,7 @@ desk-ran-none s log v z =
     }
 
 -- one more call: its step, and what it left in the log
-module _ (d : Drawing) (cs : List (Call Edit)) (before log : List ℕ) (w : Memory) (r : DeskRan d cs before log w) (c : DeskCall) (step : DeskEdits w c) where
+module _ (mark : ℕ) (d : Drawing) (cs : List (Call Edit)) (before log : List ℕ) (w : Memory) (r : DeskRan mark d cs before log w) (c : DeskCall) (step : DeskEdits w c) where
   abbrev reply : List (List ℕ)
   reply = prependMessage (deskStep c .reply) []
 
@@ -155,21 +158,23 @@ module _ (d : Drawing) (cs : List (Call Edit)) (before log : List ℕ) (w : Memo
       (l : List ℕ) → concat (messages (r .steps)) ++ concat reply ≡ take (messageSize * c .left .count) l
       → drop (messageSize * c .left .count) l ≡ drop (messageSize * c .left .count) before → messageSize * c .left .count ≤ length l
       → length (messages (r .steps)) + length reply ≡ c .left .count → c .left .count ≤ length cs + 1 → MessageSized reply
-      → DeskRan d (cs ++ (deskStep c .call ∷ [])) before l (c .left)
+      → DeskRan mark d (cs ++ (deskStep c .call ∷ [])) before l (c .left)
   made l lg rs ft mn fw tw =
       let mm = messages-more (r .steps) (deskStep c) in
+      let (valid, left) = desk-step w (r .ready) c step in
       record {
         steps = r .steps ++ (deskStep c ∷ []);
-        run = desk-more (initial d) (r .steps) (deskStep c) (r .run) (subst (λ (u : State Drawing). DeskStepValid protocol u (deskStep c)) (sym (r .ends)) (desk-step w (r .ready) c step .0));
+        run = desk-more mark (initial d) (r .steps) (deskStep c) (r .run) (subst₂ (λ (k : ℕ) (u : State Drawing). DeskStepValid (protocol k) u (deskStep c)) (r .mark-is) (sym (r .ends)) valid);
         fed = map-more (λ (x : DeskStep Drawing Edit Removed). x .call) (r .steps) (deskStep c) ∙ ap (λ (l : List (Call Edit)). l ++ (deskStep c .call ∷ [])) (r .fed);
         ends = desk-after-more (initial d) (r .steps) (deskStep c);
+        mark-is = left .1 ∙ r .mark-is;
         logged = ap concat mm ∙ flat-append (messages (r .steps)) reply ∙ lg;
         rest = rs;
         fits = ft;
         many = ap length mm ∙ length-append (messages (r .steps)) reply ∙ mn;
         few = omega (arith, length-append cs (deskStep c .call ∷ []));
         sizes = subst MessageSized (sym mm) (message-sized-append (messages (r .steps)) reply (r .sizes) tw);
-        ready = desk-step w (r .ready) c step .1;
+        ready = left .0;
       }
 
 -- a message written over the front of a part leaves what lies behind it
@@ -190,31 +195,31 @@ rest-after log msg from room p h k e =
     front ∙ same ∙ sym (drop-append-le (length msg) part behind k) ∙ ap (drop (length msg)) (take-append-drop room (drop from log)) ∙ drop-drop (length msg) from log
 
 -- what is left in the message's buffer: the message at its front, or all as it was
-abbrev written : DeskReply → ℕ → Edit → List ℕ → List ℕ
-written (Desk.Refused k place) n e b = b
-written (Desk.Accepted r) n e b = over b 0 (encode (messageFor n e))
+abbrev written : ℕ → DeskReply → ℕ → Edit → List ℕ → List ℕ
+written mark (Desk.Refused k place) n e b = b
+written mark (Desk.Accepted r) n e b = over b 0 (encode mark (messageFor n e))
 
-written-is : (m : Memory) → Ready m → (c : DeskCall) → DeskEdits m c → c .after ≡ written (c .reply) (c .left .count) (c .edit) (c .before)
+written-is : (m : Memory) → Ready m → (c : DeskCall) → DeskEdits m c → c .after ≡ written (m .mark) (c .reply) (c .left .count) (c .edit) (c .before)
 written-is m h c w = go (desk-case m h (c .edit) (length (c .before)))
   where
-    by : (v : CallOutcome) → deskCallOutcome m (c .edit) (length (c .before)) ≡ v → messageAfter v (c .edit) (c .before) ≡ written (deskReplyTo v) (memoryAfter v m .count) (c .edit) (c .before)
-        → c .after ≡ written (c .reply) (c .left .count) (c .edit) (c .before)
+    by : (v : CallOutcome) → deskCallOutcome m (c .edit) (length (c .before)) ≡ v → messageAfter (m .mark) v (c .edit) (c .before) ≡ written (m .mark) (deskReplyTo v) (memoryAfter v m .count) (c .edit) (c .before)
+        → c .after ≡ written (m .mark) (c .reply) (c .left .count) (c .edit) (c .before)
     by v g e =
-        w .message-is ∙ ap (λ (v : CallOutcome). messageAfter v (c .edit) (c .before)) g ∙ e
-        ∙ sym (ap₂ (λ (r : DeskReply) (t : Memory). written r (t .count) (c .edit) (c .before)) (w .reply-is ∙ ap deskReplyTo g) (w .left-is ∙ ap (λ (v : CallOutcome). memoryAfter v m) g))
+        w .message-is ∙ ap (λ (v : CallOutcome). messageAfter (m .mark) v (c .edit) (c .before)) g ∙ e
+        ∙ sym (ap₂ (λ (r : DeskReply) (t : Memory). written (m .mark) r (t .count) (c .edit) (c .before)) (w .reply-is ∙ ap deskReplyTo g) (w .left-is ∙ ap (λ (v : CallOutcome). memoryAfter v m) g))
 
-    go : DeskCase m h (c .edit) (length (c .before)) → c .after ≡ written (c .reply) (c .left .count) (c .edit) (c .before)
-    go (desk-refused k g o) = by (refused k (protocol .place (stateIn m .drawing) (c .edit) k)) g refl
+    go : DeskCase m h (c .edit) (length (c .before)) → c .after ≡ written (m .mark) (c .reply) (c .left .count) (c .edit) (c .before)
+    go (desk-refused k g o) = by (refused k (place (stateIn m .drawing) (c .edit) k)) g refl
     go (desk-updated t q g o v) = by (updated t q) g refl
 
 -- what an accepted call needed
-room-of : (s : State Drawing) (c : Call Edit) (t : State Drawing) (q : Removed) → callOutcome protocol s c ≡ accepted t q → (messageSize ≤ c .room) × (t .count ≡ s .count + 1)
-room-of s c t q e =
-    let k : Holds (Step protocol s (c .edit)) (accepted t q) = subst (Holds (Step protocol s (c .edit))) e (called protocol s c) in
+room-of : (mark : ℕ) (s : State Drawing) (c : Call Edit) (t : State Drawing) (q : Removed) → callOutcome (protocol mark) s c ≡ accepted t q → (messageSize ≤ c .room) × (t .count ≡ s .count + 1)
+room-of mark s c t q e =
+    let k : Holds (Step (protocol mark) s (c .edit)) (accepted t q) = subst (Holds (Step (protocol mark) s (c .edit))) e (called (protocol mark) s c) in
     (leb-true messageSize (c .room) (guard-accepted (leb messageSize (c .room)) 25 _ t q e .0), k .next)
 
 module _
-    (d : Drawing) (cs : List (Call Edit)) (before log : List ℕ) (w : Memory) (r : DeskRan d cs before log w)
+    (mark : ℕ) (d : Drawing) (cs : List (Call Edit)) (before log : List ℕ) (w : Memory) (r : DeskRan mark d cs before log w)
     (e : Edit) (room : ℕ) (fits : messageSize * w .count + room ≤ length log)
   where
     abbrev from : ℕ
@@ -228,13 +233,13 @@ module _
 
     by-case :
         (y : Memory) (t : DeskReply) (p : List ℕ) (step : DeskEdits w (record { edit = e; before = lent; after = p; left = y; reply = t }))
-        → (o : Outcome (State Drawing) Removed) → callOutcome protocol (stateIn w) (record { edit = e; room = length lent }) ≡ o
-        → stateIn y ≡ stateAfter (stateIn w) o → deskReply t (take messageSize p) ≡ M.replyTo protocol (stateIn w .drawing) e o → p ≡ written t (y .count) e lent
-        → DeskRan d (cs ++ (record { edit = e; room = length lent } ∷ [])) before (putMid from room log p) y × (length (putMid from room log p) ≡ length log)
+        → (o : Outcome (State Drawing) Removed) → callOutcome (protocol (w .mark)) (stateIn w) (record { edit = e; room = length lent }) ≡ o
+        → stateIn y ≡ stateAfter (stateIn w) o → deskReply t (take messageSize p) ≡ M.replyTo (protocol (w .mark)) (stateIn w .drawing) e o → p ≡ written (w .mark) t (y .count) e lent
+        → DeskRan mark d (cs ++ (record { edit = e; room = length lent } ∷ [])) before (putMid from room log p) y × (length (putMid from room log p) ≡ length log)
     by-case y (Desk.Refused k place) p step (O.refused n) v sd td wr =
         let c : y .count ≡ w .count = ap (λ (u : State Drawing). u .count) sd in
         let l : putMid from room log p ≡ log = ap (putMid from room log) wr ∙ put-same from room log in (
-          made d cs before log w r _ step (putMid from room log p)
+          made mark d cs before log w r _ step (putMid from room log p)
               (append-nil (concat (messages (r .steps))) ∙ r .logged ∙ ap (λ (n : ℕ). take (messageSize * n) log) (sym c) ∙ ap (take (messageSize * y .count)) (sym l))
               (ap (drop (messageSize * y .count)) l ∙ ap (λ (n : ℕ). drop (messageSize * n) log) c ∙ r .rest ∙ sym (ap (λ (n : ℕ). drop (messageSize * n) before) c))
               (omega (arith, ap length l, r .fits)) (omega (arith, r .many)) (omega (arith, r .few)) tt,
@@ -243,18 +248,18 @@ module _
     by-case y (Desk.Refused k place) p step (accepted u q) v sd td wr = let z : _≡_ {A = ℕ} 0 1 = cc in absurd (omega arith)
     by-case y (Desk.Accepted q) p step (O.refused n) v sd td wr = let z : _≡_ {A = ℕ} 0 1 = cc in absurd (omega arith)
     by-case y (Desk.Accepted q) p step (accepted u q′) v sd td wr =
-        let x = room-of (stateIn w) (record { edit = e; room = length lent }) u q′ v in
+        let x = room-of (w .mark) (stateIn w) (record { edit = e; room = length lent }) u q′ v in
         let c : y .count ≡ w .count + 1 = ap (λ (u : State Drawing). u .count) sd ∙ x .1 in
         let le : messageSize ≤ length lent = x .0 in
-        let msg = encode (messageFor (y .count) e) in
-        let lm : length msg ≡ messageSize = length-message (messageFor (y .count) e) in
+        let msg = encode (w .mark) (messageFor (y .count) e) in
+        let lm : length msg ≡ messageSize = length-message (w .mark) (messageFor (y .count) e) in
         let lp : length p ≡ length lent = ap length wr ∙ length-over lent 0 msg (omega arith) in
         let ll : length (putMid from room log p) ≡ length log = same-len-mid from room log p lp in
         let tp : take messageSize (p ++ drop room (drop from log)) ≡ take messageSize p = take-append-le messageSize p (drop room (drop from log)) (omega arith) in
         let t2 : length (take messageSize p) ≡ messageSize = length-take messageSize p ∙ omega arith in
         let n2 : from + messageSize ≡ messageSize * y .count = omega arith in
         let n3 : from + length msg ≡ messageSize * y .count = omega arith in (
-          made d cs before log w r _ step (putMid from room log p)
+          made mark d cs before log w r _ step (putMid from room log p)
               (ap (λ (l : List ℕ). l ++ (take messageSize p ++ [])) (r .logged)
               ∙ ap (λ (l : List ℕ). take from log ++ l) (append-nil (take messageSize p) ∙ sym tp)
               ∙ sym (take-past log (p ++ drop room (drop from log)) from messageSize (r .fits))
@@ -267,46 +272,46 @@ module _
 
     desk-ran-more :
         (y : Memory) (t : DeskReply) (p : List ℕ) → DeskEdits w (record { edit = e; before = lent; after = p; left = y; reply = t })
-        → DeskRan d (cs ++ (record { edit = e; room = room } ∷ [])) before (putMid from room log p) y × (length (putMid from room log p) ≡ length log)
+        → DeskRan mark d (cs ++ (record { edit = e; room = room } ∷ [])) before (putMid from room log p) y × (length (putMid from room log p) ≡ length log)
     desk-ran-more y t p step =
         let h = desk-step w (r .ready) (record { edit = e; before = lent; after = p; left = y; reply = t }) step .0 in
-        subst (λ (n : ℕ). DeskRan d (cs ++ (record { edit = e; room = n } ∷ [])) before (putMid from room log p) y × (length (putMid from room log p) ≡ length log)) lent-long
-        (by-case y t p step (callOutcome protocol (stateIn w) (record { edit = e; room = length lent })) refl (h .state) (h .reply) (written-is w (r .ready) (record { edit = e; before = lent; after = p; left = y; reply = t }) step))
+        subst (λ (n : ℕ). DeskRan mark d (cs ++ (record { edit = e; room = n } ∷ [])) before (putMid from room log p) y × (length (putMid from room log p) ≡ length log)) lent-long
+        (by-case y t p step (callOutcome (protocol (w .mark)) (stateIn w) (record { edit = e; room = length lent })) refl (h .state) (h .reply) (written-is w (r .ready) (record { edit = e; before = lent; after = p; left = y; reply = t }) step))
 
 -- the next call of a list
 desk-ran-suc :
-    (d : Drawing) (entries before log : List ℕ) (i : ℕ) (w : Memory) → i < length entries / callSize → messageSize * (length entries / callSize) + maxRoom ≤ length log
-    → DeskRan d (rows i (callAt entries)) before log w → (from k : ℕ) → from ≡ messageSize * w .count → k ≡ field entries (i * callSize + roomAt) 1 → k < 256
+    (mark : ℕ) (d : Drawing) (entries before log : List ℕ) (i : ℕ) (w : Memory) → i < length entries / callSize → messageSize * (length entries / callSize) + maxRoom ≤ length log
+    → DeskRan mark d (rows i (callAt entries)) before log w → (from k : ℕ) → from ≡ messageSize * w .count → k ≡ field entries (i * callSize + roomAt) 1 → k < 256
     → (y : Memory) (t : DeskReply) (p : List ℕ) → DeskEdits w (record { edit = editAt entries (i * callSize); before = midOf from k log; after = p; left = y; reply = t })
-    → DeskRan d (rows (suc i) (callAt entries)) before (putMid from k log p) y × (length (putMid from k log p) ≡ length log)
+    → DeskRan mark d (rows (suc i) (callAt entries)) before (putMid from k log p) y × (length (putMid from k log p) ≡ length log)
 unfolding rows
-desk-ran-suc d entries before log i w h room r from k f g small y t p =
+desk-ran-suc mark d entries before log i w h room r from k f g small y t p =
     let few : w .count ≤ i = omega (arith, r .few, rows-length i (callAt entries)) in
     let fits : messageSize * w .count + field entries (i * callSize + roomAt) 1 ≤ length log = omega arith in
     subst
     (λ (n : ℕ). DeskEdits w (record { edit = editAt entries (i * callSize); before = midOf n k log; after = p; left = y; reply = t })
-    → DeskRan d (rows i (callAt entries) ++ (callAt entries i ∷ [])) before (putMid n k log p) y × (length (putMid n k log p) ≡ length log))
+    → DeskRan mark d (rows i (callAt entries) ++ (callAt entries i ∷ [])) before (putMid n k log p) y × (length (putMid n k log p) ≡ length log))
     (sym f)
     (subst
     (λ (m : ℕ). DeskEdits w (record { edit = editAt entries (i * callSize); before = midOf (messageSize * w .count) m log; after = p; left = y; reply = t })
-    → DeskRan d (rows i (callAt entries) ++ (callAt entries i ∷ [])) before (putMid (messageSize * w .count) m log p) y × (length (putMid (messageSize * w .count) m log p) ≡ length log))
+    → DeskRan mark d (rows i (callAt entries) ++ (callAt entries i ∷ [])) before (putMid (messageSize * w .count) m log p) y × (length (putMid (messageSize * w .count) m log p) ≡ length log))
     (sym g)
-    (desk-ran-more d (rows i (callAt entries)) before log w r (editAt entries (i * callSize)) (field entries (i * callSize + roomAt) 1) fits y t p))
+    (desk-ran-more mark d (rows i (callAt entries)) before log w r (editAt entries (i * callSize)) (field entries (i * callSize + roomAt) 1) fits y t p))
 
 pub desk-ran-next :
-    (d : Drawing) (entries before log : List ℕ) (i : ℕ) (w : Memory) → i < length entries / callSize → messageSize * (length entries / callSize) + maxRoom ≤ length log
-    → DeskRan d (rows i (callAt entries)) before log w → (from k : ℕ) → from ≡ messageSize * w .count → k ≡ field entries (i * callSize + roomAt) 1 → k < 256
+    (mark : ℕ) (d : Drawing) (entries before log : List ℕ) (i : ℕ) (w : Memory) → i < length entries / callSize → messageSize * (length entries / callSize) + maxRoom ≤ length log
+    → DeskRan mark d (rows i (callAt entries)) before log w → (from k : ℕ) → from ≡ messageSize * w .count → k ≡ field entries (i * callSize + roomAt) 1 → k < 256
     → (y : Memory) (t : DeskReply) (p : List ℕ) → DeskEdits w (record { edit = editAt entries (i * callSize); before = midOf from k log; after = p; left = y; reply = t })
-    → DeskRan d (rows (i + 1) (callAt entries)) before (putMid from k log p) y × (length (putMid from k log p) ≡ length log)
-desk-ran-next d entries before log i w h room r from k f g small y t p e =
+    → DeskRan mark d (rows (i + 1) (callAt entries)) before (putMid from k log p) y × (length (putMid from k log p) ≡ length log)
+desk-ran-next mark d entries before log i w h room r from k f g small y t p e =
     let next : suc i ≡ i + 1 = omega arith in
-    subst (λ (n : ℕ). DeskRan d (rows n (callAt entries)) before (putMid from k log p) y × (length (putMid from k log p) ≡ length log)) next
-    (desk-ran-suc d entries before log i w h room r from k f g small y t p e)
+    subst (λ (n : ℕ). DeskRan mark d (rows n (callAt entries)) before (putMid from k log p) y × (length (putMid from k log p) ≡ length log)) next
+    (desk-ran-suc mark d entries before log i w h room r from k f g small y t p e)
 
-pub desk-ran-all : (d : Drawing) (entries before log : List ℕ) (i : ℕ) (w : Memory) → i ≡ length entries / callSize → DeskRan d (rows i (callAt entries)) before log w → DeskRan d (callsIn entries) before log w
-desk-ran-all d entries before log i w h r = subst (λ (n : ℕ). DeskRan d (rows n (callAt entries)) before log w) h r
+pub desk-ran-all : (mark : ℕ) (d : Drawing) (entries before log : List ℕ) (i : ℕ) (w : Memory) → i ≡ length entries / callSize → DeskRan mark d (rows i (callAt entries)) before log w → DeskRan mark d (callsIn entries) before log w
+desk-ran-all mark d entries before log i w h r = subst (λ (n : ℕ). DeskRan mark d (rows n (callAt entries)) before log w) h r
 
-pub desk-ran-start : (s : Memory) (entries log : List ℕ) → Ready s → s .count ≡ 0 → DeskRan (stateIn s .drawing) (rows 0 (callAt entries)) log log s
+pub desk-ran-start : (s : Memory) (entries log : List ℕ) → Ready s → s .count ≡ 0 → DeskRan (s .mark) (stateIn s .drawing) (rows 0 (callAt entries)) log log s
 unfolding rows
 desk-ran-start s entries log v z = desk-ran-none s log v z
 
@@ -347,16 +352,16 @@ all-in : (ms : List (List ℕ)) (order : List ℕ) → AllIn ms (messagesAt ms o
 all-in ms [] = tt
 all-in ms (o ∷ order) = one-in ms (messagesAt ms order) o (ltb o (length ms)) refl (all-in ms order)
 
-delivered : (ms : List (List ℕ)) (xs : List (WallStep Drawing Removed)) (l : List (List ℕ)) → map (λ (x : WallStep Drawing Removed). x .bytes) xs ≡ l → AllIn ms l → Delivered ms xs
-delivered ms [] l e a = tt
-delivered ms (x ∷ xs) [] e a = let z : _≡_ {A = ℕ} 0 1 = cc in absurd (omega arith)
-delivered ms (x ∷ xs) (m ∷ l) e a =
+delivered : (mark : ℕ) (ms : List (List ℕ)) (xs : List (WallStep Drawing Removed)) (l : List (List ℕ)) → map (λ (x : WallStep Drawing Removed). x .bytes) xs ≡ l → AllIn ms l → Delivered (protocol mark) ms xs
+delivered mark ms [] l e a = tt
+delivered mark ms (x ∷ xs) [] e a = let z : _≡_ {A = ℕ} 0 1 = cc in absurd (omega arith)
+delivered mark ms (x ∷ xs) (m ∷ l) e a =
     let p : x .bytes ≡ m = cc in
     let q : map (λ (x : WallStep Drawing Removed). x .bytes) xs ≡ l = cc in
-    (subst (λ (m : List ℕ). List·Memᴰ m ms) (sym p) (a .0), delivered ms xs l q (a .1))
+    (inl (subst (λ (m : List ℕ). List·Memᴰ m ms) (sym p) (a .0)), delivered mark ms xs l q (a .1))
 
-pub deliver : (ms : List (List ℕ)) (order : List ℕ) (xs : List (WallStep Drawing Removed)) → map (λ (x : WallStep Drawing Removed). x .bytes) xs ≡ messagesAt ms order → Delivered ms xs
-deliver ms order xs e = delivered ms xs (messagesAt ms order) e (all-in ms order)
+pub deliver : (mark : ℕ) (ms : List (List ℕ)) (order : List ℕ) (xs : List (WallStep Drawing Removed)) → map (λ (x : WallStep Drawing Removed). x .bytes) xs ≡ messagesAt ms order → Delivered (protocol mark) ms xs
+deliver mark ms order xs e = delivered mark ms xs (messagesAt ms order) e (all-in ms order)
 
 places : (ms : List (List ℕ)) (n : ℕ) (log order : List ℕ) → length ms ≡ n → ((o : ℕ) → o < length ms → take messageSize (drop (messageSize * o) log) ≡ getD ms o []) → messagesInLog n log order ≡ messagesAt ms order
 places ms n log [] e h = refl
@@ -366,7 +371,7 @@ places ms n log (o ∷ order) e h = ap₂ (λ (a b : List (List ℕ)). a ++ b) (
     go true q = rw (← e, q) (ap (λ (m : List ℕ). m ∷ []) (h o (ltb-true o (length ms) q)))
     go false q = rw (← e, q)
 
-module _ (d : Drawing) (cs : List (Call Edit)) (before log : List ℕ) (w : Memory) (r : DeskRan d cs before log w) where
+module _ (mark : ℕ) (d : Drawing) (cs : List (Call Edit)) (before log : List ℕ) (w : Memory) (r : DeskRan mark d cs before log w) where
   abbrev ms : List (List ℕ)
   ms = messages (r .steps)
 

@@ -19,12 +19,12 @@ use Rattle.sketch_image.specs.SketchImage.{drawingIn}
 use Rattle.agreement.specs.Machines.{initial}
 use Rattle.replication.specs.declared.Replica.{Replica}
 use Rattle.replication.specs.declared.Started.{Started}
-use Rattle.replication.specs.Transitions.{Memory, memory, imageIn, StartsWith, firstNonzero, startFault, Starts, firstFault}
+use Rattle.replication.specs.Transitions.{Memory, memory, imageIn, StartsWith, noReplica, firstNonzero, startFault, Starts, firstFault}
 use Rattle.replication.proofs.CallOutcomes.{first-fault-own}
 use Rattle.replication.proofs.Steps.{Holding, ready-by}
 
 abbrev refusedStart : ℕ → Started
-refusedStart k = record { replica = record { size = 0; count = 0 }; refusal = k }
+refusedStart k = record { replica = noReplica; refusal = k }
 
 -- a good image is no larger than the largest
 pub good-size : (s : List ℕ) → I.imageFault s ≡ 0 → length s ≤ I.maxImageSize
@@ -44,11 +44,11 @@ pub above-first : (n m : ℕ) → (m ≡ 0 → ⊥) → firstNonzero n m ≡ 0 �
 above-first zero m h e = h e
 above-first (suc n) m h e = omega arith
 
-module _ (image b : List ℕ) where
-  refusing : (k : ℕ) → k ≡ startFault image (length b) → (k ≡ 0 → ⊥) → Starts image b b (refusedStart k)
+module _ (image : List ℕ) (mark : ℕ) (b : List ℕ) where
+  refusing : (k : ℕ) → k ≡ startFault image (length b) → (k ≡ 0 → ⊥) → Starts image mark b b (refusedStart k)
   refusing k e z = record { number = e; when-refused = λ y. (refl, refl); when-started = λ y. absurd (z y) }
 
-  pub start-short : length b < I.maxImageSize → {k : ℕ} → k ≡ firstFault image 25 → {r : Started} → r ≡ refusedStart k → Starts image b b r
+  pub start-short : length b < I.maxImageSize → {k : ℕ} → k ≡ firstFault image 25 → {r : Started} → r ≡ refusedStart k → Starts image mark b b r
   unfolding guardNumber
   start-short h {k} e q =
       let f : k ≡ startFault image (length b) = e ∙ sym (nonzero-first (I.imageFault image) 25) ∙ sym (rw (lt-leb I.maxImageSize (length b) h)) in
@@ -60,17 +60,17 @@ module _ (image b : List ℕ) where
     unfolding guardNumber
     fault-is = e ∙ sym (nonzero-first (I.imageFault image) 0) ∙ sym (rw (le-leb I.maxImageSize (length b) room))
 
-    pub start-refused : (k ≡ 0 → ⊥) → {r : Started} → r ≡ refusedStart k → Starts image b b r
+    pub start-refused : (k ≡ 0 → ⊥) → {r : Started} → r ≡ refusedStart k → Starts image mark b b r
     start-refused z q = rw q (refusing k fault-is z)
 
-    pub start-done : k ≡ 0 → {b′ : List ℕ} → b′ ≡ overIfFits b 0 image → Starts image b b′ (record { replica = record { size = length image; count = 0 }; refusal = 0 })
+    pub start-done : k ≡ 0 → {b′ : List ℕ} → b′ ≡ overIfFits b 0 image → Starts image mark b b′ (record { replica = record { size = length image; mark = mark; count = 0 }; refusal = 0 })
     start-done z p =
         let l = good-size image (sym (first-fault-own image e) ∙ z) in
         record { number = sym z ∙ fault-is; when-refused = λ y. absurd (y refl); when-started = λ y. (p ∙ over-fits b 0 image (omega arith), refl) }
 
 -- ---- a start that is not refused
 
-module _ (image b b′ : List ℕ) (r : Started) (w : Starts image b b′ r) (z : r .refusal ≡ 0) where
+module _ (image : List ℕ) (mark : ℕ) (b b′ : List ℕ) (r : Started) (w : Starts image mark b b′ r) (z : r .refusal ≡ 0) where
   pub start-image : I.imageFault image ≡ 0
   start-image = go (I.imageFault image) (guardNumber (leb I.maxImageSize (length b)) 25 0) (sym (w .number) ∙ z)
     where
@@ -86,7 +86,7 @@ module _ (image b b′ : List ℕ) (r : Started) (w : Starts image b b′ r) (z 
       go true h e = leb-true I.maxImageSize (length b) h
       go false h e = absurd (omega arith)
 
-  pub starts-with : StartsWith image (memory (r .replica) b′)
+  pub starts-with : StartsWith image mark (memory (r .replica) b′)
   unfolding over
   starts-with =
       let (put, is) = w .when-started z in
@@ -95,10 +95,11 @@ module _ (image b b′ : List ℕ) (r : Started) (w : Starts image b b′ r) (z 
       record {
         image-is = ap₂ (λ (n : ℕ) (t : List ℕ). take n t) (ap (λ (s : Replica). s .size) is) put ∙ take-at image _ (length image) refl;
         room = subst (λ (n : ℕ). I.maxImageSize ≤ n) (sym (ap length put ∙ length-over b 0 image fits)) start-room;
+        mark-is = ap (λ (s : Replica). s .mark) is;
         zero-count = ap (λ (s : Replica). s .count) is;
       }
 
-pub held-at-start : (image : List ℕ) → Bytes image → (start : Drawing) → I.parse image ≡ I.accepted start → (m : Memory) → StartsWith image m → Holding m (initial start)
-held-at-start image b start e m h =
+pub held-at-start : (image : List ℕ) → Bytes image → (mark : ℕ) (start : Drawing) → I.parse image ≡ I.accepted start → (m : Memory) → StartsWith image mark m → Holding mark m (initial start)
+held-at-start image b mark start e m h =
     let is : I.parse (imageIn m) ≡ I.accepted start = ap I.parse (h .image-is) ∙ e in
-    record { ready = ready-by m start is (fault-valid limits start (valid image start b e)) (h .room); state = λ i. record { drawing = ap drawingIn is i; count = h .zero-count i } }
+    record { ready = ready-by m start is (fault-valid limits start (valid image start b e)) (h .room); mark-is = h .mark-is; state = λ i. record { drawing = ap drawingIn is i; count = h .zero-count i } }

@@ -14,28 +14,28 @@ use Rattle.modify.proofs.Planned.{edit-valid}
 use Rattle.relations.specs.Met.{allMet}
 use Rattle.agreement.specs.Machines as M
 use Rattle.agreement.specs.Machines.{State, Decoded, invalid, message, wallTransition}
-use Rattle.replication.specs.Protocol.{Edit, protocol}
+use Rattle.replication.specs.Protocol.{Edit, edit, place, protocol}
 use Rattle.replication.specs.Program.{wallAfterMessages}
 use Rattle.replication.proofs.Decoding.{literal}
 
-pub edit-keeps-valid : (d : Drawing) (e : Edit) (d′ : Drawing) (r : Removed) → Valid limits d → protocol .edit d e ≡ O.accepted d′ r → Valid limits d′
+pub edit-keeps-valid : (d : Drawing) (e : Edit) (d′ : Drawing) (r : Removed) → Valid limits d → edit d e ≡ O.accepted d′ r → Valid limits d′
 edit-keeps-valid d e d′ r v q = edit-valid allMet (e .operation) limits d (e .curve) (e .at) d′ r v (literal d e d′ r q)
 
 pub data WallCase (s : State Drawing) (x : State Drawing × M.WallReply Removed) : Type 0 where
   is-refused : (k place : ℕ) → x ≡ (s, M.wallRefused k place) → WallCase s x
   is-old : x ≡ (s, M.wallOld) → WallCase s x
-  is-applied : (e : Edit) (d : Drawing) (q : Removed) → protocol .edit (s .drawing) e ≡ O.accepted d q → x ≡ (record { drawing = d; count = s .count + 1 }, M.wallApplied q) → WallCase s x
+  is-applied : (e : Edit) (d : Drawing) (q : Removed) → edit (s .drawing) e ≡ O.accepted d q → x ≡ (record { drawing = d; count = s .count + 1 }, M.wallApplied q) → WallCase s x
 
-pub wall-case : (s : State Drawing) (r : Decoded Edit) → WallCase s (wallTransition protocol s r)
-wall-case s (invalid k) = is-refused k 0 refl
-wall-case s (message n e) = go (leb n (s .count)) (eqb n (s .count + 1)) refl (protocol .edit (s .drawing) e) refl
+pub wall-case : (mark : ℕ) (s : State Drawing) (r : Decoded Edit) → WallCase s (wallTransition (protocol mark) s r)
+wall-case mark s (invalid k) = is-refused k 0 refl
+wall-case mark s (message n e) = go (leb n (s .count)) (eqb n (s .count + 1)) refl (edit (s .drawing) e) refl
   where
     go :
-        (a b : Bool) → eqb n (s .count + 1) ≡ b → (o : O.Outcome Drawing Removed) → protocol .edit (s .drawing) e ≡ o
-        → WallCase s (ite a (s, M.wallOld) (ite b (M.wallApply protocol s n e o) (s, M.wallRefused 7 0)))
+        (a b : Bool) → eqb n (s .count + 1) ≡ b → (o : O.Outcome Drawing Removed) → edit (s .drawing) e ≡ o
+        → WallCase s (ite a (s, M.wallOld) (ite b (M.wallApply (protocol mark) s n e o) (s, M.wallRefused 7 0)))
     go true b f o g = is-old refl
     go false false f o g = is-refused 7 0 refl
-    go false true f (O.refused k) g = is-refused k (protocol .place (s .drawing) e k) refl
+    go false true f (O.refused k) g = is-refused k (place (s .drawing) e k) refl
     go false true f (O.accepted d q) g = is-applied e d q g (ap (λ (n : ℕ). (record { drawing = d; count = n }, M.wallApplied q)) (eqb-true n (s .count + 1) f))
 
 -- so deliveries keep a drawing valid
@@ -44,8 +44,8 @@ delivery-valid s x (is-refused k place e) v = subst (λ (y : State Drawing × M.
 delivery-valid s x (is-old e) v = subst (λ (y : State Drawing × M.WallReply Removed). Valid limits (y .0 .drawing)) (sym e) v
 delivery-valid s x (is-applied e d q g f) v = subst (λ (y : State Drawing × M.WallReply Removed). Valid limits (y .0 .drawing)) (sym f) (edit-keeps-valid (s .drawing) e d q v g)
 
-pub deliveries-valid : (s : State Drawing) (ms : List (List ℕ)) → Valid limits (s .drawing) → Valid limits (wallAfterMessages s ms .drawing)
-deliveries-valid s [] v = v
-deliveries-valid s (m ∷ ms) v =
-    let x = wallTransition protocol s (protocol .decode m) in
-    deliveries-valid (x .0) ms (delivery-valid s x (wall-case s (protocol .decode m)) v)
+pub deliveries-valid : (mark : ℕ) (s : State Drawing) (ms : List (List ℕ)) → Valid limits (s .drawing) → Valid limits (wallAfterMessages mark s ms .drawing)
+deliveries-valid mark s [] v = v
+deliveries-valid mark s (m ∷ ms) v =
+    let x = wallTransition (protocol mark) s (protocol mark .decode m) in
+    deliveries-valid mark (x .0) ms (delivery-valid s x (wall-case mark s (protocol mark .decode m)) v)

@@ -29,17 +29,17 @@ wallRefusing s k place = record { replica = s; reply = Wall.Refused k place }
 -- an old message, at an image
 pub record OldAnswered (s : Replica) (image : List ℕ) (r : WallTransition) : Type 0 where
   pub when-refused : (I.imageFault image ≡ 0 → ⊥) → r ≡ wallRefusing s (I.imageFault image) 0
-  pub when-good : I.imageFault image ≡ 0 → r ≡ record { replica = record { size = length image; count = s .count }; reply = Wall.Old }
+  pub when-good : I.imageFault image ≡ 0 → r ≡ record { replica = record { size = length image; mark = s .mark; count = s .count }; reply = Wall.Old }
 
 -- the wall's answer to an edit made for a message
 abbrev pub wallAnswer : Replica → Message → EditedImage → WallTransition
-wallAnswer s x e = ite (eqb (e .refusal) 0) (record { replica = record { size = e .size; count = x .number }; reply = Wall.Applied (e .removed) }) (wallRefusing s (e .refusal) (e .place))
+wallAnswer s x e = ite (eqb (e .refusal) 0) (record { replica = record { size = e .size; mark = s .mark; count = x .number }; reply = Wall.Applied (e .removed) }) (wallRefusing s (e .refusal) (e .place))
 
 pub record MessageApplied (s : Replica) (x : Message) (before after : List ℕ) (r : WallTransition) : Type 0 where
   pub edited : EditedImage
   pub written : EditWritten (x .operation) (take (s .size) before) (x .curve) (editIn x .at) before after edited
   pub answer : r ≡ wallAnswer s x edited
 
--- a message that bytes gave
+-- a message that bytes gave at the replica's mark
 abbrev pub DeliversMessage : Memory → Message → List ℕ → WallTransition → Type 0
-DeliversMessage m x buffer r = (bytes : List ℕ) → parse bytes ≡ Accepted x → WallDelivers m (wallCall bytes buffer r)
+DeliversMessage m x buffer r = (bytes : List ℕ) → parse (m .mark) bytes ≡ Accepted x → WallDelivers m (wallCall bytes buffer r)

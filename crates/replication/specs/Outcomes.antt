@@ -14,7 +14,7 @@ use Rattle.edit_plan.specs.declared.Removed.{Removed}
 use Rattle.edit_plan.specs.Outcome as O
 use Rattle.agreement.specs.Machines as M
 use Rattle.agreement.specs.Machines.{State, Call, callOutcome, WallReply, wallTransition}
-use Rattle.replication.specs.Protocol.{Edit, messageFor, protocol}
+use Rattle.replication.specs.Protocol.{Edit, place, messageFor, protocol}
 
 -- refused by a number, with a relation's place or 0; old, with the state unchanged; or updated to a state, with a report
 pub data CallOutcome : Type 0 where
@@ -37,8 +37,8 @@ abbrev pub deskOutcome : ℕ → (ℕ → ℕ) → O.Outcome (State Drawing) Rem
 deskOutcome room place (O.refused k) = refused k (place k)
 deskOutcome room place (O.accepted s r) = ifImageFits room s r
 
-abbrev pub deskOn : ℕ → Call Edit → State Drawing → CallOutcome
-deskOn room call s = deskOutcome room (protocol .place (s .drawing) (call .edit)) (callOutcome protocol s call)
+abbrev pub deskOn : ℕ → ℕ → Call Edit → State Drawing → CallOutcome
+deskOn mark room call s = deskOutcome room (place (s .drawing) (call .edit)) (callOutcome (protocol mark) s call)
 
 -- ---- the wall: its reply, and then the room
 
@@ -48,8 +48,10 @@ wallOutcome room s M.wallOld = old s
 wallOutcome room s (M.wallApplied r) = ifImageFits room s r
 
 -- the message's refusals, old, ahead, and the edit's, as the wall has them
-abbrev pub wallOn : ℕ → List ℕ → State Drawing → CallOutcome
-wallOn room message s = wallOutcome room (wallTransition protocol s (protocol .decode message) .0) (wallTransition protocol s (protocol .decode message) .1)
+abbrev pub wallOn : ℕ → ℕ → List ℕ → State Drawing → CallOutcome
+wallOn mark room message s =
+    let moved = wallTransition (protocol mark) s (protocol mark .decode message) in
+    wallOutcome room (moved .0) (moved .1)
 
 -- ---- what an outcome leaves
 
@@ -71,8 +73,8 @@ OutcomeSound (refused k place) = k ≡ 0 → ⊥
 OutcomeSound (old s) = Unit {0}
 OutcomeSound (updated s r) = (length (encode (s .drawing)) ≡ drawingSize (s .drawing)) × (I.parse (encode (s .drawing)) ≡ I.accepted (s .drawing))
 
--- the message of the edit and its number at the front, the rest as it was
-abbrev pub messageAfter : CallOutcome → Edit → List ℕ → List ℕ
-messageAfter (refused k place) e m = m
-messageAfter (old s) e m = m
-messageAfter (updated s r) e m = over m 0 (G.encode (messageFor (s .count) e))
+-- the message of the edit and its number, under the mark, at the front, the rest as it was
+abbrev pub messageAfter : ℕ → CallOutcome → Edit → List ℕ → List ℕ
+messageAfter mark (refused k place) e m = m
+messageAfter mark (old s) e m = m
+messageAfter mark (updated s r) e m = over m 0 (G.encode mark (messageFor (s .count) e))

@@ -1,4 +1,4 @@
--- What the wall's program writes for what it reads: an image, then messages, a shorter rest as it is. Definitions only.
+-- What the wall's program writes for what it reads: an image, a mark, then messages, a shorter rest as it is. Definitions only.
 use Prim.Native.Nat.{ℕ, zero, suc, _+_, _≤_}
 use mathlib.Core.Path.{_≡_}
 use mathlib.Core.List.{List, [], _∷_}
@@ -9,7 +9,7 @@ use Rattle.sketch.specs.Lists.{ite}
 use Rattle.sketch.specs.Drawing.{Drawing}
 use Rattle.image.specs.Image as I
 use Rattle.image.specs.Encode.{encode, drawingSize}
-use Rattle.message.specs.Message.{messageSize}
+use Rattle.message.specs.Message.{messageSize, markSize}
 use Rattle.agreement.specs.Machines.{State, initial, wallTransition}
 use Rattle.replication.specs.Protocol.{protocol}
 use Rattle.replication.specs.Transitions.{Memory, stateIn, Ready}
@@ -17,6 +17,13 @@ use Rattle.replication.specs.Transitions.{Memory, stateIn, Ready}
 -- where the image ends: four bytes, and as many as their value
 abbrev pub imageEnd : List ℕ → ℕ
 imageEnd s = 4 + field s 0 4
+
+-- the mark, the bytes after the image, and where the messages begin, behind it
+abbrev pub markIn : List ℕ → ℕ
+markIn s = field s (imageEnd s) markSize
+
+abbrev pub markEnd : List ℕ → ℕ
+markEnd s = imageEnd s + markSize
 
 -- at most n messages
 abbrev pub chunksUpTo : ℕ → List ℕ → List (List ℕ)
@@ -27,17 +34,18 @@ chunksUpTo (suc n) (b ∷ s) = take messageSize (b ∷ s) ∷ chunksUpTo n (drop
 abbrev pub chunks : List ℕ → List (List ℕ)
 chunks s = chunksUpTo (length s) s
 
--- the wall's state after some messages, refused ones too
-abbrev pub wallAfterMessages : State Drawing → List (List ℕ) → State Drawing
-wallAfterMessages s [] = s
-wallAfterMessages s (m ∷ ms) = wallAfterMessages (wallTransition protocol s (protocol .decode m) .0) ms
+-- the state after some messages, refused ones too, of a wall with a mark
+abbrev pub wallAfterMessages : ℕ → State Drawing → List (List ℕ) → State Drawing
+wallAfterMessages mark s [] = s
+wallAfterMessages mark s (m ∷ ms) = wallAfterMessages mark (wallTransition (protocol mark) s (protocol mark .decode m) .0) ms
 
-abbrev pub outcomeOn : I.ParseResult → List (List ℕ) → I.ParseResult
-outcomeOn (I.refused k) ms = I.refused k
-outcomeOn (I.accepted d) ms = I.accepted (wallAfterMessages (initial d) ms .drawing)
+abbrev pub outcomeOn : ℕ → I.ParseResult → List (List ℕ) → I.ParseResult
+outcomeOn mark (I.refused k) ms = I.refused k
+outcomeOn mark (I.accepted d) ms = I.accepted (wallAfterMessages mark (initial d) ms .drawing)
 
+-- with fewer bytes than a mark's after the image there is no message, and the image stays
 abbrev pub programOutcome : List ℕ → I.ParseResult
-programOutcome s = outcomeOn (I.parse (take (imageEnd s) s)) (chunks (drop (imageEnd s) s))
+programOutcome s = outcomeOn (markIn s) (I.parse (take (imageEnd s) s)) (chunks (drop (markEnd s) s))
 
 -- the last image; or for a refused image two bytes after their length: a version, and the number
 abbrev pub output : I.ParseResult → List ℕ
@@ -56,7 +64,7 @@ pub record WritesOutcome (o : I.ParseResult) (before later : List ℕ) (r : ℕ)
 
 -- a replica after the messages in some bytes
 pub record DeliversAll (s : Memory) (bytes : List ℕ) (r : Memory) : Type 0 where
-  pub is : stateIn r ≡ wallAfterMessages (stateIn s) (chunks bytes)
+  pub is : stateIn r ≡ wallAfterMessages (s .mark) (stateIn s) (chunks bytes)
   pub ready : Ready r
 
 -- an image's bytes, where it is one

@@ -1,4 +1,4 @@
--- What the machines are given for real drawings: the edit with the place of a refusal, a message's bytes, and how they are read. Definitions only.
+-- What the machines are given for real drawings, at a start's mark: the edit with the place of a refusal, a message's bytes, and how they are read. Definitions only.
 use Prim.Native.Nat.{ℕ}
 use mathlib.Core.Bool.{Bool, _&&_}
 use lib.Ieee.{ofBits, toBits, fits, binary64}
@@ -43,8 +43,9 @@ unfoldable pub decodedOf : MessageRead → Decoded Edit
 decodedOf (Accepted m) = message (m .number) (editIn m)
 decodedOf (Refused k) = invalid k
 
-abbrev pub protocol : Protocol Drawing Edit Removed
-protocol = record { edit = edit; place = place; messageSize = messageSize; encode = λ n e. encode (messageFor n e); decode = λ s. decodedOf (parse s) }
+-- of starts with a mark: it stands in each message, and a message with another is invalid
+abbrev pub protocol : ℕ → Protocol Drawing Edit Removed
+protocol mark = record { edit = edit; place = place; messageSize = messageSize; encode = λ n e. encode mark (messageFor n e); decode = λ s. decodedOf (parse mark s) }
 
 -- the curve that an edit is made on
 abbrev pub target : Edit → ℕ

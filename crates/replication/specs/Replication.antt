@@ -1,7 +1,8 @@
--- Demand 3 on real drawings: desk and wall agree with the reference machine, each starting line and arc has its chain, and each replica's drawing is the edits'
+-- Demand 3 on real drawings, of starts with one mark: desk and wall agree with the reference machine, each starting line and arc has its chain, and each replica's drawing is the edits'
 -- definition folded over the image's drawing. Definitions only.
 use mathlib.Core.Path.{_≡_}
 use mathlib.Core.List.{List, [], _∷_, _++_, map}
+use Prim.Native.Nat.{ℕ}
 use lib.ListN.{take}
 use Rattle.sketch.specs.Drawing.{Drawing, limits}
 use Rattle.edit_plan.specs.declared.Removed.{Removed}
@@ -21,15 +22,15 @@ applyEdits d (e ∷ es) = editOf (e .operation) limits d (e .curve) (e .at) then
 abbrev pub edits : List (Entry Drawing Edit Removed) → List Edit
 edits l = map (λ x. x .edit) l
 
-pub record ReplicationCorrect (start : Drawing) (desk : List (DeskStep Drawing Edit Removed)) (wall : List (WallStep Drawing Removed)) : Type 0 where
-  pub demand : Demand3 protocol curveView target start desk wall
+pub record ReplicationCorrect (mark : ℕ) (start : Drawing) (desk : List (DeskStep Drawing Edit Removed)) (wall : List (WallStep Drawing Removed)) : Type 0 where
+  pub demand : Demand3 (protocol mark) curveView target start desk wall
   -- at its start and after each call the desk has the drawing of the edits accepted so far
   pub desk-drawing :
       (before later : List (DeskStep Drawing Edit Removed)) → desk ≡ before ++ later
-      → applyEdits start (edits (acceptedLog protocol (initial start) (calls before)))
-      ≡ accepted (deskAfter (initial start) before .drawing) (reports (acceptedLog protocol (initial start) (calls before)))
+      → applyEdits start (edits (acceptedLog (protocol mark) (initial start) (calls before)))
+      ≡ accepted (deskAfter (initial start) before .drawing) (reports (acceptedLog (protocol mark) (initial start) (calls before)))
   -- at its start and after each delivery the wall has the drawing of the first of the desk's accepted edits, as many as it counts
   pub wall-drawing :
       (before later : List (WallStep Drawing Removed)) → wall ≡ before ++ later
-      → applyEdits start (edits (take (wallAfter (initial start) before .count) (acceptedLog protocol (initial start) (calls desk))))
-      ≡ accepted (wallAfter (initial start) before .drawing) (reports (take (wallAfter (initial start) before .count) (acceptedLog protocol (initial start) (calls desk))))
+      → applyEdits start (edits (take (wallAfter (initial start) before .count) (acceptedLog (protocol mark) (initial start) (calls desk))))
+      ≡ accepted (wallAfter (initial start) before .drawing) (reports (take (wallAfter (initial start) before .count) (acceptedLog (protocol mark) (initial start) (calls desk))))

@@ -1,4 +1,4 @@
--- Both whole lists in one run: edits to the desk, then the desk's messages to the wall, in any order. Definitions only.
+-- Both whole lists in one run, from one image with one mark: edits to the desk, then the desk's messages to the wall, in any order. Definitions only.
 use Prim.Native.Nat.{ℕ, _+_, _*_, _-_, _/_, _≤_}
 use mathlib.Core.Path.{_≡_}
 use mathlib.Core.Bool.{Bool, _&&_}
@@ -16,7 +16,7 @@ use Rattle.edit_plan.specs.declared.Removed.{Removed}
 use Rattle.agreement.specs.Machines.{initial, Call, DeskStep, calls, deskAfter, messages, DeskRun, WallStep, wallAfter, WallRun}
 use Rattle.replication.specs.declared.RunResult.{RunResult}
 use Rattle.replication.specs.Protocol.{Edit, protocol}
-use Rattle.replication.specs.Transitions.{firstNonzero, Memory, memory, stateIn, Ready}
+use Rattle.replication.specs.Transitions.{noReplica, firstNonzero, Memory, memory, stateIn, Ready}
 use Rattle.replication.specs.Replication.{ReplicationCorrect}
 
 -- ---- the desk's list, call by call: operation, curve id, the pick's bits 8 and 8, the room lent
@@ -68,27 +68,29 @@ abbrev pub concat : List (List ℕ) → List ℕ
 concat [] = []
 concat (m ∷ ms) = m ++ concat ms
 
-pub record RunHolds (image entries order before log desk wall : List ℕ) (r : RunResult) : Type 0 where
+pub record RunHolds (image : List ℕ) (mark : ℕ) (entries order before log desk wall : List ℕ) (r : RunResult) : Type 0 where
   pub start : Drawing
   pub image-is : I.parse image ≡ I.accepted start
   pub desk-steps : List (DeskStep Drawing Edit Removed)
   pub wall-steps : List (WallStep Drawing Removed)
-  pub desk-run : DeskRun protocol (initial start) desk-steps
-  pub wall-run : WallRun protocol (initial start) wall-steps
+  pub desk-run : DeskRun (protocol mark) (initial start) desk-steps
+  pub wall-run : WallRun (protocol mark) (initial start) wall-steps
   pub desk-fed : calls desk-steps ≡ callsIn entries
   pub wall-fed : map (λ (x : WallStep Drawing Removed). x .bytes) wall-steps ≡ messagesAt (messages desk-steps) order
   pub desk-ends : deskAfter (initial start) desk-steps ≡ stateIn (memory (r .desk) desk)
   pub wall-ends : wallAfter (initial start) wall-steps ≡ stateIn (memory (r .wall) wall)
+  pub desk-mark : r .desk .mark ≡ mark
+  pub wall-mark : r .wall .mark ≡ mark
   -- the desk's messages stand at the log's front, one after the other, and the rest is as it was
   pub log-is : log ≡ over before 0 (concat (messages desk-steps))
-  pub correct : ReplicationCorrect start desk-steps wall-steps
+  pub correct : ReplicationCorrect mark start desk-steps wall-steps
 
 -- the log, and the two buffers, before and after
-pub record RunsBoth (image entries order before log desk desk′ wall wall′ : List ℕ) (r : RunResult) : Type 0 where
+pub record RunsBoth (image : List ℕ) (mark : ℕ) (entries order before log desk desk′ wall wall′ : List ℕ) (r : RunResult) : Type 0 where
   pub number : r .refusal ≡ runBothFault image (length entries) (length before) (length desk) (length wall)
   -- a refusal leaves all
-  pub kept : (r .refusal ≡ 0 → ⊥) → (log ≡ before) × (desk′ ≡ desk) × (wall′ ≡ wall) × (r .desk ≡ record { size = 0; count = 0 }) × (r .wall ≡ record { size = 0; count = 0 })
-  pub held : r .refusal ≡ 0 → RunHolds image entries order before log desk′ wall′ r
+  pub kept : (r .refusal ≡ 0 → ⊥) → (log ≡ before) × (desk′ ≡ desk) × (wall′ ≡ wall) × (r .desk ≡ noReplica) × (r .wall ≡ noReplica)
+  pub held : r .refusal ≡ 0 → RunHolds image mark entries order before log desk′ wall′ r
 
 -- ---- the two halves
 
@@ -97,11 +99,12 @@ MessageSized [] = Unit {0}
 MessageSized (m ∷ ms) = (length m ≡ messageSize) × MessageSized ms
 
 -- a run of the desk over some calls, its messages one after the other at the front of the log, the rest of which is as it was
-pub record DeskRan (start : Drawing) (cs : List (Call Edit)) (before log : List ℕ) (t : Memory) : Type 0 where
+pub record DeskRan (mark : ℕ) (start : Drawing) (cs : List (Call Edit)) (before log : List ℕ) (t : Memory) : Type 0 where
   pub steps : List (DeskStep Drawing Edit Removed)
-  pub run : DeskRun protocol (initial start) steps
+  pub run : DeskRun (protocol mark) (initial start) steps
   pub fed : calls steps ≡ cs
   pub ends : deskAfter (initial start) steps ≡ stateIn t
+  pub mark-is : t .mark ≡ mark
   pub logged : concat (messages steps) ≡ take (messageSize * t .count) log
   pub rest : drop (messageSize * t .count) log ≡ drop (messageSize * t .count) before
   pub fits : messageSize * t .count ≤ length log
@@ -116,7 +119,8 @@ messagesInLog n log order = concatMap (λ o. ite (ltb o n) (take messageSize (dr
 
 pub record WallRan (s : Memory) (ds : List (List ℕ)) (t : Memory) : Type 0 where
   pub steps : List (WallStep Drawing Removed)
-  pub run : WallRun protocol (stateIn s) steps
+  pub run : WallRun (protocol (s .mark)) (stateIn s) steps
   pub fed : map (λ (x : WallStep Drawing Removed). x .bytes) steps ≡ ds
   pub ends : wallAfter (stateIn s) steps ≡ stateIn t
+  pub mark-is : t .mark ≡ s .mark
   pub ready : Ready t

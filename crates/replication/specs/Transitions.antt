@@ -32,14 +32,15 @@ use Rattle.replication.specs.Outcomes.{CallOutcome, refused, old, update
 
 -- ---- memory
 
--- what is kept for a replica: a buffer, the size of the image at its front, the count of edits
+-- what is kept for a replica: a buffer, the size of the image at its front, the start's mark, the count of edits
 pub record Memory : Type 0 where
   pub buffer : List ℕ
   pub size : ℕ
+  pub mark : ℕ
   pub count : ℕ
 
 abbrev pub memory : Replica → List ℕ → Memory
-memory r b = record { buffer = b; size = r .size; count = r .count }
+memory r b = record { buffer = b; size = r .size; mark = r .mark; count = r .count }
 
 -- the first bytes of the buffer, all of it where it is shorter
 abbrev pub imageIn : Memory → List ℕ
@@ -55,13 +56,14 @@ pub record Ready (m : Memory) : Type 0 where
   pub valid : Valid limits (stateIn m .drawing)
   pub room : I.maxImageSize ≤ length (m .buffer)
 
--- a replica's start: the image at the buffer's front, at count 0
-pub record StartsWith (image : List ℕ) (m : Memory) : Type 0 where
+-- a replica's start: the image at the buffer's front, the mark, count 0
+pub record StartsWith (image : List ℕ) (mark : ℕ) (m : Memory) : Type 0 where
   pub image-is : imageIn m ≡ image
   pub room : I.maxImageSize ≤ length (m .buffer)
+  pub mark-is : m .mark ≡ mark
   pub zero-count : m .count ≡ 0
 
--- ---- a start: the image at the front of a buffer that has room for any image, at count 0; or the image's refusal, and then the room's (25)
+-- ---- a start: the image at the front of a buffer that has room for any image, with the mark, at count 0; or the image's refusal, and then the room's (25)
 
 -- the first number of two that is not 0
 abbrev pub firstNonzero : ℕ → ℕ → ℕ
@@ -71,10 +73,14 @@ firstNonzero (suc n) m = suc n
 abbrev pub startFault : List ℕ → ℕ → ℕ
 startFault image room = firstNonzero (I.imageFault image) (guardNumber (leb I.maxImageSize room) 25 0)
 
-pub record Starts (image before after : List ℕ) (r : Started) : Type 0 where
+-- with a refusal comes a replica of zeros
+abbrev pub noReplica : Replica
+noReplica = record { size = 0; mark = 0; count = 0 }
+
+pub record Starts (image : List ℕ) (mark : ℕ) (before after : List ℕ) (r : Started) : Type 0 where
   pub number : r .refusal ≡ startFault image (length before)
-  pub when-refused : (r .refusal ≡ 0 → ⊥) → (after ≡ before) × (r .replica ≡ record { size = 0; count = 0 })
-  pub when-started : r .refusal ≡ 0 → (after ≡ over before 0 image) × (r .replica ≡ record { size = length image; count = 0 })
+  pub when-refused : (r .refusal ≡ 0 → ⊥) → (after ≡ before) × (r .replica ≡ noReplica)
+  pub when-started : r .refusal ≡ 0 → (after ≡ over before 0 image) × (r .replica ≡ record { size = length image; mark = mark; count = 0 })
 
 -- ---- what desk and wall answer and leave alike
 
@@ -82,11 +88,11 @@ pub record Starts (image before after : List ℕ) (r : Started) : Type 0 where
 abbrev pub firstFault : List ℕ → ℕ → ℕ
 firstFault s k = guardNumber (eqb (I.imageFault s) 0) (I.imageFault s) k
 
--- a refusal leaves all; an old message leaves the state that was found; else the new image stands at the buffer's front, the rest as it was
+-- a refusal leaves all; an old message leaves the state that was found; else the new image stands at the buffer's front, the rest as it was; the mark stays
 abbrev pub memoryAfter : CallOutcome → Memory → Memory
 memoryAfter (refused k place) m = m
-memoryAfter (old s) m = record { buffer = m .buffer; size = drawingSize (s .drawing); count = s .count }
-memoryAfter (updated s r) m = record { buffer = over (m .buffer) 0 (encode (s .drawing)); size = drawingSize (s .drawing); count = s .count }
+memoryAfter (old s) m = record { buffer = m .buffer; size = drawingSize (s .drawing); mark = m .mark; count = s .count }
+memoryAfter (updated s r) m = record { buffer = over (m .buffer) 0 (encode (s .drawing)); size = drawingSize (s .drawing); mark = m .mark; count = s .count }
 
 -- ---- the desk
 
@@ -115,7 +121,7 @@ deskStep c =
     }
 
 abbrev pub deskCallOutcome : Memory → Edit → ℕ → CallOutcome
-deskCallOutcome m e room = onImage (I.parse (imageIn m)) (m .count) (deskOn (length (m .buffer)) (record { edit = e; room = room }))
+deskCallOutcome m e room = onImage (I.parse (imageIn m)) (m .count) (deskOn (m .mark) (length (m .buffer)) (record { edit = e; room = room }))
 
 -- the reply to an outcome; no edit of the desk is old
 abbrev pub deskReplyTo : CallOutcome → DeskReply
@@ -127,7 +133,7 @@ deskReplyTo (updated s r) = Desk.Accepted r
 pub record DeskEdits (m : Memory) (c : DeskCall) : Type 0 where
   pub reply-is : c .reply ≡ deskReplyTo (deskCallOutcome m (c .edit) (length (c .before)))
   pub left-is : c .left ≡ memoryAfter (deskCallOutcome m (c .edit) (length (c .before))) m
-  pub message-is : c .after ≡ messageAfter (deskCallOutcome m (c .edit) (length (c .before))) (c .edit) (c .before)
+  pub message-is : c .after ≡ messageAfter (m .mark) (deskCallOutcome m (c .edit) (length (c .before))) (c .edit) (c .before)
   pub sound : OutcomeSound (deskCallOutcome m (c .edit) (length (c .before)))
 
 -- one call after the other, each on what the last one left
@@ -154,7 +160,7 @@ abbrev pub wallStep : WallCall → WallStep Drawing Removed
 wallStep c = record { bytes = c .bytes; state = stateIn (c .left); reply = wallReply (c .reply) }
 
 abbrev pub wallCallOutcome : Memory → List ℕ → CallOutcome
-wallCallOutcome m bytes = onImage (I.parse (imageIn m)) (m .count) (wallOn (length (m .buffer)) bytes)
+wallCallOutcome m bytes = onImage (I.parse (imageIn m)) (m .count) (wallOn (m .mark) (length (m .buffer)) bytes)
 
 abbrev pub wallReplyTo : CallOutcome → WallReply
 wallReplyTo (refused k place) = Wall.Refused k place

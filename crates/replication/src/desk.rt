@@ -21,8 +21,8 @@ fn refuse(replica: Replica, number: u8, place: usize) -> DeskTransition
     DeskTransition { replica, reply }
 }
 
-// Makes an edit of the replica's image, which stands at the front of `buffer`, counts it and writes its message to the front of `message`; or
-// refuses it and leaves replica, buffer and message.
+// Makes an edit of the replica's image, which stands at the front of `buffer`, counts it and writes its message, under the replica's mark, to the
+// front of `message`; or refuses it and leaves replica, buffer and message.
 pub fn desk_edit<'a>(
     replica: Replica,
     buffer: &'a mut [u8],
@@ -60,10 +60,11 @@ pub fn desk_edit<'a>(
         x: f64::to_bits(x),
         y: f64::to_bits(y),
     };
-    message::write_message(sent, message);
+    message::write_message(sent, replica.mark, message);
     let removed = e.removed;
     let after = Replica {
         size: e.size,
+        mark: replica.mark,
         count: number,
     };
     DeskTransition {

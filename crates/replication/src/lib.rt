@@ -10,15 +10,18 @@ mod wall_program;
 pub use desk::desk_edit;
 use edit_plan::Removed;
 use message::EditNumber;
+use message::Mark;
 pub use refusals::first_fault;
 pub use run_lists::run_both;
 pub use starting::start;
 pub use wall::wall_deliver;
 pub use wall_program::run_program;
 
-// A replica's state, beside the buffer at whose front its image stands: the image's size, and how many edits were applied to it (01's count).
+// A replica's state, beside the buffer at whose front its image stands: the image's size, the mark of its start, and how many edits were applied
+// to it (01's count).
 pub struct Replica {
     pub size: usize,
+    pub mark: Mark,
     pub count: EditNumber,
 }
 

@@ -12,13 +12,14 @@ use big_endian::get4;
 use big_endian::get8;
 use image::MAX_IMAGE_SIZE;
 use message::MESSAGE_SIZE;
+use message::Mark;
 use message::operation_of;
 use sketch::ID_SIZE;
 ghost use mathlib.Core.Path.{_≡_};
 ghost use Prim.Native.Nat.{_+_, _*_, _/_, _≤_};
 ghost use lib.ListN.{length};
 ghost use lib.Ieee.{ofBits, binary64};
-ghost use Rattle.replication.specs.Transitions.{memory, stateIn, Ready, DeskEdits};
+ghost use Rattle.replication.specs.Transitions.{memory, noReplica, stateIn, Ready, DeskEdits};
 ghost use Rattle.replication.specs.RunBoth.{editAt, callsIn, hasRoom, DeskRan, messagesInLog, WallRan, RunsBoth, callSize, maxRoom};
 ghost use Rattle.message.specs.Message.{messageSize};
 
@@ -78,7 +79,7 @@ fn run_desk<'a>(
     log: &'a mut [u8],
 ) -> Replica
     requires { ⌜ Ready (memory replica (now buffer)) × (replica .count ≡ 0) × (messageSize * (length (now entries) / callSize) + maxRoom ≤ length (now log)) ⌝ }
-    ensures { λ r. ⌜ DeskRan (stateIn (memory replica (now (buffer .entry))) .drawing) (callsIn (now (entries .entry))) (now (log .entry)) (now (log .exit)) (memory r (now (buffer .exit))) × (length (now (log .exit)) ≡ length (now (log .entry))) ⌝ }
+    ensures { λ r. ⌜ DeskRan (replica .mark) (stateIn (memory replica (now (buffer .entry))) .drawing) (callsIn (now (entries .entry))) (now (log .entry)) (now (log .exit)) (memory r (now (buffer .exit))) × (length (now (log .exit)) ≡ length (now (log .entry))) ⌝ }
 {
     let mut last = replica;
     let mut i = 0usize;
@@ -124,10 +125,18 @@ fn has_room(size: usize, room: usize) -> bool
 }
 
 fn not_run(refusal: u8) -> RunResult
-    ensures { λ r. ⌜ r ≡ record { desk = record { size = 0; count = 0 }; wall = record { size = 0; count = 0 }; refusal = refusal } ⌝ }
+    ensures { λ r. ⌜ r ≡ record { desk = noReplica; wall = noReplica; refusal = refusal } ⌝ }
 {
-    let desk = Replica { size: 0, count: 0 };
-    let wall = Replica { size: 0, count: 0 };
+    let desk = Replica {
+        size: 0,
+        mark: 0,
+        count: 0,
+    };
+    let wall = Replica {
+        size: 0,
+        mark: 0,
+        count: 0,
+    };
     RunResult {
         desk,
         wall,
@@ -135,29 +144,30 @@ fn not_run(refusal: u8) -> RunResult
     }
 }
 
-// Both lists whole, from one image: the calls in `entries` to the desk, then to the wall the messages at the places in `order`. The log takes the
+// Both lists whole, from one image with one mark: the calls in `entries` to the desk, then to the wall the messages at the places in `order`. The log takes the
 // messages, and the two buffers the images. Refused are an image, as ever, and a log or a buffer that is too short (25): then neither list is
 // run, and log and buffers are left.
 pub fn run_both<'a>(
     image: &[u8],
+    mark: Mark,
     entries: &[u8],
     order: &[usize],
     log: &'a mut [u8],
     desk: &'a mut [u8],
     wall: &'a mut [u8],
 ) -> RunResult
-    ensures { λ r. ⌜ RunsBoth (now (image .entry)) (now (entries .entry)) (now (order .entry)) (now (log .entry)) (now (log .exit)) (now (desk .entry)) (now (desk .exit)) (now (wall .entry)) (now (wall .exit)) r ⌝ }
+    ensures { λ r. ⌜ RunsBoth (now (image .entry)) mark (now (entries .entry)) (now (order .entry)) (now (log .entry)) (now (log .exit)) (now (desk .entry)) (now (desk .exit)) (now (wall .entry)) (now (wall .exit)) r ⌝ }
 {
     if !(has_room(entries.len(), log.len())
         & (MAX_IMAGE_SIZE <= desk.len())
         & (MAX_IMAGE_SIZE <= wall.len())) {
         return not_run(first_fault(image, 25));
     }
-    let at_desk = start(image, desk);
+    let at_desk = start(image, mark, desk);
     if at_desk.refusal != 0 {
         return not_run(at_desk.refusal);
     }
-    let at_wall = start(image, wall);
+    let at_wall = start(image, mark, wall);
     let first = at_desk.replica;
     let second = at_wall.replica;
     let desk_end = run_desk(first, desk, entries, log);

@@ -3,21 +3,26 @@ use crate::Replica;
 use crate::Started;
 use crate::refusals::first_fault;
 use image::MAX_IMAGE_SIZE;
+use message::Mark;
 ghost use mathlib.Core.Path.{_≡_};
-ghost use Rattle.replication.specs.Transitions.{Starts};
+ghost use Rattle.replication.specs.Transitions.{noReplica, Starts};
 
 // A start that is refused by a number.
 fn not_started(refusal: u8) -> Started
-    ensures { λ r. ⌜ r ≡ record { replica = record { size = 0; count = 0 }; refusal = refusal } ⌝ }
+    ensures { λ r. ⌜ r ≡ record { replica = noReplica; refusal = refusal } ⌝ }
 {
-    let replica = Replica { size: 0, count: 0 };
+    let replica = Replica {
+        size: 0,
+        mark: 0,
+        count: 0,
+    };
     Started { replica, refusal }
 }
 
-// Puts an image at the front of a buffer, for a replica at count 0; or refuses the image, or a buffer without room for any image (25), and leaves
+// Puts an image at the front of a buffer, for a replica with a mark at count 0; or refuses the image, or a buffer without room for any image (25), and leaves
 // the buffer.
-pub fn start(image: &[u8], buffer: &mut [u8]) -> Started
-    ensures { λ r. ⌜ Starts (now (image .entry)) (now (buffer .entry)) (now (buffer .exit)) r ⌝ }
+pub fn start(image: &[u8], mark: Mark, buffer: &mut [u8]) -> Started
+    ensures { λ r. ⌜ Starts (now (image .entry)) mark (now (buffer .entry)) (now (buffer .exit)) r ⌝ }
 {
     if buffer.len() < MAX_IMAGE_SIZE {
         return not_started(first_fault(image, 25));
@@ -29,6 +34,7 @@ pub fn start(image: &[u8], buffer: &mut [u8]) -> Started
     rows::put_run(image, buffer, 0);
     let replica = Replica {
         size: image.len(),
+        mark,
         count: 0,
     };
     Started {

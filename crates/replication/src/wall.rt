@@ -37,6 +37,7 @@ fn answer_old(replica: Replica, image: &[u8]) -> WallTransition
     }
     let found = Replica {
         size: image.len(),
+        mark: replica.mark,
         count: replica.count,
     };
     WallTransition {
@@ -62,6 +63,7 @@ fn apply_message(replica: Replica, buffer: &mut [u8], m: Message) -> WallTransit
     let removed = e.removed;
     let after = Replica {
         size: e.size,
+        mark: replica.mark,
         count: m.number,
     };
     WallTransition {
@@ -87,11 +89,11 @@ fn deliver_message(replica: Replica, buffer: &mut [u8], m: Message) -> WallTrans
 }
 
 // Takes a message as it came, to the replica whose image stands at the front of `buffer`: makes its edit and counts it, finds it old, or refuses
-// it and leaves replica and buffer.
+// it, by 28 where its mark is not the replica's, and leaves replica and buffer.
 pub fn wall_deliver(replica: Replica, buffer: &mut [u8], bytes: &[u8]) -> WallTransition
     ensures { λ r. ⌜ WallDelivers (memory replica (now (buffer .entry))) (wallCall (now (bytes .entry)) (now (buffer .exit)) r) ⌝ }
 {
-    match message::read_message(bytes) {
+    match message::read_message(bytes, replica.mark) {
         MessageRead::Refused(number) => {
             refuse(
                 replica,

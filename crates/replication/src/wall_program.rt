@@ -1,9 +1,11 @@
-// The wall's program on slices: an image, then the messages after it.
+// The wall's program on slices: an image, a mark, then the messages after it.
 use crate::Replica;
 use crate::starting::start;
 use crate::wall::wall_deliver;
 use big_endian::get4;
+use big_endian::get8;
 use image::MAX_IMAGE_SIZE;
+use message::MARK_SIZE;
 use message::MESSAGE_SIZE;
 use rows::front;
 use rows::put_run;
@@ -65,18 +67,20 @@ fn write_image(image: &[u8], out: &mut [u8]) -> usize
     size
 }
 
-// Reads an image and the messages after it, and writes the last image to the buffer's front, or the number that the image is
-// refused by. Answers how many bytes it wrote, 0 where the buffer is too short.
+// Reads an image, a mark and the messages after it, and writes the last image to the buffer's front, or the number that the image is
+// refused by; with fewer bytes than a mark's after it there are no messages. Answers how many bytes it wrote, 0 where the buffer is too short.
 pub fn run_program(input: &[u8], out: &mut [u8]) -> usize
     ensures { λ r. ⌜ WritesOutcome (programOutcome (now (input .entry))) (now (out .entry)) (now (out .exit)) r ⌝ }
 {
-    let end = min(4 + get4(input, 0) as usize, input.len());
+    let image_end = 4 + get4(input, 0) as usize;
+    let end = min(image_end, input.len());
+    let from = min(image_end + MARK_SIZE, input.len());
     let mut buffer = [0u8; MAX_IMAGE_SIZE];
-    let started = start(&input[..end], &mut buffer);
+    let started = start(&input[..end], get8(input, image_end), &mut buffer);
     if started.refusal != 0 {
         return write_refusal(started.refusal, out);
     }
     let replica = started.replica;
-    let last = deliver_all(replica, &mut buffer, &input[end..]);
+    let last = deliver_all(replica, &mut buffer, &input[from..]);
     write_image(front(&buffer, last.size), out)
 }

@@ -36,7 +36,7 @@ same-length : tie.Need-same-length
 same-length c = search needs
 
 returns-2 : tie.Need-returns-2
-returns-2 c = message-copied (c .before .before .before .before .before .before .before .before .before .before .args .bytes .now) (c .before .before .before .before .before .before .before .before .before .before .args .out .now) _ _ _ (λ k. c .before .before .before .before .before .before .before .before .before .shared-slice-known .given k .fits) (sym (c .before .before .before .before .before .before .before .read-message .ensures) ∙ c .before .before .before .before .before .m .given .1) (c .before .before .write-message .ensures)
+returns-2 c = message-copied (c .before .before .before .before .before .before .before .before .before .before .args .mark) (c .before .before .before .before .before .before .before .before .before .before .args .bytes .now) (c .before .before .before .before .before .before .before .before .before .before .args .out .now) _ _ _ (λ k. c .before .before .before .before .before .before .before .before .before .shared-slice-known .given k .fits) (sym (c .before .before .before .before .before .before .before .read-message .ensures) ∙ c .before .before .before .before .before .m .given .1) (c .before .before .write-message .ensures)
 
 pub mulkefi-message-copy-spec : {M : Type 1} → statement M
 mulkefi-message-copy-spec =

@@ -1,4 +1,5 @@
-use Rattle.message.specs.Message.{encode, messageSize}
+use Rattle.message.specs.Message.{encode, messageSize, lengthSize, versionAt, markAt, markSize, editNumberAt, editNumberSize, operationAt, curveAt, xAt, yAt}
+use Rattle.sketch.specs.Drawing.{idSize}
 use Rattle.sketch.specs.Lists.{guardNumber}
 use borrow.Author.Tests.{lt-leb, le-leb}
 use Rattle.big_endian.specs.Laws.{run-starts, run-puts}
@@ -37,6 +38,9 @@ cast-put1 c = search needs
 put1-requires : tie.Need-put1-requires
 put1-requires c κs = search needs
 
+put8-requires : tie.Need-put8-requires
+put8-requires c κs = search needs
+
 cast-put4-2 : tie.Need-cast-put4-2
 cast-put4-2 c = search needs
 
@@ -55,30 +59,31 @@ cast-put4-3 c = search needs
 put4-requires-3 : tie.Need-put4-requires-3
 put4-requires-3 c κs = search needs
 
-put8-requires : tie.Need-put8-requires
-put8-requires c κs = search needs
-
 put8-requires-2 : tie.Need-put8-requires-2
 put8-requires-2 c κs = search needs
 
+put8-requires-3 : tie.Need-put8-requires-3
+put8-requires-3 c κs = search needs
+
 same-length : tie.Need-same-length
-same-length c = search needs
+same-length c = omega (arith, c .before .buf8, c .before .before .before .before .before .buf7, c .before .before .before .before .before .before .before .before .before .buf6, c .before .before .before .before .before .before .before .before .before .before .before .before .before .before .buf5, c .before .before .before .before .before .before .before .before .before .before .before .before .before .before .before .before .before .before .before .buf4, c .before .before .before .before .before .before .before .before .before .before .before .before .before .before .before .before .before .before .before .before .before .before .before .before .buf3, c .before .before .before .before .before .before .before .before .before .before .before .before .before .before .before .before .before .before .before .before .before .before .before .before .before .before .before .before .buf2, c .before .before .before .before .before .before .before .before .before .before .before .before .before .before .before .before .before .before .before .before .before .before .before .before .before .before .before .before .before .before .before .before .buf)
 
 returns-3 : tie.Need-returns-3
 unfolding guardNumber encode
 returns-3 c =
-    let a = c .before .before .before .before .before .before .before .before .before .before .before .before .before .before .before .before .before .before .before .before .before .before .before .before .before .before .before .before .before .before .before .before .before .before .before .args in
-    let h : messageSize ≤ length (a .buf .now) = c .before .before .before .before .before .before .before .before .before .before .before .before .before .before .before .before .before .before .before .before .before .before .before .before .before .before .before .before .before .before .before .if2 .left in
-    let w1 = run-starts (a .buf .now) 0 4 _ (omega arith) (c .before .before .before .before .before .before .before .before .before .before .before .before .before .before .before .before .before .before .before .before .before .before .before .before .before .before .before .before .before .put4 .ensures) in
-    let w2 = run-puts (a .buf .now) 0 4 1 _ _ _ _ (omega arith) w1 (c .before .before .before .before .before .before .before .before .before .before .before .before .before .before .before .before .before .before .before .before .before .before .before .before .before .put1 .ensures) in
-    let w3 = run-puts (a .buf .now) 0 5 4 _ _ _ _ (omega arith) w2 (c .before .before .before .before .before .before .before .before .before .before .before .before .before .before .before .before .before .before .before .before .put42 .ensures) in
-    let w4 = run-puts (a .buf .now) 0 9 1 _ _ _ _ (omega arith) w3 (c .before .before .before .before .before .before .before .before .before .before .before .before .before .before .before .put12 .ensures) in
-    let w5 = run-puts (a .buf .now) 0 10 4 _ _ _ _ (omega arith) w4 (c .before .before .before .before .before .before .before .before .before .before .put43 .ensures) in
-    let w6 = run-puts (a .buf .now) 0 14 8 _ _ _ _ (omega arith) w5 (c .before .before .before .before .before .before .put8 .ensures) in
-    let w7 = run-puts (a .buf .now) 0 22 8 _ _ _ _ (omega arith) w6 (c .before .before .put82 .ensures) in
-    let t1 = le-leb _ _ (c .before .before .before .before .before .before .before .before .before .before .before .before .before .before .before .before .before .before .before .before .before .before .before .before .before .before .before .before .before .before .before .before .if1 .left) in
-    let t2 = le-leb _ _ (c .before .before .before .before .before .before .before .before .before .before .before .before .before .before .before .before .before .before .before .before .before .before .before .before .before .before .before .before .before .before .before .if2 .left) in
-    record { number = rw (t1, t2); buffer = rw (t1, t2) (w7 .is ∙ simp (append-assoc, c .before .before .before .before .before .before .before .before .before .before .before .before .before .before .before .before .operation-byte .ensures)) }
+    let a = c .before .before .before .before .before .before .before .before .before .before .before .before .before .before .before .before .before .before .before .before .before .before .before .before .before .before .before .before .before .before .before .before .before .before .before .before .before .before .before .args in
+    let h : messageSize ≤ length (a .buf .now) = c .before .before .before .before .before .before .before .before .before .before .before .before .before .before .before .before .before .before .before .before .before .before .before .before .before .before .before .before .before .before .before .before .before .before .before .if2 .left in
+    let w1 = run-starts (a .buf .now) 0 lengthSize _ (omega arith) (c .before .before .before .before .before .before .before .before .before .before .before .before .before .before .before .before .before .before .before .before .before .before .before .before .before .before .before .before .before .before .before .before .before .put4 .ensures) in
+    let w2 = run-puts (a .buf .now) 0 versionAt 1 _ _ _ _ (omega arith) w1 (c .before .before .before .before .before .before .before .before .before .before .before .before .before .before .before .before .before .before .before .before .before .before .before .before .before .before .before .before .before .put1 .ensures) in
+    let w3 = run-puts (a .buf .now) 0 markAt markSize _ _ _ _ (omega arith) w2 (c .before .before .before .before .before .before .before .before .before .before .before .before .before .before .before .before .before .before .before .before .before .before .before .before .before .put8 .ensures) in
+    let w4 = run-puts (a .buf .now) 0 editNumberAt editNumberSize _ _ _ _ (omega arith) w3 (c .before .before .before .before .before .before .before .before .before .before .before .before .before .before .before .before .before .before .before .before .put42 .ensures) in
+    let w5 = run-puts (a .buf .now) 0 operationAt 1 _ _ _ _ (omega arith) w4 (c .before .before .before .before .before .before .before .before .before .before .before .before .before .before .before .put12 .ensures) in
+    let w6 = run-puts (a .buf .now) 0 curveAt idSize _ _ _ _ (omega arith) w5 (c .before .before .before .before .before .before .before .before .before .before .put43 .ensures) in
+    let w7 = run-puts (a .buf .now) 0 xAt 8 _ _ _ _ (omega arith) w6 (c .before .before .before .before .before .before .put82 .ensures) in
+    let w8 = run-puts (a .buf .now) 0 yAt 8 _ _ _ _ (omega arith) w7 (c .before .before .put83 .ensures) in
+    let t1 = le-leb _ _ (c .before .before .before .before .before .before .before .before .before .before .before .before .before .before .before .before .before .before .before .before .before .before .before .before .before .before .before .before .before .before .before .before .before .before .before .before .if1 .left) in
+    let t2 = le-leb _ _ h in
+    record { number = rw (t1, t2); buffer = rw (t1, t2) (w8 .is ∙ simp (append-assoc, c .before .before .before .before .before .before .before .before .before .before .before .before .before .before .before .before .operation-byte .ensures)) }
 
 pub write-message-spec : {M : Type 1} → statement M
 write-message-spec =
@@ -90,13 +95,14 @@ write-message-spec =
     put4-requires
     cast-put1
     put1-requires
+    put8-requires
     cast-put4-2
     put4-requires-2
     operation-byte-requires
     put1-requires-2
     cast-put4-3
     put4-requires-3
-    put8-requires
     put8-requires-2
+    put8-requires-3
     same-length
     returns-3)

@@ -12,10 +12,10 @@ use Rattle.probe.proofs.replicas.walls_sum.Statement.{statement}
 use Rattle.probe.proofs.replicas.walls_sum.Tie as tie
 
 abbrev Inv-loop : tie.InvT-loop
-Inv-loop image count message times buffer₀ sum₀ i₀ buffer sum i = (i ≤ times) × (length buffer ≡ 21135) × (sum ≡ repeated i (wallAdds message (imageState image count)))
+Inv-loop image count mark message times buffer₀ sum₀ i₀ buffer sum i = (i ≤ times) × (length buffer ≡ 21135) × (sum ≡ repeated i (wallAdds mark message (imageState image count)))
 
 abbrev μ-loop : tie.MeasureT-loop
-μ-loop image count message times buffer₀ sum₀ i₀ buffer sum i = times - i
+μ-loop image count mark message times buffer₀ sum₀ i₀ buffer sum i = times - i
 
 loop-holds : tie.Need-loop-holds Inv-loop μ-loop
 loop-holds c = (omega arith, search needs, none-yet _)

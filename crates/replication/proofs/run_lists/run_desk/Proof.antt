@@ -14,7 +14,7 @@ use Rattle.replication.proofs.run_lists.run_desk.Statement.{statement}
 use Rattle.replication.proofs.run_lists.run_desk.Tie as tie
 
 abbrev Inv-loop : tie.InvT-loop
-Inv-loop buffer₀ entries log₀ last₀ i₀ buffer log last i = (i ≤ length entries / callSize) × (length buffer ≡ length buffer₀) × (length log ≡ length log₀) × DeskRan (stateIn (memory last₀ buffer₀) .drawing) (rows i (callAt entries)) log₀ log (memory last buffer)
+Inv-loop buffer₀ entries log₀ last₀ i₀ buffer log last i = (i ≤ length entries / callSize) × (length buffer ≡ length buffer₀) × (length log ≡ length log₀) × DeskRan (last₀ .mark) (stateIn (memory last₀ buffer₀) .drawing) (rows i (callAt entries)) log₀ log (memory last buffer)
 
 abbrev μ-loop : tie.MeasureT-loop
 μ-loop buffer₀ entries log₀ last₀ i₀ buffer log last i = length entries / callSize - i
@@ -69,7 +69,7 @@ loop-again c =
     let at = c .before .before .before .before .before .before .before .before .before .before .before .loop in
     let room = c .before .before .before .before .before .before .before .before .before .before .before .before .before .before .before .pre .2 in
     let m =
-    desk-ran-next _ (c .before .before .before .before .before .before .before .before .before .before .before .before .before .before .before .args .entries .now) _ (at .log) (at .i) (memory (at .last) (at .buffer)) (omega arith) (omega arith) (at .inv .3)
+    desk-ran-next _ _ (c .before .before .before .before .before .before .before .before .before .before .before .before .before .before .before .args .entries .now) _ (at .log) (at .i) (memory (at .last) (at .buffer)) (omega arith) (omega arith) (at .inv .3)
     (at .last .count * messageSize) (at .last .count * messageSize + c .before .before .before .before .before .before .before .before .get1 .result - at .last .count * messageSize) (omega arith) (omega (arith, c .before .before .before .before .before .before .before .before .get1 .ensures)) (omega arith)
     _ _ _ (c .before .before .before .before .before .desk-edit-at .ensures)
     in
@@ -82,7 +82,7 @@ same-length-2 : tie.Need-same-length-2 Inv-loop μ-loop
 same-length-2 c = search needs
 
 returns : tie.Need-returns Inv-loop μ-loop
-returns c = (desk-ran-all _ (c .before .before .before .before .before .args .entries .now) _ _ (c .before .loop .i) _ (omega arith) (c .before .loop .inv .3), c .before .loop .inv .2)
+returns c = (desk-ran-all _ _ (c .before .before .before .before .before .args .entries .now) _ _ (c .before .loop .i) _ (omega arith) (c .before .loop .inv .3), c .before .loop .inv .2)
 
 pub run-desk-spec : {M : Type 1} → statement M
 run-desk-spec =

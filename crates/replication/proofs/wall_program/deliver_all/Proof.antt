@@ -17,7 +17,7 @@ abbrev μ-loop : tie.MeasureT-loop
 μ-loop buffer₀ bytes last₀ at₀ buffer last at = length bytes - at
 
 loop-holds : tie.Need-loop-holds Inv-loop μ-loop
-loop-holds c = (refl, record { within = omega arith; ready = c .before .before .pre; on = refl })
+loop-holds c = (refl, record { within = omega arith; ready = c .before .before .pre; mark-is = refl; on = refl })
 
 sub-min : tie.Need-sub-min Inv-loop μ-loop
 sub-min c = search needs
