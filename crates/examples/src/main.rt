@@ -9,6 +9,9 @@ use replication::DeskReply;
 // Room for an image.
 const IMAGE: usize = 1024;
 
+// The mark of a start, which edits do not depend on.
+const MARK: u64 = 1;
+
 // Room for roots, and a budget.
 const ROOTS: usize = 28;
 
@@ -47,7 +50,7 @@ fn extend(words: &[u8], path: &[u8], x: f64, y: f64) {
     let mut message = [0u8; MESSAGE_SIZE];
     let n = io::read_full(fd, &mut bytes);
     libc::close(fd);
-    let started = replication::start(&bytes[..n], &mut buffer);
+    let started = replication::start(&bytes[..n], MARK, &mut buffer);
     let replica = started.replica;
     let extend = Operation::Extend;
     let answer = replication::desk_edit(replica, &mut buffer, extend, 3, x, y, &mut message);

@@ -3,8 +3,8 @@ ghost use Prim.Native.Nat.{_+_, _≤_, _<_, _^_};
 ghost use mathlib.Core.Path.{_≡_};
 ghost use Rattle.replay.specs.Tally.{Kept};
 
-// Outcomes are 0 for acceptance and the numbers of the refusals, 1 to 25.
-pub(crate) const OUTCOMES: usize = 26;
+// Outcomes are 0 for acceptance and the numbers of the refusals, up to 28.
+pub(crate) const OUTCOMES: usize = 29;
 
 pub(crate) struct Tally {
     pub entries: usize,

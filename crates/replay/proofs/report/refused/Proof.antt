@@ -8,7 +8,7 @@ abbrev Inv-loop : tie.InvT-loop
 Inv-loop outcomes is-first₀ refusal₀ is-first refusal = Unit {0}
 
 abbrev μ-loop : tie.MeasureT-loop
-μ-loop outcomes is-first₀ refusal₀ is-first refusal = 26 - refusal
+μ-loop outcomes is-first₀ refusal₀ is-first refusal = 29 - refusal
 
 loop-holds : tie.Need-loop-holds Inv-loop μ-loop
 loop-holds c = tt
