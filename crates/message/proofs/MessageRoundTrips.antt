@@ -49,6 +49,17 @@ length-message mark m = simp (length-append, length-bytes)
 
 -- ---- there: the bytes of a message under a mark are foreign at any other, refused by 6 where its number is 0, and give the message where it is not
 
+-- the mark stands in its field, whatever comes behind it
+mark-in :
+    (mark : ℕ) → Mark mark → (s rest : List ℕ) → s ≡ bytes lengthSize messageLength ++ (bytes 1 version ++ (bytes markSize mark ++ rest))
+    → field s markAt markSize ≡ mark
+mark-in mark k s rest e =
+    field-in s (bytes lengthSize messageLength ++ bytes 1 version) rest markAt markSize mark (e ∙ simp append-assoc) (simp (length-append, length-bytes)) k
+
+pub mark-written : (mark : ℕ) → Mark mark → (m : Message) → field (encode mark m) markAt markSize ≡ mark
+unfolding encode
+mark-written mark k m = mark-in mark k (encode mark m) _ refl
+
 module _ (mark : ℕ) (k : Mark mark) (m : Message) (w : StoredMessage m) (s : List ℕ)
     (e : s ≡ bytes lengthSize messageLength ++ (bytes 1 version ++ (bytes markSize mark ++ (bytes editNumberSize (m .number) ++ (bytes 1 (operationByte (m .operation)) ++ (bytes idSize (m .curve) ++ (bytes 8 (m .x) ++ bytes 8 (m .y)))))))) where
   parsed : (at : ℕ) → parse at s ≡ resultOf (guardNumber (eqb mark at) 28 (guardNumber (leb 1 (m .number)) 6 0)) m
@@ -66,7 +77,7 @@ module _ (mark : ℕ) (k : Mark mark) (m : Message) (w : StoredMessage m) (s : L
       let l : length s ≡ messageSize = ap length e ∙ simp (length-append, length-bytes) in
       let f0 : field s 0 lengthSize ≡ messageLength = field-in s [] (b1 ++ (b2 ++ (b3 ++ (b4 ++ (b5 ++ (b6 ++ b7)))))) 0 lengthSize messageLength e refl (lit< tt) in
       let f1 : field s versionAt 1 ≡ version = field-in s b0 (b2 ++ (b3 ++ (b4 ++ (b5 ++ (b6 ++ b7))))) versionAt 1 version e (length-bytes lengthSize _) (lit< tt) in
-      let f2 : field s markAt markSize ≡ mark = field-in s (b0 ++ b1) (b3 ++ (b4 ++ (b5 ++ (b6 ++ b7)))) markAt markSize mark (e ∙ simp append-assoc) (simp (length-append, length-bytes)) k in
+      let f2 = mark-in mark k s (b3 ++ (b4 ++ (b5 ++ (b6 ++ b7)))) e in
       let f3 : field s editNumberAt editNumberSize ≡ m .number =
       field-in s (b0 ++ (b1 ++ b2)) (b4 ++ (b5 ++ (b6 ++ b7))) editNumberAt editNumberSize (m .number) (e ∙ simp append-assoc) (simp (length-append, length-bytes)) (w .number-fits) in
       let f4 : field s operationAt 1 ≡ operationByte (m .operation) =

@@ -10,7 +10,4 @@ pub mod WallCases
 pub mod Steps
 pub mod Demand3
 pub mod StartCases
-pub mod Program
-pub mod ProgramWrites
-pub mod Runs
-pub mod RunBoth
+pub mod TwoDesks

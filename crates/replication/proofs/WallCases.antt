@@ -1,7 +1,6 @@
 -- The outcome of a delivery, by cases: refused, old, or an edit applied. Assumes nothing.
 use mathlib.Core.Path.{_≡_, refl, sym, ap, subst}
 use mathlib.Core.Bool.{Bool, true, false}
-use mathlib.Core.List.{List, [], _∷_}
 use Prim.Native.Nat.{ℕ, _+_}
 use lib.Dec.{leb, eqb}
 use borrow.Author.Tests.{eqb-true}
@@ -15,7 +14,6 @@ use Rattle.relations.specs.Met.{allMet}
 use Rattle.agreement.specs.Machines as M
 use Rattle.agreement.specs.Machines.{State, Decoded, invalid, message, wallTransition}
 use Rattle.replication.specs.Protocol.{Edit, edit, place, protocol}
-use Rattle.replication.specs.Program.{wallAfterMessages}
 use Rattle.replication.proofs.Decoding.{literal}
 
 pub edit-keeps-valid : (d : Drawing) (e : Edit) (d′ : Drawing) (r : Removed) → Valid limits d → edit d e ≡ O.accepted d′ r → Valid limits d′
@@ -38,14 +36,8 @@ wall-case mark s (message n e) = go (leb n (s .count)) (eqb n (s .count + 1)) re
     go false true f (O.refused k) g = is-refused k (place (s .drawing) e k) refl
     go false true f (O.accepted d q) g = is-applied e d q g (ap (λ (n : ℕ). (record { drawing = d; count = n }, M.wallApplied q)) (eqb-true n (s .count + 1) f))
 
--- so deliveries keep a drawing valid
-delivery-valid : (s : State Drawing) (x : State Drawing × M.WallReply Removed) → WallCase s x → Valid limits (s .drawing) → Valid limits (x .0 .drawing)
+-- so a delivery keeps a drawing valid
+pub delivery-valid : (s : State Drawing) (x : State Drawing × M.WallReply Removed) → WallCase s x → Valid limits (s .drawing) → Valid limits (x .0 .drawing)
 delivery-valid s x (is-refused k place e) v = subst (λ (y : State Drawing × M.WallReply Removed). Valid limits (y .0 .drawing)) (sym e) v
 delivery-valid s x (is-old e) v = subst (λ (y : State Drawing × M.WallReply Removed). Valid limits (y .0 .drawing)) (sym e) v
 delivery-valid s x (is-applied e d q g f) v = subst (λ (y : State Drawing × M.WallReply Removed). Valid limits (y .0 .drawing)) (sym f) (edit-keeps-valid (s .drawing) e d q v g)
-
-pub deliveries-valid : (mark : ℕ) (s : State Drawing) (ms : List (List ℕ)) → Valid limits (s .drawing) → Valid limits (wallAfterMessages mark s ms .drawing)
-deliveries-valid mark s [] v = v
-deliveries-valid mark s (m ∷ ms) v =
-    let x = wallTransition (protocol mark) s (protocol mark .decode m) in
-    deliveries-valid mark (x .0) ms (delivery-valid s x (wall-case mark s (protocol mark .decode m)) v)

@@ -4,5 +4,4 @@ pub mod Outcomes
 pub mod Transitions
 pub mod Contracts
 pub mod Replication
-pub mod Program
-pub mod RunBoth
+pub mod TwoDesks

@@ -2,20 +2,17 @@
 // applies the desk's messages in the order of their numbers. Each keeps its sketch as an image at the front of a buffer that is lent for a call.
 mod desk;
 mod refusals;
-mod run_lists;
 mod starting;
 mod wall;
-mod wall_program;
 
 pub use desk::desk_edit;
 use edit_plan::Removed;
 use message::EditNumber;
 use message::Mark;
 pub use refusals::first_fault;
-pub use run_lists::run_both;
 pub use starting::start;
+pub use wall::is_number;
 pub use wall::wall_deliver;
-pub use wall_program::run_program;
 
 // A replica's state, beside the buffer at whose front its image stands: the image's size, the mark of its start, and how many edits were applied
 // to it (01's count).
@@ -52,11 +49,4 @@ pub enum WallReply {
 pub struct WallTransition {
     pub replica: Replica,
     pub reply: WallReply,
-}
-
-// The result of a run over both whole lists: the two replicas, or the number of a refusal.
-pub struct RunResult {
-    pub desk: Replica,
-    pub wall: Replica,
-    pub refusal: u8,
 }

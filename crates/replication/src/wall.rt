@@ -14,7 +14,7 @@ ghost use Rattle.replication.specs.Transitions.{memory, WallDelivers, wa
 ghost use Rattle.replication.specs.Contracts.{wallRefusing, OldAnswered, MessageApplied, DeliversMessage};
 
 // Whether bits are no NaN's: only such may become a float.
-pub(crate) fn is_number(bits: u64) -> bool
+pub fn is_number(bits: u64) -> bool
     ensures { λ r. ⌜ r ≡ not (nanBits binary64 bits) ⌝ }
 {
     bits % 0x8000_0000_0000_0000 <= 0x7ff0_0000_0000_0000

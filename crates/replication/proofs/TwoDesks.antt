@@ -1,0 +1,56 @@
+-- Two desks with different marks, walls that hear both: each wall agrees with its own desk (`two-desks`). Assumes nothing.
+use mathlib.Core.Path.{_≡_, sym, ap, _∙_, subst}
+use mathlib.Core.List.{List, [], _∷_, map, List·Memᴰ, List·Memᴰ·cases-cons, List·Memᴰ·not-nil}
+use mathlib.Core.Logic.{_⊎_, inl, inr, ⊎-elim}
+use Prim.Native.Nat.{ℕ}
+use Rattle.big_endian.specs.Fields.{field}
+use Rattle.sketch.specs.Drawing.{Drawing}
+use Rattle.message.specs.Message.{markSize, markAt, encode}
+use Rattle.message.specs.Stored.{Mark}
+use Rattle.message.proofs.MessageRoundTrips.{foreign-refused, mark-written}
+use Rattle.edit_plan.specs.declared.Removed.{Removed}
+use Rattle.agreement.specs.Machines.{initial, Entry, acceptedLog, calls, messages, WallStep, Unread, Delivered}
+use Rattle.agreement.proofs.Runs.{written, desk-messages}
+use Rattle.replication.specs.Protocol.{Edit, messageFor, decodedOf, protocol}
+use Rattle.replication.specs.TwoDesks.{DeskAndWall, deskSteps, wallSteps, StartedAlike, Hears, HearsBoth, AgreesWithOwn}
+use Rattle.replication.proofs.Demand3.{desk-calls-run, calls-demand-3}
+
+-- ---- what bears another mark is not read, whatever else it is
+
+pub foreign-unread : (mark : ℕ) (s : List ℕ) → (field s markAt markSize ≡ mark → ⊥) → Unread (protocol mark) s
+unfolding decodedOf
+foreign-unread mark s ne = let (k, e) = foreign-refused mark s ne in (k, ap decodedOf e)
+
+-- an entry's message at another mark
+entry-unread : (mark other : ℕ) → Mark other → (other ≡ mark → ⊥) → (x : Entry Drawing Edit Removed) → Unread (protocol mark) (written (protocol other) x)
+entry-unread mark other k ne x =
+    let m = messageFor (x .after .count) (x .edit) in
+    foreign-unread mark (encode other m) (λ e. ne (sym (mark-written other k m) ∙ e))
+
+log-unread :
+    (mark other : ℕ) → Mark other → (other ≡ mark → ⊥) → (l : List (Entry Drawing Edit Removed)) (m : List ℕ) → List·Memᴰ m (map (written (protocol other)) l)
+    → Unread (protocol mark) m
+log-unread mark other k ne [] m q = absurd (List·Memᴰ·not-nil q)
+log-unread mark other k ne (x ∷ l) m q =
+    ⊎-elim (λ e. subst (Unread (protocol mark)) (sym e) (entry-unread mark other k ne x)) (log-unread mark other k ne l m) (List·Memᴰ·cases-cons q)
+
+-- ---- a wall that hears a second desk
+
+heard :
+    (mark : ℕ) (own others : List (List ℕ)) → ((m : List ℕ) → List·Memᴰ m others → Unread (protocol mark) m) → (xs : List (WallStep Drawing Removed)) → Hears own others xs
+    → Delivered (protocol mark) own xs
+heard mark own others f [] h = tt
+heard mark own others f (x ∷ xs) h = (⊎-elim inl (λ q. inr (f (x .bytes) q)) (h .0), heard mark own others f xs (h .1))
+
+pub hears-a-neighbour : (p q : DeskAndWall) → StartedAlike p → StartedAlike q → (q .mark ≡ p .mark → ⊥) → HearsBoth p q → AgreesWithOwn p
+hears-a-neighbour p q sp sq ne h =
+    let run = desk-calls-run (q .image) (sq .image-bytes) (q .mark) (q .start) (sq .image-is) (q .desk) (sq .desk-starts) (q .desk-calls) (sq .desk-called) in
+    let written-as = desk-messages (protocol (q .mark)) (initial (q .start)) (deskSteps q) run in
+    let foreign : (m : List ℕ) → List·Memᴰ m (messages (deskSteps q)) → Unread (protocol (p .mark)) m = λ m e.
+    log-unread (p .mark) (q .mark) (sq .mark-fits) ne (acceptedLog (protocol (q .mark)) (initial (q .start)) (calls (deskSteps q))) m (subst (List·Memᴰ m) written-as e) in
+    calls-demand-3 (p .image) (sp .image-bytes) (p .mark) (sp .mark-fits) (p .start) (sp .image-is) (p .desk) (p .wall) (sp .desk-starts) (sp .wall-starts)
+    (p .desk-calls) (p .wall-calls) (sp .desk-called) (sp .wall-called)
+    (heard (p .mark) (messages (deskSteps p)) (messages (deskSteps q)) foreign (wallSteps p) h)
+
+pub two-desks : (p q : DeskAndWall) → StartedAlike p → StartedAlike q → (p .mark ≡ q .mark → ⊥) → HearsBoth p q → HearsBoth q p → AgreesWithOwn p × AgreesWithOwn q
+two-desks p q sp sq ne hp hq = (hears-a-neighbour p q sp sq (λ e. ne (sym e)) hp, hears-a-neighbour q p sq sp ne hq)
