@@ -140,14 +140,18 @@ message-kept mark s e =
       high = leb-true _ _ (b1 .1);
     }
 
--- bytes whose mark is another are refused, whatever else they are
-pub foreign-refused : (mark : ℕ) (s : List ℕ) → (field s markAt markSize ≡ mark → ⊥) → (k : ℕ) × (parse mark s ≡ Refused k)
+-- bytes with a fault are refused by its number
+pub fault-refused : (mark : ℕ) (s : List ℕ) → (messageFault mark s ≡ 0 → ⊥) → parse mark s ≡ Refused (messageFault mark s)
 unfolding resultOf
-foreign-refused mark s ne = go (messageFault mark s) refl
+fault-refused mark s = go (messageFault mark s)
   where
-    go : (n : ℕ) → messageFault mark s ≡ n → (k : ℕ) × (resultOf n (messageOf s) ≡ Refused k)
-    go zero e = absurd (ne (message-kept mark s e .mark-is))
-    go (suc n) e = (suc n, refl)
+    go : (n : ℕ) → (n ≡ 0 → ⊥) → resultOf n (messageOf s) ≡ Refused n
+    go zero h = absurd (h refl)
+    go (suc n) h = refl
+
+-- bytes whose mark is another have a fault, whatever else they are
+pub foreign-fault : (mark : ℕ) (s : List ℕ) → (field s markAt markSize ≡ mark → ⊥) → messageFault mark s ≡ 0 → ⊥
+foreign-fault mark s ne e = ne (message-kept mark s e .mark-is)
 
 pub encode-back : (mark : ℕ) (s : List ℕ) → Bytes s → Sound mark s → encode mark (messageOf s) ≡ s
 unfolding encode

@@ -5,9 +5,9 @@ use mathlib.Core.Logic.{_⊎_, inl, inr, ⊎-elim}
 use Prim.Native.Nat.{ℕ}
 use Rattle.big_endian.specs.Fields.{field}
 use Rattle.sketch.specs.Drawing.{Drawing}
-use Rattle.message.specs.Message.{markSize, markAt, encode}
+use Rattle.message.specs.Message.{markSize, markAt, messageFault, encode}
 use Rattle.message.specs.Stored.{Mark}
-use Rattle.message.proofs.MessageRoundTrips.{foreign-refused, mark-written}
+use Rattle.message.proofs.MessageRoundTrips.{fault-refused, foreign-fault, mark-written}
 use Rattle.edit_plan.specs.declared.Removed.{Removed}
 use Rattle.agreement.specs.Machines.{initial, Entry, acceptedLog, calls, messages, WallStep, Unread, Delivered}
 use Rattle.agreement.proofs.Runs.{written, desk-messages}
@@ -15,11 +15,14 @@ use Rattle.replication.specs.Protocol.{Edit, messageFor, decodedOf, prot
 use Rattle.replication.specs.TwoDesks.{DeskAndWall, deskSteps, wallSteps, StartedAlike, Hears, HearsBoth, AgreesWithOwn}
 use Rattle.replication.proofs.Demand3.{desk-calls-run, calls-demand-3}
 
--- ---- what bears another mark is not read, whatever else it is
+-- ---- what is faulty at a mark is not read, and so what bears another, whatever else it is
+
+pub fault-unread : (mark : ℕ) (s : List ℕ) → (messageFault mark s ≡ 0 → ⊥) → Unread (protocol mark) s
+unfolding decodedOf
+fault-unread mark s h = (messageFault mark s, ap decodedOf (fault-refused mark s h))
 
 pub foreign-unread : (mark : ℕ) (s : List ℕ) → (field s markAt markSize ≡ mark → ⊥) → Unread (protocol mark) s
-unfolding decodedOf
-foreign-unread mark s ne = let (k, e) = foreign-refused mark s ne in (k, ap decodedOf e)
+foreign-unread mark s ne = fault-unread mark s (foreign-fault mark s ne)
 
 -- an entry's message at another mark
 entry-unread : (mark other : ℕ) → Mark other → (other ≡ mark → ⊥) → (x : Entry Drawing Edit Removed) → Unread (protocol mark) (written (protocol other) x)

@@ -55,6 +55,12 @@ drop-least n l = go (leb n (length l)) refl
     go true e = refl
     go false e = let h : length l ≤ n = omega (arith, leb-false n (length l) e) in let k : length l ≤ length l = omega arith in drop-of-length-le l k ∙ sym (drop-of-length-le l h)
 
+-- the rest of a slice from a place on, or nothing where it ends before
+pub rest-from : (s : List ℕ) (n : ℕ) {from : ℕ} → from ≡ least n (length s) → take (length s - from) (drop from s) ≡ drop n s
+rest-from s n {from} e =
+    let l : length (drop from s) ≡ length s - from = length-drop from s in
+    take-all (length s - from) (drop from s) (omega arith) ∙ ap (λ (k : ℕ). drop k s) e ∙ drop-least n s
+
 -- ---- pieces
 
 fuel : (n m : ℕ) (l : List ℕ) → length l ≤ n → length l ≤ m → chunksUpTo n l ≡ chunksUpTo m l
@@ -164,9 +170,7 @@ module _
     image-is = ap (λ (n : ℕ). take n s) e ∙ take-least (imageEnd s) s
 
     rest-is : take (length s - from) (drop from s) ≡ drop (markEnd s) s
-    rest-is =
-        let n : length (drop from s) ≡ length s - from = length-drop from s in
-        take-all (length s - from) (drop from s) (omega arith) ∙ ap (λ (n : ℕ). drop n s) g ∙ drop-least (markEnd s) s
+    rest-is = rest-from s (markEnd s) g
 
     -- the buffer has room for any image, so that a refusal is the image's
     pub outcome-refused : I.maxImageSize ≤ length b → (r .refusal ≡ 0 → ⊥) → (l now : List ℕ) (n : ℕ) → WritesOutcome (I.refused (r .refusal)) l now n → WritesOutcome (programOutcome s) l now n

@@ -21,7 +21,7 @@ use Rattle.replication.specs.declared.Started.{Started}
 use Rattle.replication_runs.specs.declared.RunResult.{RunResult}
 use Rattle.replication.specs.Protocol.{protocol}
 use Rattle.replication.specs.Transitions.{memory, stateIn, noReplica, firstNonzero, Starts, firstFault}
-use Rattle.replication_runs.specs.RunBoth.{callsIn, hasRoom, holdsAny, runBothFault, DeskRan, messagesInLog, WallRan, RunsBoth, callSize, maxRoom}
+use Rattle.replication_runs.specs.RunBoth.{callsIn, hasRoom, holdsAny, runBothFault, DeskRan, deliveriesInLog, WallRan, RunsBoth, callSize, maxRoom}
 use Rattle.replication.proofs.Steps.{Holding}
 use Rattle.replication.proofs.StartCases.{nonzero-first, nonzero-second, above-first, starts-with, held-at-start}
 use Rattle.replication.proofs.Demand3.{demand-3}
@@ -48,7 +48,7 @@ room-is size room e = go (leb maxRoom room) refl (leb (size / callSize) ((room -
 abbrev refusedRun : ℕ → RunResult
 refusedRun k = record { desk = noReplica; wall = noReplica; refusal = k }
 
-module _ (image : List ℕ) (mark : ℕ) (entries order before desk wall : List ℕ) where
+module _ (image : List ℕ) (mark : ℕ) (entries order others before desk wall : List ℕ) where
   abbrev hasAll : Bool
   hasAll = hasRoom (length entries) (length before) && (holdsAny (length desk) && holdsAny (length wall))
 
@@ -61,10 +61,10 @@ module _ (image : List ℕ) (mark : ℕ) (entries order before desk wall : List 
       and-assoc true y z = refl
       and-assoc false y z = refl
 
-  refusing : (k : ℕ) → k ≡ runBothFault image (length entries) (length before) (length desk) (length wall) → (k ≡ 0 → ⊥) → RunsBoth image mark entries order before before desk desk wall wall (refusedRun k)
+  refusing : (k : ℕ) → k ≡ runBothFault image (length entries) (length before) (length desk) (length wall) → (k ≡ 0 → ⊥) → RunsBoth image mark entries order others before before desk desk wall wall (refusedRun k)
   refusing k e z = record { number = e; kept = λ y. (refl, refl, refl, refl, refl); held = λ y. absurd (z y) }
 
-  pub run-short : hasAll ≡ false → {k : ℕ} → k ≡ firstFault image 25 → {r : RunResult} → r ≡ refusedRun k → RunsBoth image mark entries order before before desk desk wall wall r
+  pub run-short : hasAll ≡ false → {k : ℕ} → k ≡ firstFault image 25 → {r : RunResult} → r ≡ refusedRun k → RunsBoth image mark entries order others before before desk desk wall wall r
   unfolding guardNumber
   run-short h {k} e q =
       let f : k ≡ firstNonzero (I.imageFault image) 25 = e ∙ sym (nonzero-first (I.imageFault image) 25) in
@@ -89,8 +89,8 @@ module _ (image : List ℕ) (mark : ℕ) (entries order before desk wall : List 
     unfolding guardNumber
     number-is = sd .number ∙ ap (λ (b : Bool). firstNonzero (I.imageFault image) (guardNumber b 25 0)) (rooms .0 ∙ sym enough)
 
-    pub run-refused : (d .refusal ≡ 0 → ⊥) → {r : RunResult} → r ≡ refusedRun (d .refusal) → RunsBoth image mark entries order before before desk desk₀ wall wall r
-    run-refused z q = rw q (subst (λ (l : List ℕ). RunsBoth image mark entries order before before desk l wall wall (refusedRun (d .refusal))) (sym (sd .when-refused z .0)) (refusing (d .refusal) number-is z))
+    pub run-refused : (d .refusal ≡ 0 → ⊥) → {r : RunResult} → r ≡ refusedRun (d .refusal) → RunsBoth image mark entries order others before before desk desk₀ wall wall r
+    run-refused z q = rw q (subst (λ (l : List ℕ). RunsBoth image mark entries order others before before desk l wall wall (refusedRun (d .refusal))) (sym (sd .when-refused z .0)) (refusing (d .refusal) number-is z))
 
     module _ (z : d .refusal ≡ 0) (are : Bytes image) (w : Started) (wall₀ : List ℕ) (sw : Starts image mark wall wall₀ w) where
       abbrev start : Drawing
@@ -110,11 +110,12 @@ module _ (image : List ℕ) (mark : ℕ) (entries order before desk wall : List 
       at-wall = held-at-start image are mark start image-read (memory (w .replica) wall₀) (starts-with image mark wall wall₀ w sw wall-started)
 
       module _ (log desk′ wall′ : List ℕ) (x y : Replica) (k : Mark mark) (r : DeskRan (d .replica .mark) (stateIn (memory (d .replica) desk₀) .drawing) (callsIn entries) before log (memory x desk′)) where
-        pub both-ran : WallRan (memory (w .replica) wall₀) (messagesInLog (x .count) log order) (memory y wall′) → RunsBoth image mark entries order before log desk desk′ wall wall′ (record { desk = x; wall = y; refusal = 0 })
+        pub both-ran : WallRan (memory (w .replica) wall₀) (deliveriesInLog (w .replica .mark) (x .count) log others order) (memory y wall′) → RunsBoth image mark entries order others before log desk desk′ wall wall′ (record { desk = x; wall = y; refusal = 0 })
         both-ran a =
             let same : stateIn (memory (d .replica) desk₀) .drawing ≡ start = ap (λ (t : State Drawing). t .drawing) (at-desk .state) in
             let r2 : DeskRan mark start (callsIn entries) before log (memory x desk′) = subst₂ (λ (k : ℕ) (d : Drawing). DeskRan k d (callsIn entries) before log (memory x desk′)) (at-desk .mark-is) same r in
-            let fed = a .fed ∙ log-holds mark start (callsIn entries) before log (memory x desk′) r2 order in
+            let same-mark = ap (λ (k : ℕ). deliveriesInLog k (x .count) log others order) (at-wall .mark-is) in
+            let fed = a .fed ∙ same-mark ∙ log-holds mark start (callsIn entries) before log (memory x desk′) r2 others order in
             let run : WallRun (protocol mark) (initial start) (a .steps) = subst₂ (λ (k : ℕ) (u : State Drawing). WallRun (protocol k) u (a .steps)) (at-wall .mark-is) (at-wall .state) (a .run) in
             record {
               number = sym z ∙ number-is;
@@ -133,6 +134,6 @@ module _ (image : List ℕ) (mark : ℕ) (entries order before desk wall : List 
                 desk-mark = r2 .mark-is;
                 wall-mark = a .mark-is ∙ at-wall .mark-is;
                 log-is = log-after mark start (callsIn entries) before log (memory x desk′) r2;
-                correct = demand-3 image are mark k start image-read (r2 .steps) (a .steps) (r2 .run) run (deliver mark (messages (r2 .steps)) order (a .steps) fed);
+                correct = demand-3 image are mark k start image-read (r2 .steps) (a .steps) (r2 .run) run (deliver mark (messages (r2 .steps)) others order (a .steps) fed);
               };
             }

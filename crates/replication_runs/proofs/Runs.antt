@@ -1,23 +1,25 @@
 -- Runs of desk and wall over whole lists, and the log between them.
 use mathlib.Core.Path.{_≡_, refl, sym, ap, ap₂, _∙_, subst, subst₂}
 use mathlib.Core.Bool.{Bool, true, false}
-use mathlib.Core.List.{List, [], _∷_, _++_, map, append-nil, append-assoc, List·Memᴰ, List·Memᴰ·head, List·Memᴰ·tail}
-use mathlib.Core.Logic.{inl}
+use mathlib.Core.List.{List, [], _∷_, _++_, map, map-append, append-nil, append-assoc, List·Memᴰ, List·Memᴰ·head, List·Memᴰ·tail}
+use mathlib.Core.Logic.{_⊎_, inl, inr}
 use Prim.Native.Nat.{ℕ, zero, suc, _+_, _*_, _-_, _/_, _≤_, _<_}
 use native.Mathlib.Omega.{arith}
 use native.Mathlib.Nat.{zero-add}
 use lib.ListN.{length, take, drop, getD, length-append, length-take, take-append-drop}
 use lib.Seq.{take-all, take-at, drop-append-add, drop-append-le, drop-append-seam, drop-drop, take-append-le}
-use lib.Dec.{leb, ltb}
-use borrow.Author.Tests.{leb-true, lt-ltb, le-ltb, ltb-true}
+use lib.Dec.{leb, ltb, eqb}
+use borrow.Author.Tests.{leb-true, lt-ltb, le-ltb, ltb-true, eq-eqb, ne-eqb, eqb-false}
 use borrow.Rule.Slice.PartMut.{midOf, putMid, put-same, same-len-mid, mid-len}
-use Rattle.big_endian.specs.Fields.{field, over}
+use Rattle.big_endian.specs.Fields.{field, part, over}
 use Rattle.big_endian.specs.Laws.{length-over}
 use Rattle.sketch.specs.Lists.{ite, concatMap}
 use Rattle.sketch.specs.Drawing.{Drawing}
 use Rattle.sketch.proofs.Lists.{concat-map-append}
-use Rattle.message.specs.Message.{encode, messageSize}
-use Rattle.message.proofs.MessageRoundTrips.{length-message}
+use Rattle.message.specs.declared.Message.{Message}
+use Rattle.message.specs.declared.MessageRead.the-variants.{Accepted, Refused}
+use Rattle.message.specs.Message.{messageFault, messageOf, parse, encode, messageSize}
+use Rattle.message.proofs.MessageRoundTrips.{length-message, result-accepted, result-refused}
 use Rattle.cuts.specs.Columns.{rows}
 use Rattle.cuts.proofs.Rows.{rows-length}
 use Rattle.edit_plan.specs.declared.Removed.{Removed}
@@ -25,15 +27,17 @@ use Rattle.edit_plan.specs.Outcome.{Outcome, accepted}
 use Rattle.edit_plan.specs.Outcome as O
 use Rattle.edit_plan.proofs.Tables.{Holds}
 use Rattle.agreement.specs.Machines as M
-use Rattle.agreement.specs.Machines.{State, initial, Call, callOutcome, stateAfter, DeskStep, DeskStepValid, DeskRun, deskAfter, prependMessage, messages, WallStep, WallStepValid, WallRun, wallAfter, Delivered}
+use Rattle.agreement.specs.Machines.{State, initial, Call, callOutcome, stateAfter, DeskStep, DeskStepValid, DeskRun, deskAfter, prependMessage, messages, WallStep, WallStepValid, WallRun, wallAfter, Unread, Delivered}
 use Rattle.agreement.proofs.Reference.{Step, called}
 use Rattle.replication.specs.declared.DeskReply.{DeskReply}
 use Rattle.replication.specs.declared.DeskReply.the-variants as Desk
 use Rattle.replication.specs.Protocol.{Edit, place, messageFor, protocol}
 use Rattle.replication.specs.Outcomes.{CallOutcome, refused, updated, messageAfter}
 use Rattle.replication.specs.Transitions.{Memory, stateIn, Ready, memoryAfter, DeskCall, deskReply, deskStep, deskReplyTo, deskCallOutcome, DeskEdits, WallCall, wallStep, WallDelivers}
-use Rattle.replication_runs.specs.RunBoth.{editAt, callAt, callsIn, concat, MessageSized, DeskRan, messagesInLog, WallRan, messagesAt, roomAt, callSize, maxRoom}
+use Rattle.replication_runs.specs.RunBoth.{editAt, callAt, callsIn, otherAt, ifUnread, deliveriesAt, concat, MessageSized, DeskRan, deliveryInLog, deliveriesInLog, WallRan, roomAt, callSize, maxRoom}
 use Rattle.modify.proofs.Planned.{guard-accepted}
+use Rattle.replication_runs.proofs.Program.{least, rest-from}
+use Rattle.replication.proofs.TwoDesks.{fault-unread}
 use Rattle.replication.proofs.Steps.{DeskCase, desk-refused, desk-updated, desk-case, desk-step, wall-step}
 
 -- ---- lists that grow at their end
@@ -59,51 +63,78 @@ take-past (x ∷ xs) ys (suc n) k h =
 
 -- ---- a run of the wall
 
-wall-more : (mark : ℕ) (s : State Drawing) (xs : List (WallStep Drawing Removed)) (x : WallStep Drawing Removed) → WallRun (protocol mark) s xs → WallStepValid (protocol mark) (wallAfter s xs) x → WallRun (protocol mark) s (xs ++ (x ∷ []))
-wall-more mark s [] x h y = (y, tt)
-wall-more mark s (u ∷ xs) x h y = (h .0, wall-more mark (u .state) xs x (h .1) y)
+wall-join : (mark : ℕ) (s : State Drawing) (xs ys : List (WallStep Drawing Removed)) → WallRun (protocol mark) s xs → WallRun (protocol mark) (wallAfter s xs) ys → WallRun (protocol mark) s (xs ++ ys)
+wall-join mark s [] ys h k = k
+wall-join mark s (x ∷ xs) ys h k = (h .0, wall-join mark (x .state) xs ys (h .1) k)
 
-wall-after-more : (s : State Drawing) (xs : List (WallStep Drawing Removed)) (x : WallStep Drawing Removed) → wallAfter s (xs ++ (x ∷ [])) ≡ x .state
-wall-after-more s [] x = refl
-wall-after-more s (u ∷ xs) x = wall-after-more (u .state) xs x
+wall-after-join : (s : State Drawing) (xs ys : List (WallStep Drawing Removed)) → wallAfter s (xs ++ ys) ≡ wallAfter (wallAfter s xs) ys
+wall-after-join s [] ys = refl
+wall-after-join s (x ∷ xs) ys = wall-after-join (x .state) xs ys
 
 pub ran-none : (s : Memory) → Ready s → WallRan s [] s
 ran-none s v = record { steps = []; run = tt; fed = refl; ends = refl; mark-is = refl; ready = v }
 
--- one place more of the log's n
-module _ (s t : Memory) (n : ℕ) (log order : List ℕ) (j : ℕ) (h : j < length order) (r : WallRan s (messagesInLog n log (take j order)) t) where
-  abbrev o : ℕ
-  o = getD order j 0
+pub ran-one : (s : Memory) → Ready s → (m : List ℕ) (c : WallCall) → c .bytes ≡ m → WallDelivers s c → WallRan s (m ∷ []) (c .left)
+ran-one s v m c e w =
+    let (valid, left) = wall-step s v c w in
+    record { steps = wallStep c ∷ []; run = (valid, tt); fed = ap (λ (m : List ℕ). m ∷ []) e; ends = refl; mark-is = left .1; ready = left .0 }
 
-  abbrev delivery : List ℕ
-  delivery = take messageSize (drop (messageSize * o) log)
+-- one run after another
+pub ran-on : (s t u : Memory) (ds es : List (List ℕ)) → WallRan s ds t → WallRan t es u → WallRan s (ds ++ es) u
+ran-on s t u ds es a b =
+    record {
+      steps = a .steps ++ b .steps;
+      run = wall-join (s .mark) (stateIn s) (a .steps) (b .steps) (a .run) (subst₂ (λ (k : ℕ) (w : State Drawing). WallRun (protocol k) w (b .steps)) (a .mark-is) (sym (a .ends)) (b .run));
+      fed = map-append (λ (x : WallStep Drawing Removed). x .bytes) (a .steps) (b .steps) ∙ ap₂ (λ (l r : List (List ℕ)). l ++ r) (a .fed) (b .fed);
+      ends = wall-after-join (stateIn s) (a .steps) (b .steps) ∙ ap (λ (w : State Drawing). wallAfter w (b .steps)) (a .ends) ∙ b .ends;
+      mark-is = b .mark-is ∙ a .mark-is;
+      ready = b .ready;
+    }
 
-  grows : messagesInLog n log (take (suc j) order) ≡ messagesInLog n log (take j order) ++ ite (ltb o n) (delivery ∷ []) []
-  grows = ap (messagesInLog n log) (take-more order j h) ∙ concat-map-more (λ (o : ℕ). ite (ltb o n) (take messageSize (drop (messageSize * o) log) ∷ []) []) (take j order) o
+-- other bytes, by the places that were found
+pub other-is :
+    (others : List ℕ) (at from body k : ℕ) → from ≡ least at (length others) → let rest = take (length others - from) (drop from others) in
+    body ≡ least 2 (length rest) → k ≡ field rest 0 2 → (r : List ℕ) → r ≡ take k (take (length rest - body) (drop body rest)) → r ≡ otherAt others at
+other-is others at from body k e f g r h =
+    let rest = take (length others - from) (drop from others) in
+    h ∙ ap₂ (λ (k : ℕ) (l : List ℕ). take k l) g (rest-from rest 2 f) ∙ ap (λ (l : List ℕ). part l 2 (field l 0 2)) (rest-from others at e)
 
-  pub ran-past : n ≤ o → WallRan s (messagesInLog n log (take (suc j) order)) t
-  ran-past k = subst (λ (l : List (List ℕ)). WallRan s l t) (sym (grows ∙ rw (le-ltb o n k) (append-nil (messagesInLog n log (take j order))))) r
+-- they are passed over where they are read, else delivered
+pub ran-read : (s : Memory) → Ready s → (m : List ℕ) (x : Message) → parse (s .mark) m ≡ Accepted x → WallRan s (ifUnread (s .mark) m) s
+ran-read s v m x e =
+    let z = result-accepted (messageFault (s .mark) m) (messageOf m) x e .0 in
+    subst (λ (l : List (List ℕ)). WallRan s l s) (sym (rw (eq-eqb (messageFault (s .mark) m) 0 z))) (ran-none s v)
 
-  pub ran-more : o < n → (from : ℕ) (c : WallCall) → from ≡ o * messageSize → c .bytes ≡ take (from + messageSize - from) (drop from log) → WallDelivers t c → WallRan s (messagesInLog n log (take (suc j) order)) (c .left)
-  ran-more k from c f b w =
+pub ran-unread : (s : Memory) → Ready s → (m : List ℕ) (k : ℕ) → parse (s .mark) m ≡ Refused k → (c : WallCall) → c .bytes ≡ m → WallDelivers s c → WallRan s (ifUnread (s .mark) m) (c .left)
+ran-unread s v m k e c b w =
+    let (is, above) = result-refused (messageFault (s .mark) m) (messageOf m) k e in
+    subst (λ (l : List (List ℕ)). WallRan s l (c .left)) (sym (rw (ne-eqb (messageFault (s .mark) m) 0 (λ z. above (is ∙ z))))) (ran-one s v m c b w)
+
+-- what a number names
+module _ (s : Memory) (n : ℕ) (log others : List ℕ) (o : ℕ) where
+  pub ran-other : n ≤ o → {other : List ℕ} → other ≡ otherAt others (o - n) → (t : Memory) → WallRan s (ifUnread (s .mark) other) t → WallRan s (deliveryInLog (s .mark) n log others o) t
+  ran-other h {other} e t r = subst (λ (l : List (List ℕ)). WallRan s l t) (ap (ifUnread (s .mark)) e ∙ sym (rw (le-ltb o n h))) r
+
+  pub ran-own : Ready s → o < n → (from : ℕ) (c : WallCall) → from ≡ o * messageSize → c .bytes ≡ take (from + messageSize - from) (drop from log) → WallDelivers s c → WallRan s (deliveryInLog (s .mark) n log others o) (c .left)
+  ran-own v h from c f b w =
       let e : from + messageSize - from ≡ messageSize = omega arith in
       let g : from ≡ messageSize * o = omega arith in
-      let m : c .bytes ≡ delivery = b ∙ ap₂ (λ (k l : ℕ). take k (drop l log)) e g in
-      let (valid, left) = wall-step t (r .ready) c w in
-      record {
-        steps = r .steps ++ (wallStep c ∷ []);
-        run = wall-more (s .mark) (stateIn s) (r .steps) (wallStep c) (r .run) (subst₂ (λ (k : ℕ) (u : State Drawing). WallStepValid (protocol k) u (wallStep c)) (r .mark-is) (sym (r .ends)) valid);
-        fed =
-            map-more (λ (x : WallStep Drawing Removed). x .bytes) (r .steps) (wallStep c)
-            ∙ ap₂ (λ (l : List (List ℕ)) (m : List ℕ). l ++ (m ∷ [])) (r .fed) m
-            ∙ sym (grows ∙ rw (lt-ltb o n k));
-        ends = wall-after-more (stateIn s) (r .steps) (wallStep c);
-        mark-is = left .1 ∙ r .mark-is;
-        ready = left .0;
-      }
+      let m : c .bytes ≡ part log (messageSize * o) messageSize = b ∙ ap₂ (λ (k l : ℕ). take k (drop l log)) e g in
+      subst (λ (l : List (List ℕ)). WallRan s l (c .left)) (sym (rw (lt-ltb o n h))) (ran-one s v (part log (messageSize * o) messageSize) c m w)
 
-pub ran-all : (s t : Memory) (n : ℕ) (log order : List ℕ) (j : ℕ) → length order ≤ j → WallRan s (messagesInLog n log (take j order)) t → WallRan s (messagesInLog n log order) t
-ran-all s t n log order j h r = subst (λ (l : List ℕ). WallRan s (messagesInLog n log l) t) (take-all j order h) r
+-- one number more
+pub ran-next :
+    (s t u : Memory) (n : ℕ) (log others order : List ℕ) (j : ℕ) → j < length order → WallRan s (deliveriesInLog (s .mark) n log others (take j order)) t
+    → WallRan t (deliveryInLog (t .mark) n log others (getD order j 0)) u → WallRan s (deliveriesInLog (s .mark) n log others (take (suc j) order)) u
+ran-next s t u n log others order j h a b =
+    let f = deliveryInLog (s .mark) n log others in
+    let o = getD order j 0 in
+    let grows : concatMap f (take (suc j) order) ≡ concatMap f (take j order) ++ f o = ap (concatMap f) (take-more order j h) ∙ concat-map-more f (take j order) o in
+    let same : WallRan t (f o) u = subst (λ (k : ℕ). WallRan t (deliveryInLog k n log others o) u) (a .mark-is) b in
+    subst (λ (l : List (List ℕ)). WallRan s l u) (sym grows) (ran-on s t u (concatMap f (take j order)) (f o) a same)
+
+pub ran-all : (s t : Memory) (n : ℕ) (log others order : List ℕ) (j : ℕ) → length order ≤ j → WallRan s (deliveriesInLog (s .mark) n log others (take j order)) t → WallRan s (deliveriesInLog (s .mark) n log others order) t
+ran-all s t n log others order j h r = subst (λ (l : List ℕ). WallRan s (deliveriesInLog (s .mark) n log others l) t) (take-all j order h) r
 
 -- ---- a run of the desk
 
@@ -339,45 +370,52 @@ member [] o h = absurd (omega arith)
 member (m ∷ ms) zero h = List·Memᴰ·head refl
 member (m ∷ ms) (suc o) h = List·Memᴰ·tail (member ms o (omega arith))
 
--- each of the messages at some places is one of them
-abbrev AllIn : List (List ℕ) → List (List ℕ) → Type 0
-AllIn ms [] = Unit {0}
-AllIn ms (m ∷ l) = List·Memᴰ m ms × AllIn ms l
+-- each of some deliveries is one of the messages or is not read
+abbrev AllBetween : ℕ → List (List ℕ) → List (List ℕ) → Type 0
+AllBetween mark ms [] = Unit {0}
+AllBetween mark ms (m ∷ l) = (List·Memᴰ m ms ⊎ Unread (protocol mark) m) × AllBetween mark ms l
 
-one-in : (ms l : List (List ℕ)) (o : ℕ) (b : Bool) → ltb o (length ms) ≡ b → AllIn ms l → AllIn ms (ite b (getD ms o [] ∷ []) [] ++ l)
-one-in ms l o true e a = (member ms o (ltb-true o (length ms) e), a)
-one-in ms l o false e a = a
+module _ (mark : ℕ) (ms : List (List ℕ)) (others : List ℕ) where
+  other-between : (l : List (List ℕ)) (m : List ℕ) (b : Bool) → eqb (messageFault mark m) 0 ≡ b → AllBetween mark ms l → AllBetween mark ms (ite b [] (m ∷ []) ++ l)
+  other-between l m true e a = a
+  other-between l m false e a = (inr (fault-unread mark m (eqb-false (messageFault mark m) 0 e)), a)
 
-all-in : (ms : List (List ℕ)) (order : List ℕ) → AllIn ms (messagesAt ms order)
-all-in ms [] = tt
-all-in ms (o ∷ order) = one-in ms (messagesAt ms order) o (ltb o (length ms)) refl (all-in ms order)
+  one-between : (l : List (List ℕ)) (o : ℕ) (b : Bool) → ltb o (length ms) ≡ b → AllBetween mark ms l → AllBetween mark ms (ite b (getD ms o [] ∷ []) (ifUnread mark (otherAt others (o - length ms))) ++ l)
+  one-between l o true e a = (inl (member ms o (ltb-true o (length ms) e)), a)
+  one-between l o false e a = other-between l (otherAt others (o - length ms)) (eqb (messageFault mark (otherAt others (o - length ms))) 0) refl a
 
-delivered : (mark : ℕ) (ms : List (List ℕ)) (xs : List (WallStep Drawing Removed)) (l : List (List ℕ)) → map (λ (x : WallStep Drawing Removed). x .bytes) xs ≡ l → AllIn ms l → Delivered (protocol mark) ms xs
-delivered mark ms [] l e a = tt
-delivered mark ms (x ∷ xs) [] e a = let z : _≡_ {A = ℕ} 0 1 = cc in absurd (omega arith)
-delivered mark ms (x ∷ xs) (m ∷ l) e a =
-    let p : x .bytes ≡ m = cc in
-    let q : map (λ (x : WallStep Drawing Removed). x .bytes) xs ≡ l = cc in
-    (inl (subst (λ (m : List ℕ). List·Memᴰ m ms) (sym p) (a .0)), delivered mark ms xs l q (a .1))
+  all-between : (order : List ℕ) → AllBetween mark ms (deliveriesAt mark ms others order)
+  all-between [] = tt
+  all-between (o ∷ order) = one-between (deliveriesAt mark ms others order) o (ltb o (length ms)) refl (all-between order)
 
-pub deliver : (mark : ℕ) (ms : List (List ℕ)) (order : List ℕ) (xs : List (WallStep Drawing Removed)) → map (λ (x : WallStep Drawing Removed). x .bytes) xs ≡ messagesAt ms order → Delivered (protocol mark) ms xs
-deliver mark ms order xs e = delivered mark ms xs (messagesAt ms order) e (all-in ms order)
+  delivered : (xs : List (WallStep Drawing Removed)) (l : List (List ℕ)) → map (λ (x : WallStep Drawing Removed). x .bytes) xs ≡ l → AllBetween mark ms l → Delivered (protocol mark) ms xs
+  delivered [] l e a = tt
+  delivered (x ∷ xs) [] e a = let z : _≡_ {A = ℕ} 0 1 = cc in absurd (omega arith)
+  delivered (x ∷ xs) (m ∷ l) e a =
+      let p : x .bytes ≡ m = cc in
+      let q : map (λ (x : WallStep Drawing Removed). x .bytes) xs ≡ l = cc in
+      (subst (λ (m : List ℕ). List·Memᴰ m ms ⊎ Unread (protocol mark) m) (sym p) (a .0), delivered xs l q (a .1))
 
-places : (ms : List (List ℕ)) (n : ℕ) (log order : List ℕ) → length ms ≡ n → ((o : ℕ) → o < length ms → take messageSize (drop (messageSize * o) log) ≡ getD ms o []) → messagesInLog n log order ≡ messagesAt ms order
-places ms n log [] e h = refl
-places ms n log (o ∷ order) e h = ap₂ (λ (a b : List (List ℕ)). a ++ b) (go (ltb o (length ms)) refl) (places ms n log order e h)
-  where
-    go : (b : Bool) → ltb o (length ms) ≡ b → ite (ltb o n) (take messageSize (drop (messageSize * o) log) ∷ []) [] ≡ ite b (getD ms o [] ∷ []) []
-    go true q = rw (← e, q) (ap (λ (m : List ℕ). m ∷ []) (h o (ltb-true o (length ms) q)))
-    go false q = rw (← e, q)
+  pub deliver : (order : List ℕ) (xs : List (WallStep Drawing Removed)) → map (λ (x : WallStep Drawing Removed). x .bytes) xs ≡ deliveriesAt mark ms others order → Delivered (protocol mark) ms xs
+  deliver order xs e = delivered xs (deliveriesAt mark ms others order) e (all-between order)
+
+  places :
+      (n : ℕ) (log order : List ℕ) → length ms ≡ n → ((o : ℕ) → o < length ms → part log (messageSize * o) messageSize ≡ getD ms o [])
+      → deliveriesInLog mark n log others order ≡ deliveriesAt mark ms others order
+  places n log [] e h = refl
+  places n log (o ∷ order) e h = ap₂ (λ (a b : List (List ℕ)). a ++ b) (go (ltb o (length ms)) refl) (places n log order e h)
+    where
+      go : (b : Bool) → ltb o (length ms) ≡ b → deliveryInLog mark n log others o ≡ ite b (getD ms o [] ∷ []) (ifUnread mark (otherAt others (o - length ms)))
+      go true q = rw (← e, q) (ap (λ (m : List ℕ). m ∷ []) (h o (ltb-true o (length ms) q)))
+      go false q = rw (← e, q)
 
 module _ (mark : ℕ) (d : Drawing) (cs : List (Call Edit)) (before log : List ℕ) (w : Memory) (r : DeskRan mark d cs before log w) where
   abbrev ms : List (List ℕ)
   ms = messages (r .steps)
 
-  pub log-holds : (order : List ℕ) → messagesInLog (w .count) log order ≡ messagesAt ms order
-  log-holds order =
-      places ms (w .count) log order (r .many)
+  pub log-holds : (others order : List ℕ) → deliveriesInLog mark (w .count) log others order ≡ deliveriesAt mark ms others order
+  log-holds others order =
+      places mark ms others (w .count) log order (r .many)
       (λ o h.
       ap (λ (l : List ℕ). take messageSize (drop (messageSize * o) l)) (sym (take-append-drop (messageSize * w .count) log) ∙ ap (λ (l : List ℕ). l ++ drop (messageSize * w .count) log) (sym (r .logged)))
       ∙ nth ms (drop (messageSize * w .count) log) o (r .sizes) h)

@@ -1,15 +1,15 @@
--- Both whole lists in one run, from one image with one mark: edits to the desk, then the desk's messages to the wall, in any order. Definitions only.
+-- Both whole lists in one run, from one image with one mark: edits to the desk, then to the wall the desk's messages and other bytes, in any order. Definitions only.
 use Prim.Native.Nat.{ℕ, _+_, _*_, _-_, _/_, _≤_}
 use mathlib.Core.Path.{_≡_}
 use mathlib.Core.Bool.{Bool, _&&_}
 use mathlib.Core.List.{List, [], _∷_, _++_, map}
 use lib.ListN.{length, take, drop, getD}
-use lib.Dec.{leb, ltb}
+use lib.Dec.{leb, ltb, eqb}
 use lib.Ieee.{ofBits, binary64}
-use Rattle.big_endian.specs.Fields.{field, over}
+use Rattle.big_endian.specs.Fields.{field, part, over}
 use Rattle.sketch.specs.Lists.{ite, concatMap, guardNumber}
 use Rattle.sketch.specs.Drawing.{Drawing, idSize}
-use Rattle.message.specs.Message.{operationOf, messageSize}
+use Rattle.message.specs.Message.{operationOf, messageSize, messageFault}
 use Rattle.image.specs.Image as I
 use Rattle.cuts.specs.Columns.{rows}
 use Rattle.edit_plan.specs.declared.Removed.{Removed}
@@ -46,10 +46,21 @@ callAt s i = record { edit = editAt s (i * callSize); room = field s (i * callSi
 abbrev pub callsIn : List ℕ → List (Call Edit)
 callsIn s = rows (length s / callSize) (callAt s)
 
--- ---- the wall's list: which of the desk's messages, by place; a place without one is passed over
+-- ---- the wall's list, in numbers: below the count of the desk's messages one of these, by its place; from there on other bytes, by where they begin
 
-abbrev pub messagesAt : List (List ℕ) → List ℕ → List (List ℕ)
-messagesAt ms order = concatMap (λ o. ite (ltb o (length ms)) (getD ms o [] ∷ []) []) order
+-- in a list of other bytes: their number in two bytes, and then they, as many as there are
+abbrev pub otherAt : List ℕ → ℕ → List ℕ
+otherAt others at = part (drop at others) 2 (field (drop at others) 0 2)
+
+-- what a wall with a mark would read is passed over
+abbrev pub ifUnread : ℕ → List ℕ → List (List ℕ)
+ifUnread mark m = ite (eqb (messageFault mark m) 0) [] (m ∷ [])
+
+abbrev pub deliveryAt : ℕ → List (List ℕ) → List ℕ → ℕ → List (List ℕ)
+deliveryAt mark ms others o = ite (ltb o (length ms)) (getD ms o [] ∷ []) (ifUnread mark (otherAt others (o - length ms)))
+
+abbrev pub deliveriesAt : ℕ → List (List ℕ) → List ℕ → List ℕ → List (List ℕ)
+deliveriesAt mark ms others order = concatMap (deliveryAt mark ms others) order
 
 -- ---- refusals, in order: the image's; a log that may not hold all messages and the room lent beside them, or a buffer that may not hold any image (25)
 
@@ -68,7 +79,7 @@ abbrev pub concat : List (List ℕ) → List ℕ
 concat [] = []
 concat (m ∷ ms) = m ++ concat ms
 
-pub record RunHolds (image : List ℕ) (mark : ℕ) (entries order before log desk wall : List ℕ) (r : RunResult) : Type 0 where
+pub record RunHolds (image : List ℕ) (mark : ℕ) (entries order others before log desk wall : List ℕ) (r : RunResult) : Type 0 where
   pub start : Drawing
   pub image-is : I.parse image ≡ I.accepted start
   pub desk-steps : List (DeskStep Drawing Edit Removed)
@@ -76,7 +87,7 @@ pub record RunHolds (image : List ℕ) (mark : ℕ) (entries order before log de
   pub desk-run : DeskRun (protocol mark) (initial start) desk-steps
   pub wall-run : WallRun (protocol mark) (initial start) wall-steps
   pub desk-fed : calls desk-steps ≡ callsIn entries
-  pub wall-fed : map (λ (x : WallStep Drawing Removed). x .bytes) wall-steps ≡ messagesAt (messages desk-steps) order
+  pub wall-fed : map (λ (x : WallStep Drawing Removed). x .bytes) wall-steps ≡ deliveriesAt mark (messages desk-steps) others order
   pub desk-ends : deskAfter (initial start) desk-steps ≡ stateIn (memory (r .desk) desk)
   pub wall-ends : wallAfter (initial start) wall-steps ≡ stateIn (memory (r .wall) wall)
   pub desk-mark : r .desk .mark ≡ mark
@@ -86,11 +97,11 @@ pub record RunHolds (image : List ℕ) (mark : ℕ) (entries order before log de
   pub correct : ReplicationCorrect mark start desk-steps wall-steps
 
 -- the log, and the two buffers, before and after
-pub record RunsBoth (image : List ℕ) (mark : ℕ) (entries order before log desk desk′ wall wall′ : List ℕ) (r : RunResult) : Type 0 where
+pub record RunsBoth (image : List ℕ) (mark : ℕ) (entries order others before log desk desk′ wall wall′ : List ℕ) (r : RunResult) : Type 0 where
   pub number : r .refusal ≡ runBothFault image (length entries) (length before) (length desk) (length wall)
   -- a refusal leaves all
   pub kept : (r .refusal ≡ 0 → ⊥) → (log ≡ before) × (desk′ ≡ desk) × (wall′ ≡ wall) × (r .desk ≡ noReplica) × (r .wall ≡ noReplica)
-  pub held : r .refusal ≡ 0 → RunHolds image mark entries order before log desk′ wall′ r
+  pub held : r .refusal ≡ 0 → RunHolds image mark entries order others before log desk′ wall′ r
 
 -- ---- the two halves
 
@@ -113,10 +124,14 @@ pub record DeskRan (mark : ℕ) (start : Drawing) (cs : List (Call Edit)) (befor
   pub sizes : MessageSized (messages steps)
   pub ready : Ready t
 
--- a run of the wall over the messages at some places of a log of n
-abbrev pub messagesInLog : ℕ → List ℕ → List ℕ → List (List ℕ)
-messagesInLog n log order = concatMap (λ o. ite (ltb o n) (take messageSize (drop (messageSize * o) log) ∷ []) []) order
+-- the wall's deliveries, by a log of n messages
+abbrev pub deliveryInLog : ℕ → ℕ → List ℕ → List ℕ → ℕ → List (List ℕ)
+deliveryInLog mark n log others o = ite (ltb o n) (part log (messageSize * o) messageSize ∷ []) (ifUnread mark (otherAt others (o - n)))
 
+abbrev pub deliveriesInLog : ℕ → ℕ → List ℕ → List ℕ → List ℕ → List (List ℕ)
+deliveriesInLog mark n log others order = concatMap (deliveryInLog mark n log others) order
+
+-- a run of the wall over some deliveries
 pub record WallRan (s : Memory) (ds : List (List ℕ)) (t : Memory) : Type 0 where
   pub steps : List (WallStep Drawing Removed)
   pub run : WallRun (protocol (s .mark)) (stateIn s) steps

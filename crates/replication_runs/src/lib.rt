@@ -1,6 +1,7 @@
 // Whole runs: desk and wall over both whole lists, and the wall's program on slices.
 mod numbers;
 mod run_lists;
+mod wall_list;
 mod wall_program;
 
 use replication::Replica;

@@ -1,5 +1,6 @@
 // Desk and wall together, each over its whole list: the edits to the desk, then the desk's messages to the wall.
 use crate::RunResult;
+use crate::wall_list::run_wall;
 use big_endian::get1;
 use big_endian::get4;
 use big_endian::get8;
@@ -13,14 +14,13 @@ use replication::desk_edit;
 use replication::first_fault;
 use replication::is_number;
 use replication::start;
-use replication::wall_deliver;
 use sketch::ID_SIZE;
 ghost use mathlib.Core.Path.{_≡_};
 ghost use Prim.Native.Nat.{_+_, _*_, _/_, _≤_};
 ghost use lib.ListN.{length};
 ghost use lib.Ieee.{ofBits, binary64};
 ghost use Rattle.replication.specs.Transitions.{memory, noReplica, stateIn, Ready, DeskEdits};
-ghost use Rattle.replication_runs.specs.RunBoth.{editAt, callsIn, hasRoom, DeskRan, messagesInLog, WallRan, RunsBoth, callSize, maxRoom};
+ghost use Rattle.replication_runs.specs.RunBoth.{editAt, callsIn, hasRoom, DeskRan, RunsBoth, callSize, maxRoom};
 ghost use Rattle.message.specs.Message.{messageSize};
 
 // Where the parts of a call stand in the desk's list: operation, curve, the pick's x and y, the room, which is one byte.
@@ -93,27 +93,6 @@ fn run_desk<'a>(
     last
 }
 
-// Delivers each of the log's n messages that `order` names to the replica that the one before left. A place without a message is
-// passed over.
-fn run_wall(replica: Replica, buffer: &mut [u8], log: &[u8], order: &[usize], n: usize) -> Replica
-    requires { ⌜ Ready (memory replica (now buffer)) × (messageSize * n ≤ length (now log)) ⌝ }
-    ensures { λ r. ⌜ WallRan (memory replica (now (buffer .entry))) (messagesInLog n (now (log .entry)) (now (order .entry))) (memory r (now (buffer .exit))) ⌝ }
-{
-    let mut last = replica;
-    let mut j = 0usize;
-    while j < order.len() {
-        let o = order[j];
-        j += 1;
-        if o < n {
-            let from = o * MESSAGE_SIZE;
-            let to = from + MESSAGE_SIZE;
-            let answer = wall_deliver(last, buffer, &log[from..to]);
-            last = answer.replica;
-        }
-    }
-    last
-}
-
 // Whether a log has room for the messages of all calls, and for the largest room that one lends.
 fn has_room(size: usize, room: usize) -> bool
     ensures { λ r. ⌜ r ≡ hasRoom size room ⌝ }
@@ -144,19 +123,21 @@ fn not_run(refusal: u8) -> RunResult
     }
 }
 
-// Both lists whole, from one image with one mark: the calls in `entries` to the desk, then to the wall the messages at the places in `order`. The log takes the
-// messages, and the two buffers the images. Refused are an image, as ever, and a log or a buffer that is too short (25): then neither list is
+// Both lists whole, from one image with one mark: the calls in `entries` to the desk, then to the wall what `order` names, the desk's messages by
+// their places and behind these what begins at a place of `others`, where the wall does not read it. The log takes the messages, and the two
+// buffers the images. Refused are an image, as ever, and a log or a buffer that is too short (25): then neither list is
 // run, and log and buffers are left.
 pub fn run_both<'a>(
     image: &[u8],
     mark: Mark,
     entries: &[u8],
     order: &[usize],
+    others: &[u8],
     log: &'a mut [u8],
     desk: &'a mut [u8],
     wall: &'a mut [u8],
 ) -> RunResult
-    ensures { λ r. ⌜ RunsBoth (now (image .entry)) mark (now (entries .entry)) (now (order .entry)) (now (log .entry)) (now (log .exit)) (now (desk .entry)) (now (desk .exit)) (now (wall .entry)) (now (wall .exit)) r ⌝ }
+    ensures { λ r. ⌜ RunsBoth (now (image .entry)) mark (now (entries .entry)) (now (order .entry)) (now (others .entry)) (now (log .entry)) (now (log .exit)) (now (desk .entry)) (now (desk .exit)) (now (wall .entry)) (now (wall .exit)) r ⌝ }
 {
     if !(has_room(entries.len(), log.len())
         & (MAX_IMAGE_SIZE <= desk.len())
@@ -171,7 +152,8 @@ pub fn run_both<'a>(
     let first = at_desk.replica;
     let second = at_wall.replica;
     let desk_end = run_desk(first, desk, entries, log);
-    let wall_end = run_wall(second, wall, &log[..], order, desk_end.count as usize);
+    let n = desk_end.count as usize;
+    let wall_end = run_wall(second, wall, &log[..], others, order, n);
     RunResult {
         desk: desk_end,
         wall: wall_end,
