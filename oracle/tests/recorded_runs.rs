@@ -45,7 +45,7 @@ fn the_runs_about_the_limit_depend_on_it() {
         let shorter = &input[..MAX_INPUT - SIZE];
         assert_ne!(program::run(input), program::run(shorter));
         // The first message and the last two, all of which are then read.
-        let Parts { image, mark, messages } = Parts::of(input);
+        let Parts { image, mark, messages, .. } = Parts::of(input);
         let last_two = &input[input.len() - 2 * SIZE..];
         let whole = [image, mark, &messages[..SIZE], last_two].concat();
         assert_ne!(program::run(input), program::run(&whole));

@@ -3,107 +3,103 @@
 use super::random::Random;
 use crate::message::{Mark, MARK_SIZE};
 
-/// How a mark in a message differs from the wall's own; the first case that holds names it.
+/// How near a message's mark is to the wall's own; the first case that holds.
 #[derive(Clone, Copy, Debug, PartialEq, Eq, PartialOrd, Ord)]
-pub enum Difference {
-    None,
+pub enum Nearness {
+    Own,
     OneBit,
     ByOne,
     OneByte,
-    /// The last four bytes are alike.
+    /// The first four bytes alone are others.
     HighHalf,
-    /// The first four bytes are alike.
+    /// The last four bytes alone are others.
     LowHalf,
     Swapped,
     Far,
 }
 
-impl Difference {
-    /// Those in which two marks are near each other.
-    pub const NEAR: [Difference; 6] = [
-        Difference::OneBit,
-        Difference::ByOne,
-        Difference::OneByte,
-        Difference::HighHalf,
-        Difference::LowHalf,
-        Difference::Swapped,
+impl Nearness {
+    /// Those of two marks that are near each other.
+    pub const NEAR: [Nearness; 6] = [
+        Nearness::OneBit,
+        Nearness::ByOne,
+        Nearness::OneByte,
+        Nearness::HighHalf,
+        Nearness::LowHalf,
+        Nearness::Swapped,
     ];
 
-    pub fn between(own: Mark, other: Mark) -> Difference {
+    pub fn of(own: Mark, other: Mark) -> Nearness {
         if own == other {
-            return Difference::None;
+            return Nearness::Own;
         }
-        let near = Difference::NEAR.into_iter().find(|difference| difference.holds(own, other));
-        near.unwrap_or(Difference::Far)
+        let near = Nearness::NEAR.into_iter().find(|nearness| nearness.holds(own, other));
+        near.unwrap_or(Nearness::Far)
     }
 
-    /// Whether two marks that are not the same differ so.
+    /// Whether this is said of two marks that are not the same.
     fn holds(self, own: Mark, other: Mark) -> bool {
         let changed = own ^ other;
         match self {
-            Difference::None => false,
-            Difference::OneBit => changed.is_power_of_two(),
-            Difference::ByOne => own.wrapping_sub(other).wrapping_add(1) <= 2,
-            Difference::OneByte => {
+            Nearness::Own => false,
+            Nearness::OneBit => changed.is_power_of_two(),
+            Nearness::ByOne => [own.wrapping_add(1), own.wrapping_sub(1)].contains(&other),
+            Nearness::OneByte => {
                 changed.to_be_bytes().iter().filter(|byte| **byte != 0).count() == 1
             }
-            Difference::HighHalf => changed as u32 == 0,
-            Difference::LowHalf => changed >> 32 == 0,
-            Difference::Swapped => own.swap_bytes() == other,
-            Difference::Far => true,
+            Nearness::HighHalf => changed as u32 == 0,
+            Nearness::LowHalf => changed >> 32 == 0,
+            Nearness::Swapped => own.swap_bytes() == other,
+            Nearness::Far => true,
         }
     }
 
-    /// A mark that differs so, or the own one where none does.
+    /// A mark of this nearness; a chance may bring it nearer.
     fn apply(self, random: &mut Random, own: Mark) -> Mark {
         match self {
-            Difference::None => own,
-            Difference::OneBit => own ^ 1 << random.below(Mark::BITS as usize),
-            Difference::ByOne => random.pick(&[own.wrapping_add(1), own.wrapping_sub(1)]),
-            Difference::OneByte => {
+            Nearness::Own => own,
+            Nearness::OneBit => own ^ 1 << random.below(Mark::BITS as usize),
+            Nearness::ByOne => random.pick(&[own.wrapping_add(1), own.wrapping_sub(1)]),
+            Nearness::OneByte => {
                 own ^ (1 + random.below(255) as Mark) << (8 * random.below(MARK_SIZE))
             }
-            Difference::HighHalf => own ^ random.bits() << 32,
-            Difference::LowHalf => own ^ random.bits() >> 32,
-            Difference::Swapped => own.swap_bytes(),
-            Difference::Far => mark(random),
+            Nearness::HighHalf => own ^ random.bits() << 32,
+            Nearness::LowHalf => own ^ random.bits() >> 32,
+            Nearness::Swapped => own.swap_bytes(),
+            Nearness::Far => mark(random),
         }
     }
 
     pub fn name(self) -> &'static str {
         match self {
-            Difference::None => "own",
-            Difference::OneBit => "one bit",
-            Difference::ByOne => "by one",
-            Difference::OneByte => "one byte",
-            Difference::HighHalf => "high half",
-            Difference::LowHalf => "low half",
-            Difference::Swapped => "swapped",
-            Difference::Far => "far",
+            Nearness::Own => "own",
+            Nearness::OneBit => "one bit",
+            Nearness::ByOne => "by one",
+            Nearness::OneByte => "one byte",
+            Nearness::HighHalf => "high half",
+            Nearness::LowHalf => "low half",
+            Nearness::Swapped => "swapped",
+            Nearness::Far => "far",
         }
     }
 }
 
 /// A mark that a host may give.
 pub fn mark(random: &mut Random) -> Mark {
-    let bits = random.bits();
     match random.below(8) {
         0 => 0,
         1 => Mark::MAX,
-        2 => random.pick(&[1, 1 << 32, u32::MAX.into(), 1 << 63, 0x4d55_4c4b_4546_4934]),
-        3 => random.below(9) as Mark,
-        _ => bits,
+        2 => random.pick(&[1 << 32, u32::MAX.into(), 1 << 63]),
+        3 => 1 + random.below(9) as Mark,
+        _ => random.bits(),
     }
 }
 
 /// Another mark, near to the own one or far from it.
 pub fn foreign(random: &mut Random, own: Mark) -> Mark {
-    let difference = match random.one_in(4) {
-        true => Difference::Far,
-        false => random.pick(&Difference::NEAR),
-    };
-    match difference.apply(random, own) {
-        // A swap, or a chance, may give the own one back.
+    let nearness = if random.one_in(4) { Nearness::Far } else { random.pick(&Nearness::NEAR) };
+    match nearness.apply(random, own) {
+        // A mark that reads the same from both ends, or a chance, gives the own one back.
         same if same == own => !own,
         other => other,
     }

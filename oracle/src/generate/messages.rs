@@ -50,82 +50,85 @@ pub fn delivery(random: &mut Random) -> (Mark, Vec<u8>) {
     (own, message_bytes(random, mark))
 }
 
-/// A fault of a message.
-#[derive(Clone, Copy, Debug, PartialEq, Eq, PartialOrd, Ord)]
-pub enum Fault {
+/// What is damaged of a message.
+#[derive(Clone, Copy)]
+enum Damage {
+    /// Its number of bytes, which its length field does not follow.
     Size,
     Length,
     Version,
     Mark,
     Number,
     Operation,
-    /// A float field at an edge of what it may hold, which is for the edit to judge.
+    Curve,
     Pick,
     /// Any byte.
     Byte,
 }
 
-const FAULTS: [(usize, Fault); 8] = [
-    (3, Fault::Size),
-    (1, Fault::Length),
-    (1, Fault::Version),
-    (3, Fault::Mark),
-    (1, Fault::Number),
-    (1, Fault::Operation),
-    (1, Fault::Pick),
-    (1, Fault::Byte),
+const SHARES: [(usize, Damage); 9] = [
+    (3, Damage::Size),
+    (1, Damage::Length),
+    (1, Damage::Version),
+    (3, Damage::Mark),
+    (1, Damage::Number),
+    (1, Damage::Operation),
+    (1, Damage::Curve),
+    (1, Damage::Pick),
+    (1, Damage::Byte),
 ];
 
-/// One fault of a message as a desk writes it, at times a second one, which shows which test comes first.
+/// One fault, at times a second one, which shows which test comes first.
 pub fn damage(random: &mut Random, bytes: &mut Vec<u8>) {
-    for _ in 0..random.weighted(&[(3, 1), (1, 2)]) {
-        let fault = random.weighted(&FAULTS);
-        spoil(random, bytes, fault);
+    for _ in 0..random.weighted(&[(2, 1), (1, 2)]) {
+        let damage = random.weighted(&SHARES);
+        damage_by(random, bytes, damage);
     }
 }
 
-/// Puts a fault into a message; one that is cut short of the field stays as it is.
-pub fn spoil(random: &mut Random, bytes: &mut Vec<u8>, fault: Fault) {
-    match fault {
-        Fault::Size => resize(random, bytes),
-        Fault::Length => {
-            let lengths = [0, 1, LENGTH - 1, LENGTH + 1, SIZE as u32, 26, LENGTH << 24, u32::MAX];
+fn damage_by(random: &mut Random, bytes: &mut Vec<u8>, damage: Damage) {
+    match damage {
+        Damage::Size => resize(random, bytes),
+        Damage::Length => {
+            let lengths = [0, 1, 26, LENGTH - 1, LENGTH + 1, SIZE as u32, LENGTH << 24, u32::MAX];
             set(bytes, 0, random.pick(&lengths).to_be_bytes());
         }
-        Fault::Version => set(bytes, VERSION_AT, [random.pick(&[0, 1, 3, 255])]),
-        Fault::Mark => {
-            if bytes.len() >= NUMBER_AT {
-                let foreign = marks::foreign(random, u64_at(bytes, MARK_AT));
-                set(bytes, MARK_AT, foreign.to_be_bytes());
+        Damage::Version => set(bytes, VERSION_AT, [random.pick(&[0, 1, 3, 255])]),
+        Damage::Mark => {
+            if let Some(mark) = bytes.get(MARK_AT..NUMBER_AT) {
+                let mark = marks::foreign(random, u64_at(mark, 0));
+                set(bytes, MARK_AT, mark.to_be_bytes());
             }
         }
-        Fault::Number => {
+        Damage::Number => {
             let number = random.pick(&[0u32, 0, 1, 1 << 24, u32::MAX]);
             set(bytes, NUMBER_AT, number.to_be_bytes());
         }
-        Fault::Operation => set(bytes, OPERATION_AT, [random.pick(&[0, 4, 5, 255])]),
-        Fault::Pick => {
+        Damage::Operation => set(bytes, OPERATION_AT, [random.pick(&[0, 4, 5, 255])]),
+        Damage::Curve => {
+            let curve: Id = random.pick(&[0, 1, 1 << 24, Id::MAX]);
+            set(bytes, CURVE_AT, curve.to_be_bytes());
+        }
+        Damage::Pick => {
             let at = random.pick(&[X_AT, Y_AT]);
             set(bytes, at, random.pick(&EDGE_FLOATS).to_be_bytes());
         }
-        Fault::Byte => {
+        Damage::Byte => {
             let at = random.below(SIZE);
             set(bytes, at, [random.bits() as u8]);
         }
     }
 }
 
-/// Cuts the bytes or appends some: by a few at the end, anywhere, to a field's end, or to the 30 of
-/// version 1.
+/// Cuts the bytes anywhere, behind a field or to the 30 of version 1, or has a few too many.
 fn resize(random: &mut Random, bytes: &mut Vec<u8>) {
-    let anywhere = random.below(SIZE);
-    let fields = [VERSION_AT, MARK_AT, NUMBER_AT, OPERATION_AT, CURVE_AT, X_AT, Y_AT];
-    let field = random.pick(&fields);
-    let size =
-        random.pick(&[0, 1, 3, field, field, anywhere, anywhere, 30, SIZE - 1, SIZE + 1, 2 * SIZE]);
-    bytes.resize(size, 0);
+    const FIELDS: [usize; 7] = [VERSION_AT, MARK_AT, NUMBER_AT, OPERATION_AT, CURVE_AT, X_AT, Y_AT];
+    let (field, anywhere) = (random.pick(&FIELDS), random.below(SIZE));
+    let sizes = [0, 1, 3, field, field, anywhere, anywhere, 30, SIZE - 1, SIZE + 1, 2 * SIZE];
+    bytes.resize(random.pick(&sizes), 0);
 }
 
+/// Sets a field, unless the bytes end before it does.
 fn set<const N: usize>(bytes: &mut [u8], at: usize, value: [u8; N]) {
     if bytes.len() >= at + N {
         put(bytes, at, value);
