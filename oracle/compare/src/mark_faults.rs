@@ -1,20 +1,19 @@
 //! Faults in what is done with a mark, planted into one side of the comparisons of messages, of
 //! deliveries and of runs.
 
-use crate::runs::put_in_front;
-use crate::sums::Case;
-use crate::{messages, runs, subject, sums};
-use messages::Messages;
-use oracle::bytes::u64_at;
+use crate::messages::{self, Implementation as _, Messages};
+use crate::runs::{self, put_in_front, Implementation as _, Runs};
+use crate::subject;
+use crate::sums::{self, Case, Sums};
+use oracle::bytes::{u32_at, u64_at};
 use oracle::edit::Refused;
 use oracle::message::{self, *};
 use oracle::program::{self, Parts};
+use oracle::recording::{self, List, SEED};
 use oracle::refusal::{number_of, Refusal};
 use oracle::replication::{Delivery, Replica};
 use oracle::{image, upstream};
-use runs::Runs;
 use std::marker::PhantomData;
-use sums::Sums;
 
 /// An implementation; each fault does one of these otherwise than the oracle.
 trait MarkFault {
@@ -185,30 +184,54 @@ impl<F: MarkFault> runs::Implementation for Faulty<F> {
     }
 }
 
-/// Whether the comparison of messages, of sums and of runs finds a fault.
-fn found<F: MarkFault>() -> [bool; 3] {
+/// The recorded answers, which the engine is held to where there is no Rust.
+struct Recorded {
+    messages: List<Message>,
+    runs: List<()>,
+}
+
+impl Recorded {
+    fn differ_from<F: MarkFault>(&self) -> bool {
+        self.messages.entries().any(|(outcome, entry)| {
+            let (mark, bytes) = entry.split_at(MARK_SIZE);
+            let mut out = [0; SIZE];
+            let number = Faulty::<F>::copy(bytes, u64_at(mark, 0), &mut out);
+            number != outcome.into() || (number == 0 && out != bytes)
+        }) || self.runs.entries().any(|(_, entry)| {
+            let (input, written) = entry[4..].split_at(u32_at(entry, 0) as usize);
+            let mut out = [0; image::MAX_SIZE];
+            let size = Faulty::<F>::wall(input, &mut out);
+            out[..size] != *written
+        })
+    }
+}
+
+/// Whether the comparison of messages, of sums and of runs and the recorded answers find a fault.
+fn found<F: MarkFault>(recorded: &Recorded) -> [bool; 4] {
     [
         subject::run::<Messages<Faulty<F>>>(20_000, 7).is_err(),
         subject::run::<Sums<Faulty<F>>>(20_000, 7).is_err(),
         subject::run::<Runs<Faulty<F>>>(5_000, 7).is_err(),
+        recorded.differ_from::<F>(),
     ]
 }
 
-/// A run shows no refusal, and a sum none of what a desk writes.
+/// A run shows no refusal, a sum nothing of what a desk writes, and a recorded answer no old message.
 #[test]
 fn a_fault_is_found_wherever_it_shows() {
     if !upstream::PRESENT {
         return;
     }
-    assert_eq!(found::<NoFault>(), [false, false, false]);
-    assert_eq!(found::<AfterOperation>(), [true, true, false]);
-    assert_eq!(found::<BeforeVersion>(), [true, true, false]);
-    assert_eq!(found::<BeforeSize>(), [true, true, false]);
-    assert_eq!(found::<NotTested>(), [true, true, true]);
-    assert_eq!(found::<LowHalfAlone>(), [true, true, true]);
-    assert_eq!(found::<NotWritten>(), [true, false, false]);
-    assert_eq!(found::<WrittenLittleEndian>(), [true, false, false]);
-    assert_eq!(found::<ForeignIsOld>(), [false, true, false]);
-    assert_eq!(found::<FirstIsAdopted>(), [false, true, true]);
-    assert_eq!(found::<MessagesBehindImage>(), [false, false, true]);
+    let all = Recorded { messages: recording::messages(SEED), runs: recording::runs(SEED) };
+    assert_eq!(found::<NoFault>(&all), [false, false, false, false]);
+    assert_eq!(found::<AfterOperation>(&all), [true, true, false, true]);
+    assert_eq!(found::<BeforeVersion>(&all), [true, true, false, true]);
+    assert_eq!(found::<BeforeSize>(&all), [true, true, false, true]);
+    assert_eq!(found::<NotTested>(&all), [true, true, true, true]);
+    assert_eq!(found::<LowHalfAlone>(&all), [true, true, true, true]);
+    assert_eq!(found::<NotWritten>(&all), [true, false, false, true]);
+    assert_eq!(found::<WrittenLittleEndian>(&all), [true, false, false, true]);
+    assert_eq!(found::<ForeignIsOld>(&all), [false, true, false, false]);
+    assert_eq!(found::<FirstIsAdopted>(&all), [false, true, true, true]);
+    assert_eq!(found::<MessagesBehindImage>(&all), [false, false, true, true]);
 }
