@@ -3,7 +3,7 @@
 
 use oracle::drawing::Drawing;
 use oracle::edit::{Refused, Report};
-use oracle::generate::marks::{self, Nearness};
+use oracle::generate::marks::{self, Difference};
 use oracle::generate::{bridges, edits, random::Random};
 use oracle::message::*;
 use oracle::refusal::Refusal;
@@ -106,11 +106,11 @@ impl Seen {
             Err(Refused { refusal: Refusal::Ahead, .. }) => self.ahead += 1,
             Err(Refused { refusal: Refusal::Foreign, .. }) => {
                 let number = bytes::u32_at(bytes, NUMBER_AT) as usize;
-                let nearness = Nearness::of(own, bytes::u64_at(bytes, MARK_AT));
+                let difference = Difference::between(own, bytes::u64_at(bytes, MARK_AT));
                 self.foreign += 1;
                 self.foreign_next += usize::from(number == count + 1);
                 self.foreign_old += usize::from((1..=count).contains(&number));
-                self.foreign_near += usize::from(nearness != Nearness::Far);
+                self.foreign_near += usize::from(difference != Difference::Far);
             }
             Err(_) => self.no_message += 1,
         }

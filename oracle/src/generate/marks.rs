@@ -3,10 +3,10 @@
 use super::random::Random;
 use crate::message::{Mark, MARK_SIZE};
 
-/// How near a message's mark is to the wall's own; the first case that holds.
+/// How a message's mark differs from the wall's own: the first case that holds.
 #[derive(Clone, Copy, Debug, PartialEq, Eq, PartialOrd, Ord)]
-pub enum Nearness {
-    Own,
+pub enum Difference {
+    None,
     OneBit,
     ByOne,
     OneByte,
@@ -18,68 +18,68 @@ pub enum Nearness {
     Far,
 }
 
-impl Nearness {
+impl Difference {
     /// Those of two marks that are near each other.
-    pub const NEAR: [Nearness; 6] = [
-        Nearness::OneBit,
-        Nearness::ByOne,
-        Nearness::OneByte,
-        Nearness::HighHalf,
-        Nearness::LowHalf,
-        Nearness::Swapped,
+    pub const NEAR: [Difference; 6] = [
+        Difference::OneBit,
+        Difference::ByOne,
+        Difference::OneByte,
+        Difference::HighHalf,
+        Difference::LowHalf,
+        Difference::Swapped,
     ];
 
-    pub fn of(own: Mark, other: Mark) -> Nearness {
+    pub fn between(own: Mark, other: Mark) -> Difference {
         if own == other {
-            return Nearness::Own;
+            return Difference::None;
         }
-        let near = Nearness::NEAR.into_iter().find(|nearness| nearness.holds(own, other));
-        near.unwrap_or(Nearness::Far)
+        let near = Difference::NEAR.into_iter().find(|difference| difference.holds(own, other));
+        near.unwrap_or(Difference::Far)
     }
 
-    /// Whether this is said of two marks that are not the same.
+    /// Whether two marks that are not the same differ so.
     fn holds(self, own: Mark, other: Mark) -> bool {
         let changed = own ^ other;
         match self {
-            Nearness::Own => false,
-            Nearness::OneBit => changed.is_power_of_two(),
-            Nearness::ByOne => [own.wrapping_add(1), own.wrapping_sub(1)].contains(&other),
-            Nearness::OneByte => {
+            Difference::None => false,
+            Difference::OneBit => changed.is_power_of_two(),
+            Difference::ByOne => [own.wrapping_add(1), own.wrapping_sub(1)].contains(&other),
+            Difference::OneByte => {
                 changed.to_be_bytes().iter().filter(|byte| **byte != 0).count() == 1
             }
-            Nearness::HighHalf => changed as u32 == 0,
-            Nearness::LowHalf => changed >> 32 == 0,
-            Nearness::Swapped => own.swap_bytes() == other,
-            Nearness::Far => true,
+            Difference::HighHalf => changed as u32 == 0,
+            Difference::LowHalf => changed >> 32 == 0,
+            Difference::Swapped => own.swap_bytes() == other,
+            Difference::Far => true,
         }
     }
 
-    /// A mark of this nearness; a chance may bring it nearer.
+    /// A mark that differs so; by chance it may differ less.
     fn apply(self, random: &mut Random, own: Mark) -> Mark {
         match self {
-            Nearness::Own => own,
-            Nearness::OneBit => own ^ 1 << random.below(Mark::BITS as usize),
-            Nearness::ByOne => random.pick(&[own.wrapping_add(1), own.wrapping_sub(1)]),
-            Nearness::OneByte => {
+            Difference::None => own,
+            Difference::OneBit => own ^ 1 << random.below(Mark::BITS as usize),
+            Difference::ByOne => random.pick(&[own.wrapping_add(1), own.wrapping_sub(1)]),
+            Difference::OneByte => {
                 own ^ (1 + random.below(255) as Mark) << (8 * random.below(MARK_SIZE))
             }
-            Nearness::HighHalf => own ^ random.bits() << 32,
-            Nearness::LowHalf => own ^ random.bits() >> 32,
-            Nearness::Swapped => own.swap_bytes(),
-            Nearness::Far => mark(random),
+            Difference::HighHalf => own ^ random.bits() << 32,
+            Difference::LowHalf => own ^ random.bits() >> 32,
+            Difference::Swapped => own.swap_bytes(),
+            Difference::Far => mark(random),
         }
     }
 
     pub fn name(self) -> &'static str {
         match self {
-            Nearness::Own => "own",
-            Nearness::OneBit => "one bit",
-            Nearness::ByOne => "by one",
-            Nearness::OneByte => "one byte",
-            Nearness::HighHalf => "high half",
-            Nearness::LowHalf => "low half",
-            Nearness::Swapped => "swapped",
-            Nearness::Far => "far",
+            Difference::None => "own",
+            Difference::OneBit => "one bit",
+            Difference::ByOne => "by one",
+            Difference::OneByte => "one byte",
+            Difference::HighHalf => "high half",
+            Difference::LowHalf => "low half",
+            Difference::Swapped => "swapped",
+            Difference::Far => "far",
         }
     }
 }
@@ -97,8 +97,9 @@ pub fn mark(random: &mut Random) -> Mark {
 
 /// Another mark, near to the own one or far from it.
 pub fn foreign(random: &mut Random, own: Mark) -> Mark {
-    let nearness = if random.one_in(4) { Nearness::Far } else { random.pick(&Nearness::NEAR) };
-    match nearness.apply(random, own) {
+    let difference =
+        if random.one_in(4) { Difference::Far } else { random.pick(&Difference::NEAR) };
+    match difference.apply(random, own) {
         // A mark that reads the same from both ends, or a chance, gives the own one back.
         same if same == own => !own,
         other => other,

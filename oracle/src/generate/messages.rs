@@ -5,6 +5,7 @@ use super::numbers::EDGE_FLOATS;
 use super::random::Random;
 use crate::bytes::{put, u64_at};
 use crate::drawing::Id;
+use crate::image::LENGTH_SIZE;
 use crate::message::*;
 
 /// A message that a desk could write, or a sender make up: its fields are in range.
@@ -50,10 +51,13 @@ pub fn delivery(random: &mut Random) -> (Mark, Vec<u8>) {
     (own, message_bytes(random, mark))
 }
 
-/// What is damaged of a message.
-#[derive(Clone, Copy)]
-enum Damage {
-    /// Its number of bytes, which its length field does not follow.
+/// What a message without a mark has.
+const VERSION_1_SIZE: usize = 30;
+
+/// A fault of a message, by the field that has it.
+#[derive(Clone, Copy, Debug, PartialEq, Eq)]
+pub enum Fault {
+    /// Too few bytes or too many, which the length field does not follow.
     Size,
     Length,
     Version,
@@ -66,69 +70,72 @@ enum Damage {
     Byte,
 }
 
-const SHARES: [(usize, Damage); 9] = [
-    (3, Damage::Size),
-    (1, Damage::Length),
-    (1, Damage::Version),
-    (3, Damage::Mark),
-    (1, Damage::Number),
-    (1, Damage::Operation),
-    (1, Damage::Curve),
-    (1, Damage::Pick),
-    (1, Damage::Byte),
+const FAULTS: [(usize, Fault); 9] = [
+    (3, Fault::Size),
+    (1, Fault::Length),
+    (1, Fault::Version),
+    (3, Fault::Mark),
+    (1, Fault::Number),
+    (1, Fault::Operation),
+    (1, Fault::Curve),
+    (1, Fault::Pick),
+    (1, Fault::Byte),
 ];
 
 /// One fault, at times a second one, which shows which test comes first.
 pub fn damage(random: &mut Random, bytes: &mut Vec<u8>) {
     for _ in 0..random.weighted(&[(2, 1), (1, 2)]) {
-        let damage = random.weighted(&SHARES);
-        damage_by(random, bytes, damage);
+        let fault = random.weighted(&FAULTS);
+        spoil(random, bytes, fault);
     }
 }
 
-fn damage_by(random: &mut Random, bytes: &mut Vec<u8>, damage: Damage) {
-    match damage {
-        Damage::Size => resize(random, bytes),
-        Damage::Length => {
-            let lengths = [0, 1, 26, LENGTH - 1, LENGTH + 1, SIZE as u32, LENGTH << 24, u32::MAX];
+/// Puts a fault into a message, unless its bytes end before the field does.
+pub fn spoil(random: &mut Random, bytes: &mut Vec<u8>, fault: Fault) {
+    match fault {
+        Fault::Size => resize(random, bytes),
+        Fault::Length => {
+            let old = (VERSION_1_SIZE - LENGTH_SIZE) as u32;
+            let lengths = [0, 1, old, LENGTH - 1, LENGTH + 1, SIZE as u32, LENGTH << 24, u32::MAX];
             set(bytes, 0, random.pick(&lengths).to_be_bytes());
         }
-        Damage::Version => set(bytes, VERSION_AT, [random.pick(&[0, 1, 3, 255])]),
-        Damage::Mark => {
+        Fault::Version => set(bytes, VERSION_AT, [random.pick(&[0, 1, 3, 255])]),
+        Fault::Mark => {
             if let Some(mark) = bytes.get(MARK_AT..NUMBER_AT) {
                 let mark = marks::foreign(random, u64_at(mark, 0));
                 set(bytes, MARK_AT, mark.to_be_bytes());
             }
         }
-        Damage::Number => {
+        Fault::Number => {
             let number = random.pick(&[0u32, 0, 1, 1 << 24, u32::MAX]);
             set(bytes, NUMBER_AT, number.to_be_bytes());
         }
-        Damage::Operation => set(bytes, OPERATION_AT, [random.pick(&[0, 4, 5, 255])]),
-        Damage::Curve => {
+        Fault::Operation => set(bytes, OPERATION_AT, [random.pick(&[0, 4, 5, 255])]),
+        Fault::Curve => {
             let curve: Id = random.pick(&[0, 1, 1 << 24, Id::MAX]);
             set(bytes, CURVE_AT, curve.to_be_bytes());
         }
-        Damage::Pick => {
+        Fault::Pick => {
             let at = random.pick(&[X_AT, Y_AT]);
             set(bytes, at, random.pick(&EDGE_FLOATS).to_be_bytes());
         }
-        Damage::Byte => {
+        Fault::Byte => {
             let at = random.below(SIZE);
             set(bytes, at, [random.bits() as u8]);
         }
     }
 }
 
-/// Cuts the bytes anywhere, behind a field or to the 30 of version 1, or has a few too many.
+/// Cuts the bytes anywhere, before a field or to the size of version 1, or has a few too many.
 fn resize(random: &mut Random, bytes: &mut Vec<u8>) {
     const FIELDS: [usize; 7] = [VERSION_AT, MARK_AT, NUMBER_AT, OPERATION_AT, CURVE_AT, X_AT, Y_AT];
     let (field, anywhere) = (random.pick(&FIELDS), random.below(SIZE));
-    let sizes = [0, 1, 3, field, field, anywhere, anywhere, 30, SIZE - 1, SIZE + 1, 2 * SIZE];
-    bytes.resize(random.pick(&sizes), 0);
+    let few = random.pick(&[0, 1, 3, VERSION_1_SIZE]);
+    let near = random.pick(&[SIZE - 1, SIZE + 1, 2 * SIZE]);
+    let shares = [(4, few), (2, field), (2, anywhere), (3, near)];
+    bytes.resize(random.weighted(&shares), 0);
 }
 
-/// Sets a field, unless the bytes end before it does.
 fn set<const N: usize>(bytes: &mut [u8], at: usize, value: [u8; N]) {
     if bytes.len() >= at + N {
         put(bytes, at, value);
