@@ -3,7 +3,7 @@
 use std::ops::RangeInclusive;
 
 /// The size of a message.
-pub const MESSAGE_SIZE: usize = 30;
+pub const MESSAGE_SIZE: usize = 38;
 /// The size of the image whose tables are full.
 pub const LARGEST_IMAGE: usize = image_size([MOST_POINTS, MOST_CURVES, MOST_RELATIONS]);
 
@@ -11,9 +11,11 @@ pub const MOST_POINTS: usize = 512;
 pub const MOST_CURVES: usize = 128;
 pub const MOST_RELATIONS: usize = 256;
 
-pub const VERSION: u8 = 1;
-/// The length field counts the bytes behind it.
+pub const IMAGE_VERSION: u8 = 1;
+pub const MESSAGE_VERSION: u8 = 2;
+/// In both formats the length field counts the bytes behind it, and the version byte comes next.
 pub const LENGTH_SIZE: usize = 4;
+pub const VERSION_AT: usize = LENGTH_SIZE;
 /// Length, version, next id and three counts.
 pub const HEADER_SIZE: usize = 15;
 pub const POINT_SIZE: usize = 21;
@@ -25,6 +27,23 @@ pub const SLOTS: usize = 8;
 pub const GREATEST_COORDINATE: f64 = 1e6;
 pub const RADIUS: RangeInclusive<f64> = 1e-6..=1e6;
 pub const VALUE: RangeInclusive<f64> = 0.0..=4e6;
+
+/// Where the fields of a message stand that come after its length and version, each with the highest
+/// byte first.
+pub mod message {
+    /// Eight bytes.
+    pub const MARK_AT: usize = 5;
+    /// Four bytes: the edit's number.
+    pub const NUMBER_AT: usize = 13;
+    /// One byte.
+    pub const OPERATION_AT: usize = 17;
+    /// Four bytes: the curve's id.
+    pub const CURVE_AT: usize = 18;
+    /// Eight bytes: the pick's x.
+    pub const X_AT: usize = 22;
+    /// Eight bytes: the pick's y.
+    pub const Y_AT: usize = 30;
+}
 
 /// The size of an image with so many points, curves and relations.
 pub const fn image_size(counts: [usize; 3]) -> usize {
