@@ -1,12 +1,27 @@
-//! The message of an edit, thirty bytes of fixed layout.
+//! The message of an edit: fields of fixed size, one behind the other.
 
-use crate::bytes::{f64_at, put, u32_at};
+use crate::bytes::{f64_at, put, u32_at, u64_at};
 use crate::drawing::Id;
 use crate::image::LENGTH_SIZE;
 use crate::refusal::Refusal;
 
-pub const VERSION: u8 = 1;
-pub const SIZE: usize = 30;
+/// What the host gives a desk and its walls at their start, and no other desk. Any number is one.
+pub type Mark = u64;
+
+pub const VERSION: u8 = 2;
+pub const MARK_SIZE: usize = size_of::<Mark>();
+/// What the length field of a message holds.
+pub const LENGTH: u32 = (SIZE - LENGTH_SIZE) as u32;
+
+// Where the fields stand behind the length field, and where the last of them ends.
+pub const VERSION_AT: usize = LENGTH_SIZE;
+pub const MARK_AT: usize = VERSION_AT + 1;
+pub const NUMBER_AT: usize = MARK_AT + MARK_SIZE;
+pub const OPERATION_AT: usize = NUMBER_AT + 4;
+pub const CURVE_AT: usize = OPERATION_AT + 1;
+pub const X_AT: usize = CURVE_AT + 4;
+pub const Y_AT: usize = X_AT + 8;
+pub const SIZE: usize = Y_AT + 8;
 
 #[derive(Clone, Copy, Debug, PartialEq, Eq)]
 #[repr(u8)]
@@ -44,42 +59,46 @@ pub struct Message {
     pub edit: Edit,
 }
 
-/// Reads a message, or says why it is none.
-pub fn read(bytes: &[u8]) -> Result<Message, Refusal> {
+/// Reads a message of the desk with this mark, or says why it is none.
+pub fn read(bytes: &[u8], mark: Mark) -> Result<Message, Refusal> {
     if bytes.len() <= LENGTH_SIZE {
         return Err(Refusal::Length);
     }
-    if bytes[4] != VERSION {
+    if bytes[VERSION_AT] != VERSION {
         return Err(Refusal::Version);
     }
-    if bytes.len() != SIZE || u32_at(bytes, 0) as usize != SIZE - LENGTH_SIZE {
+    if bytes.len() != SIZE || u32_at(bytes, 0) != LENGTH {
         return Err(Refusal::Length);
     }
-    let number = u32_at(bytes, 5);
-    let operation = Operation::from_code(bytes[9]).ok_or(Refusal::Operation)?;
+    if u64_at(bytes, MARK_AT) != mark {
+        return Err(Refusal::Foreign);
+    }
+    let number = u32_at(bytes, NUMBER_AT);
+    let operation = Operation::from_code(bytes[OPERATION_AT]).ok_or(Refusal::Operation)?;
     if number == 0 {
         return Err(Refusal::Operation);
     }
-    let (curve, x, y) = (u32_at(bytes, 10), f64_at(bytes, 14), f64_at(bytes, 22));
+    let (curve, x, y) = (u32_at(bytes, CURVE_AT), f64_at(bytes, X_AT), f64_at(bytes, Y_AT));
     Ok(Message { number, edit: Edit { operation, curve, x, y } })
 }
 
-/// Writes a message to the front of a buffer with room for it.
-pub fn write(message: &Message, out: &mut [u8]) -> Result<usize, Refusal> {
+/// Writes a message of the desk with this mark to the front of a buffer with room for it.
+pub fn write(message: &Message, mark: Mark, out: &mut [u8]) -> Result<usize, Refusal> {
     let out = out.get_mut(..SIZE).ok_or(Refusal::Buffer)?;
-    out.copy_from_slice(&to_bytes(message));
+    out.copy_from_slice(&to_bytes(message, mark));
     Ok(SIZE)
 }
 
-pub fn to_bytes(message: &Message) -> [u8; SIZE] {
+pub fn to_bytes(message: &Message, mark: Mark) -> [u8; SIZE] {
     let edit = &message.edit;
     let mut bytes = [0; SIZE];
-    put(&mut bytes, 0, ((SIZE - LENGTH_SIZE) as u32).to_be_bytes());
-    bytes[4] = VERSION;
-    put(&mut bytes, 5, message.number.to_be_bytes());
-    bytes[9] = edit.operation.code();
-    put(&mut bytes, 10, edit.curve.to_be_bytes());
-    put(&mut bytes, 14, edit.x.to_bits().to_be_bytes());
-    put(&mut bytes, 22, edit.y.to_bits().to_be_bytes());
+    put(&mut bytes, 0, LENGTH.to_be_bytes());
+    bytes[VERSION_AT] = VERSION;
+    put(&mut bytes, MARK_AT, mark.to_be_bytes());
+    put(&mut bytes, NUMBER_AT, message.number.to_be_bytes());
+    bytes[OPERATION_AT] = edit.operation.code();
+    put(&mut bytes, CURVE_AT, edit.curve.to_be_bytes());
+    put(&mut bytes, X_AT, edit.x.to_bits().to_be_bytes());
+    put(&mut bytes, Y_AT, edit.y.to_bits().to_be_bytes());
     bytes
 }

@@ -1,8 +1,8 @@
-//! The wall's program: an image and messages in, the last image out.
+//! The wall's program: an image, a mark and messages in, the last image out.
 
 use crate::edit::Refused;
 use crate::image::{self, LENGTH_SIZE};
-use crate::message;
+use crate::message::{self, Mark, MARK_SIZE};
 use crate::refusal::Refusal;
 use crate::replication::{Delivery, Replica};
 
@@ -16,23 +16,40 @@ pub fn run(input: &[u8]) -> Vec<u8> {
 
 /// `run`, with each delivery's outcome handed to `watch` on the way.
 pub fn run_watched(input: &[u8], mut watch: impl FnMut(&Result<Delivery, Refused>)) -> Vec<u8> {
-    let input = &input[..input.len().min(MAX_INPUT)];
-    let (image, messages) = input.split_at(image_end(input));
-    match image::read(image) {
-        Err(refusal) => refused(refusal),
-        Ok(drawing) => {
-            let mut wall = Replica::new(drawing);
-            for bytes in messages.chunks(message::SIZE) {
-                // A refused message is passed over.
-                watch(&wall.deliver(bytes));
-            }
-            image::to_bytes(&wall.drawing)
-        }
+    let Parts { image, mark, messages } = Parts::of(input);
+    let drawing = match image::read(image) {
+        Ok(drawing) => drawing,
+        Err(refusal) => return refused(refusal),
+    };
+    let Ok(mark) = mark.try_into() else {
+        return image.to_vec();
+    };
+    let mut wall = Replica::new(drawing, Mark::from_be_bytes(mark));
+    for bytes in messages.chunks(message::SIZE) {
+        // A refused message is passed over.
+        watch(&wall.deliver(bytes));
+    }
+    image::to_bytes(&wall.drawing)
+}
+
+/// What the program looks at, taken apart. Where the input is short there is less of the mark, or none.
+pub struct Parts<'a> {
+    pub image: &'a [u8],
+    pub mark: &'a [u8],
+    pub messages: &'a [u8],
+}
+
+impl Parts<'_> {
+    pub fn of(input: &[u8]) -> Parts<'_> {
+        let input = &input[..input.len().min(MAX_INPUT)];
+        let (image, behind) = input.split_at(image_end(input));
+        let (mark, messages) = behind.split_at(behind.len().min(MARK_SIZE));
+        Parts { image, mark, messages }
     }
 }
 
 /// Where the image of an input ends by its length field, or the input does if that comes first.
-pub fn image_end(input: &[u8]) -> usize {
+fn image_end(input: &[u8]) -> usize {
     let Some(length) = input.first_chunk::<LENGTH_SIZE>() else {
         return input.len();
     };

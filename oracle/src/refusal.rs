@@ -54,16 +54,18 @@ pub enum Refusal {
     Coordinate = 24,
     /// The lent buffer is too short.
     Buffer = 25,
+    /// A message bears another mark than the wall's.
+    Foreign = 28,
 }
 
 impl Refusal {
-    /// The lowest and highest numbers in use.
-    pub const NUMBERS: std::ops::RangeInclusive<u8> = 1..=25;
-
     pub fn number(self) -> u8 {
         self as u8
     }
 }
+
+/// Numbers from 0, which is acceptance, to the last refusal's.
+pub const OUTCOMES: usize = Refusal::Foreign as usize + 1;
 
 /// The number of an outcome: 0 for acceptance.
 pub fn number_of<T>(outcome: &Result<T, Refusal>) -> u8 {

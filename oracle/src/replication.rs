@@ -3,14 +3,16 @@
 
 use crate::drawing::Drawing;
 use crate::edit::{self, Refused, Report};
-use crate::message::{self, Edit, Message};
+use crate::message::{self, Edit, Mark, Message};
 use crate::refusal::Refusal;
 use crate::validity;
 
-/// The state of a desk or of a wall: a drawing, and how many edits were applied to it.
+/// The state of a desk or of a wall: a drawing, the mark of its start, and how many edits were applied
+/// since.
 #[derive(Clone, Debug, PartialEq)]
 pub struct Replica {
     pub drawing: Drawing,
+    pub mark: Mark,
     pub count: u32,
 }
 
@@ -23,8 +25,8 @@ pub enum Delivery {
 }
 
 impl Replica {
-    pub fn new(drawing: Drawing) -> Self {
-        Replica { drawing, count: 0 }
+    pub fn new(drawing: Drawing, mark: Mark) -> Self {
+        Replica { drawing, mark, count: 0 }
     }
 
     /// The desk's call: applies an edit and writes its message to the buffer's front.
@@ -35,15 +37,15 @@ impl Replica {
         }
         let number = self.count.checked_add(1).ok_or(Refusal::Numbers)?;
         let (drawing, report) = edit::apply_tested(&self.drawing, edit)?;
-        *self = Replica { drawing, count: number };
-        message::write(&Message { number, edit: *edit }, out)?;
+        *self = Replica { drawing, mark: self.mark, count: number };
+        message::write(&Message { number, edit: *edit }, self.mark, out)?;
         Ok(report)
     }
 
-    /// The wall's call: applies the edit of a message if it is the next one.
+    /// The wall's call: applies the edit of a message if it is the next one of its desk.
     pub fn deliver(&mut self, bytes: &[u8]) -> Result<Delivery, Refused> {
         validity::check(&self.drawing)?;
-        let message = message::read(bytes)?;
+        let message = message::read(bytes, self.mark)?;
         if message.number <= self.count {
             return Ok(Delivery::Old);
         }
@@ -51,7 +53,7 @@ impl Replica {
             return Err(Refusal::Ahead.into());
         }
         let (drawing, report) = edit::apply_tested(&self.drawing, &message.edit)?;
-        *self = Replica { drawing, count: message.number };
+        *self = Replica { drawing, mark: self.mark, count: message.number };
         Ok(Delivery::Applied(report))
     }
 }

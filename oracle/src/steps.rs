@@ -1,15 +1,16 @@
-//! A desk or wall whose state the caller holds: an image and a count in, the next ones out.
+//! A desk or wall whose state the caller holds: an image, a mark and a count in, the next ones out.
 
 use crate::call::answer;
 use crate::edit::{Refused, Report};
 use crate::image;
-use crate::message::Edit;
+use crate::message::{Edit, Mark};
 use crate::replication::{Delivery, Replica};
 
 /// What is handed to a call and comes back from it.
 #[derive(Clone, Debug, PartialEq, Eq)]
 pub struct State {
     pub image: Vec<u8>,
+    pub mark: Mark,
     pub count: u32,
 }
 
@@ -27,14 +28,14 @@ pub struct Step {
 
 impl State {
     fn replica(&self) -> Result<Replica, Refused> {
-        Ok(Replica { drawing: image::read(&self.image)?, count: self.count })
+        Ok(Replica { drawing: image::read(&self.image)?, mark: self.mark, count: self.count })
     }
 
     fn after(&self, outcome: Result<(Replica, Option<Report>), Refused>) -> Step {
         let answer = answer(&outcome);
         let (state, report) = match outcome {
-            Ok((replica, report)) => {
-                (State { image: image::to_bytes(&replica.drawing), count: replica.count }, report)
+            Ok((Replica { drawing, mark, count }, report)) => {
+                (State { image: image::to_bytes(&drawing), mark, count }, report)
             }
             Err(_) => (self.clone(), Some(Report::default())),
         };

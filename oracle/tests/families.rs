@@ -47,7 +47,7 @@ fn families_stay_joined_over_generated_lists() {
 fn follow_list(random: &mut Random, seen: &mut ListCoverage) -> Result<(), String> {
     let start = rings::drawing(random);
     let mut families = Families::new(&start);
-    let mut desk = Replica::new(start.clone());
+    let mut desk = Replica::new(start.clone(), 0);
     let (mut asked, mut out): (Vec<Edit>, _) = (Vec::new(), [0; message::SIZE]);
     let mut counts = families.check(&start)?;
     seen.drawings_with_circles += usize::from(counts.circles() > 0);

@@ -66,14 +66,40 @@ fn a_written_image_leaves_the_rest_of_the_buffer() {
 }
 
 #[test]
-fn a_message_keeps_any_pick() {
-    for bits in [0x7ff0_0000_0000_0001, 0xffff_ffff_ffff_ffff, 1 << 63] {
+fn a_message_byte_by_byte() {
+    let edit = Edit { operation: Operation::Extend, curve: 0x0a0b_0c0d, x: 4.0, y: -0.5 };
+    let bytes = message::to_bytes(&Message { number: 0x0506_0708, edit }, 0x1011_1213_1415_1617);
+    assert_eq!(bytes[..5], [0, 0, 0, 34, 2]);
+    assert_eq!(bytes[5..13], [0x10, 0x11, 0x12, 0x13, 0x14, 0x15, 0x16, 0x17]);
+    assert_eq!(bytes[13..22], [5, 6, 7, 8, 3, 0x0a, 0x0b, 0x0c, 0x0d]);
+    assert_eq!(bytes[22..], [0x40, 0x10, 0, 0, 0, 0, 0, 0, 0xbf, 0xe0, 0, 0, 0, 0, 0, 0]);
+}
+
+#[test]
+fn a_message_keeps_any_mark_and_pick() {
+    for bits in [0, 1, 0x7ff0_0000_0000_0001, u64::MAX, 1 << 63, 0x0123_4567_89ab_cdef] {
         let (x, y) = (f64::from_bits(bits), f64::from_bits(!bits));
         let edit = Edit { operation: Operation::Extend, curve: 0, x, y };
-        let bytes = message::to_bytes(&Message { number: u32::MAX, edit });
-        let read = message::read(&bytes).expect("a good message");
-        assert_eq!(message::to_bytes(&read), bytes);
+        for mark in [bits, !bits] {
+            let bytes = message::to_bytes(&Message { number: u32::MAX, edit }, mark);
+            let read = message::read(&bytes, mark).expect("a good message");
+            assert_eq!(message::to_bytes(&read, mark), bytes);
+            assert_eq!(message::read(&bytes, !mark), Err(Refusal::Foreign));
+        }
     }
+}
+
+#[test]
+fn a_written_message_leaves_the_rest_of_the_buffer() {
+    let edit = Edit { operation: Operation::Trim, curve: 3, x: 1.0, y: 2.0 };
+    let message = Message { number: 1, edit };
+    let mut out = [0xaa; 40];
+    assert_eq!(message::write(&message, 5, &mut out), Ok(38));
+    assert_eq!(out[..38], message::to_bytes(&message, 5));
+    assert_eq!(out[38..], [0xaa; 2]);
+    let mut short = [0xaa; 37];
+    assert_eq!(message::write(&message, 5, &mut short), Err(Refusal::Buffer));
+    assert_eq!(short, [0xaa; 37]);
 }
 
 #[test]
@@ -84,7 +110,7 @@ fn recorded_lists_are_the_same_each_time_and_hold_every_outcome() {
     for outcome in 0..=5 {
         assert!(images.outcomes().contains(&outcome), "no image with outcome {outcome}");
     }
-    for outcome in [0, 1, 2, 6] {
+    for outcome in [0, 1, 2, 6, 28] {
         assert!(messages.outcomes().contains(&outcome), "no message with outcome {outcome}");
     }
     let largest = (image::MAX_SIZE as u32).to_be_bytes();

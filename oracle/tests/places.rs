@@ -7,7 +7,7 @@ use oracle::edit::{apply, Refused};
 use oracle::examples::{curve, l, line, point};
 use oracle::generate::{calls, random::Random};
 use oracle::image;
-use oracle::message::{self, Edit, Message, Operation};
+use oracle::message::{self, Edit, Mark, Message, Operation, MARK_AT, OPERATION_AT, VERSION_AT};
 use oracle::refusal::Refusal;
 use oracle::replication::Replica;
 use oracle::steps::State;
@@ -27,6 +27,7 @@ fn upright(height: f64, relations: &[Relation]) -> Drawing {
     l_and(point(4, 9.0, -1.0), point(5, 9.0, height), relations)
 }
 
+const MARK: Mark = 7;
 const BY_END: Edit = Edit { operation: Operation::Extend, curve: 3, x: 4.0, y: 0.0 };
 
 fn length(line: Id, value: f64) -> Relation {
@@ -41,13 +42,13 @@ fn distance(p: Id, q: Id, value: f64) -> Relation {
 fn assert_refused(drawing: &Drawing, edit: Edit, refusal: Refusal, place: Option<usize>) {
     let refused = Refused { refusal, place };
     assert_eq!(apply(drawing, &edit), Err(refused), "{edit:?} of {drawing:?}");
-    let start = Replica::new(drawing.clone());
+    let start = Replica::new(drawing.clone(), MARK);
     let (mut desk, mut wall) = (start.clone(), start.clone());
-    let message = message::to_bytes(&Message { number: 1, edit });
+    let message = message::to_bytes(&Message { number: 1, edit }, MARK);
     assert_eq!(desk.edit(&edit, &mut [0; message::SIZE]), Err(refused));
     assert_eq!(wall.deliver(&message), Err(refused));
     assert_eq!((&desk, &wall), (&start, &start));
-    let state = State { image: image::to_bytes(drawing), count: 0 };
+    let state = State { image: image::to_bytes(drawing), mark: MARK, count: 0 };
     let answer = u32::from(refusal.number()) + 65_536 * place.unwrap_or(0) as u32;
     assert_eq!(state.edit(&edit, &mut [0; message::SIZE]).answer, answer);
     assert_eq!(state.deliver(&message).answer, answer);
@@ -177,20 +178,21 @@ fn no_other_refusal_of_an_edit_has_a_place() {
 fn no_refusal_of_memory_numbers_or_messages_has_a_place() {
     let unmet = upright(1.0, &[length(6, 2.0), length(6, 3.0)]);
     let refused = |refusal| Some(Refused { refusal, place: None });
-    let mut desk = Replica::new(unmet.clone());
+    let mut desk = Replica::new(unmet.clone(), MARK);
     assert_eq!(desk.edit(&BY_END, &mut [0; message::SIZE - 1]).err(), refused(Refusal::Buffer));
     desk.count = u32::MAX;
     assert_eq!(desk.edit(&BY_END, &mut [0; message::SIZE]).err(), refused(Refusal::Numbers));
-    let mut wall = Replica::new(unmet);
-    let bytes = message::to_bytes(&Message { number: 2, edit: BY_END });
+    let mut wall = Replica::new(unmet, MARK);
+    let bytes = message::to_bytes(&Message { number: 2, edit: BY_END }, MARK);
     let with = |at: usize, value: u8| {
         let mut changed = bytes;
         changed[at] = value;
         changed
     };
-    assert_eq!(wall.deliver(&bytes[..29]).err(), refused(Refusal::Length));
-    assert_eq!(wall.deliver(&with(4, 9)).err(), refused(Refusal::Version));
-    assert_eq!(wall.deliver(&with(9, 0)).err(), refused(Refusal::Operation));
+    assert_eq!(wall.deliver(&bytes[..message::SIZE - 1]).err(), refused(Refusal::Length));
+    assert_eq!(wall.deliver(&with(VERSION_AT, 9)).err(), refused(Refusal::Version));
+    assert_eq!(wall.deliver(&with(MARK_AT, 9)).err(), refused(Refusal::Foreign));
+    assert_eq!(wall.deliver(&with(OPERATION_AT, 0)).err(), refused(Refusal::Operation));
     assert_eq!(wall.deliver(&bytes).err(), refused(Refusal::Ahead));
 }
 

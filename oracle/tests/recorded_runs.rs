@@ -3,7 +3,8 @@
 #![cfg(upstream)]
 
 use oracle::bytes::u32_at;
-use oracle::program::{self, MAX_INPUT};
+use oracle::message::SIZE;
+use oracle::program::{self, Parts, MAX_INPUT};
 use oracle::recording::{self, OLD, SEED};
 
 #[test]
@@ -16,7 +17,7 @@ fn the_recorded_runs_are_the_same_each_time_and_hold_every_outcome() {
     }
     // A delivery brings no image (3 to 5), no search of its own (20, 21) and no buffer (25).
     let coverage = recording::run_coverage(&runs);
-    for outcome in (0..=2).chain(6..=19).chain(22..=24).chain([OLD]) {
+    for outcome in (0..=2).chain(6..=19).chain(22..=24).chain([28, OLD]) {
         assert!(coverage.contains_key(&outcome), "no delivery with outcome {outcome}");
     }
 }
@@ -39,16 +40,16 @@ fn an_entry_holds_a_run_and_what_it_writes() {
 fn the_runs_about_the_limit_depend_on_it() {
     let runs = recording::runs(SEED);
     let near = runs.entries().map(|(_, entry)| &entry[4..][..u32_at(entry, 0) as usize]);
-    let mut count = 0;
+    let mut rests = Vec::new();
     for input in near.filter(|input| input.len() > MAX_INPUT) {
-        let shorter = &input[..MAX_INPUT - 30];
+        let shorter = &input[..MAX_INPUT - SIZE];
         assert_ne!(program::run(input), program::run(shorter));
-        // The last two messages moved to the front, where they are read.
-        let last = [30, 60].map(|from_end| &input[input.len() - from_end..][..30]);
-        let image_end = program::image_end(input);
-        let whole = [&input[..image_end + 30], last[1], last[0]].concat();
+        // The first message and the last two, all of which are then read.
+        let Parts { image, mark, messages } = Parts::of(input);
+        let last_two = &input[input.len() - 2 * SIZE..];
+        let whole = [image, mark, &messages[..SIZE], last_two].concat();
         assert_ne!(program::run(input), program::run(&whole));
-        count += 1;
+        rests.push(messages.len() % SIZE);
     }
-    assert_eq!(count, 2);
+    assert!(rests.len() == 2 && rests[0] == 0 && rests[1] > 0, "{rests:?}");
 }

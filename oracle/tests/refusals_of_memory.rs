@@ -8,7 +8,7 @@ use oracle::drawing::*;
 use oracle::edit::apply;
 use oracle::examples::{curve, l, line, point, t};
 use oracle::image;
-use oracle::message::Edit;
+use oracle::message::{self, Edit};
 use oracle::refusal::Refusal;
 use oracle::replication::Replica;
 use oracle::roots::{roots, Search, BUFFER};
@@ -60,9 +60,9 @@ fn refusal_23_numbers() {
     drawing.next_id = Id::MAX - 2;
     assert!(apply(&drawing, &Edit { operation: SPLIT, curve: 3, x: 2.0, y: 0.0 }).is_ok());
     // The edit number, before anything of the edit itself.
-    let mut desk = Replica { drawing: l(), count: u32::MAX };
+    let mut desk = Replica { drawing: l(), mark: 0, count: u32::MAX };
     let edit = Edit { operation: SPLIT, curve: 99, x: f64::NAN, y: 0.0 };
-    assert_eq!(desk.edit(&edit, &mut [0; 30]), Err(Refusal::Numbers.into()));
+    assert_eq!(desk.edit(&edit, &mut [0; message::SIZE]), Err(Refusal::Numbers.into()));
 }
 
 #[test]
@@ -81,9 +81,9 @@ fn refusal_24_coordinate() {
 
 #[test]
 fn refusal_25_buffer() {
-    let mut desk = Replica::new(l());
+    let mut desk = Replica::new(l(), 0);
     let edit = Edit { operation: SPLIT, curve: 3, x: 2.0, y: 0.0 };
-    assert_eq!(desk.edit(&edit, &mut [0; 29]), Err(Refusal::Buffer.into()));
+    assert_eq!(desk.edit(&edit, &mut [0; 37]), Err(Refusal::Buffer.into()));
     let size = image::size(&l());
     assert_eq!(image::write(&l(), &mut vec![0; size - 1]), Err(Refusal::Buffer));
     assert_eq!(image::write(&l(), &mut vec![0; size]), Ok(size));

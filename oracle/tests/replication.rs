@@ -2,25 +2,25 @@
 #![cfg(upstream)]
 
 use oracle::call::answer;
-use oracle::drawing::Drawing;
 use oracle::examples::{l, t};
-use oracle::generate::{bridges, edits, random::Random, runs::Run};
+use oracle::generate::{bridges, edits, marks, random::Random, runs::Run};
 use oracle::image;
-use oracle::message::{self, Edit, Operation};
+use oracle::message::{self, Edit, Mark, Operation, MARK_SIZE, OPERATION_AT};
 use oracle::program;
 use oracle::replication::{Delivery, Replica};
 use oracle::steps::State;
 
+const MARK: Mark = 0x0123_4567_89ab_cdef;
 const SPLIT: Edit = Edit { operation: Operation::Split, curve: 3, x: 1.0, y: 3.0 };
 
 #[test]
 fn a_wall_follows_its_desk() {
     let mut random = Random::new(21);
     for _ in 0..500 {
-        let start = bridges::any_drawing(&mut random);
-        let mut desk = Replica::new(start.clone());
+        let (start, mark) = (bridges::any_drawing(&mut random), marks::mark(&mut random));
+        let mut desk = Replica::new(start.clone(), mark);
         let (mut wall, mut out) = (desk.clone(), [0; message::SIZE]);
-        let mut input = image::to_bytes(&start);
+        let mut input = [&image::to_bytes(&start)[..], &mark.to_be_bytes()].concat();
         for _ in 0..8 {
             let edit = edits::edit(&mut random, &desk.drawing);
             let before = desk.clone();
@@ -43,13 +43,15 @@ fn a_wall_follows_its_desk() {
 
 #[test]
 fn a_refused_edit_writes_no_message() {
-    let mut desk = Replica::new(l());
-    let mut out = [0x55; 40];
+    let mut desk = Replica::new(l(), MARK);
+    let mut out = [0x55; 50];
     assert!(desk.edit(&Edit { curve: 9, ..SPLIT }, &mut out).is_err());
-    assert_eq!(out, [0x55; 40]);
+    assert_eq!(out, [0x55; 50]);
     assert!(desk.edit(&SPLIT, &mut out).is_ok());
-    assert_eq!(out[..10], [0, 0, 0, 26, 1, 0, 0, 0, 1, 2]);
-    assert_eq!(out[30..], [0x55; 10]);
+    assert_eq!(out[..5], [0, 0, 0, 34, 2]);
+    assert_eq!(out[5..13], MARK.to_be_bytes());
+    assert_eq!(out[13..18], [0, 0, 0, 1, 2]);
+    assert_eq!(out[38..], [0x55; 12]);
 }
 
 #[test]
@@ -64,26 +66,28 @@ fn the_program_answers_a_refused_image_with_its_number() {
 
 #[test]
 fn the_program_passes_over_refused_messages_and_a_shorter_rest() {
-    let mut desk = Replica::new(l());
+    let mut desk = Replica::new(l(), MARK);
     let mut out = [0; message::SIZE];
     desk.edit(&SPLIT, &mut out).expect("the example is accepted");
     let mut damaged = out;
-    damaged[9] = 9;
-    let input = [&image::to_bytes(&l())[..], &damaged, &out, &out, &out[..7]].concat();
+    damaged[OPERATION_AT] = 9;
+    let image = image::to_bytes(&l());
+    let input = [&image[..], &MARK.to_be_bytes(), &damaged, &out, &out, &out[..7]].concat();
     assert_eq!(program::run(&input), image::to_bytes(&desk.drawing));
 }
 
 #[test]
 fn the_program_reads_no_further_than_its_limit() {
-    let mut desk = Replica::new(l());
+    let mut desk = Replica::new(l(), MARK);
     let mut out = [0; message::SIZE];
     desk.edit(&SPLIT, &mut out).expect("the example is accepted");
     let image = image::to_bytes(&l());
-    let fill = (program::MAX_INPUT - image.len()) / message::SIZE;
+    let start = [&image[..], &MARK.to_be_bytes()].concat();
+    let fill = (program::MAX_INPUT - start.len()) / message::SIZE;
     let refused = [7; message::SIZE];
     let run = |before: usize| {
         let messages = std::iter::repeat_n(refused, before).chain([out]).flatten();
-        program::run(&image.iter().copied().chain(messages).collect::<Vec<u8>>())
+        program::run(&start.iter().copied().chain(messages).collect::<Vec<u8>>())
     };
     assert_eq!(run(fill - 1), image::to_bytes(&desk.drawing));
     assert_eq!(run(fill), image);
@@ -94,7 +98,9 @@ fn states_in_a_callers_hands_follow_desk_and_wall() {
     let mut random = Random::new(22);
     for _ in 0..300 {
         let run = Run::any(&mut random);
-        let (mut desk, mut replica) = (state(&run.start), Replica::new(run.start.clone()));
+        let mut replica = Replica::new(run.start.clone(), run.mark);
+        let start = state(&replica);
+        let mut desk = start.clone();
         for (edit, room) in &run.calls {
             let (mut out, mut other) = (vec![0; *room], vec![0; *room]);
             let step = desk.edit(edit, &mut out);
@@ -103,16 +109,16 @@ fn states_in_a_callers_hands_follow_desk_and_wall() {
             assert_eq!((step.answer, step.report), (answer, outcome.unwrap_or_default()));
             assert_eq!(out, other);
             desk = step.state;
-            assert_eq!(desk, State { count: replica.count, ..state(&replica.drawing) });
+            assert_eq!(desk, state(&replica));
         }
-        let mut wall = state(&run.start);
-        for bytes in run.input()[wall.image.len()..].chunks(message::SIZE) {
+        let mut wall = start;
+        for bytes in run.input()[wall.image.len() + MARK_SIZE..].chunks(message::SIZE) {
             wall = wall.deliver(bytes).state;
         }
         assert_eq!(program::run(&run.input()), wall.image);
     }
 }
 
-fn state(drawing: &Drawing) -> State {
-    State { image: image::to_bytes(drawing), count: 0 }
+fn state(Replica { drawing, mark, count }: &Replica) -> State {
+    State { image: image::to_bytes(drawing), mark: *mark, count: *count }
 }

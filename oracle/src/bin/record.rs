@@ -1,6 +1,7 @@
 //! Writes the recorded answers, one file a subject, into the folder given as argument.
 
 use oracle::recording::{self, List, SEED};
+use oracle::refusal::OUTCOMES;
 use oracle::upstream;
 use std::path::Path;
 
@@ -40,7 +41,7 @@ fn print_coverage(edits: &List<()>) {
 
 fn write<T>(folder: &Path, name: &str, list: &List<T>) -> std::io::Result<()> {
     std::fs::write(folder.join(name), list.bytes())?;
-    let mut counts = [0; 26];
+    let mut counts = [0; OUTCOMES];
     for outcome in list.outcomes() {
         counts[usize::from(*outcome)] += 1;
     }

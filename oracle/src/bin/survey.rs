@@ -6,7 +6,7 @@
 use oracle::arguments;
 use oracle::edit;
 use oracle::generate::coverage::Coverage;
-use oracle::generate::{bridges, edits, polynomials, random::Random};
+use oracle::generate::{bridges, edits, marks, polynomials, random::Random};
 use oracle::message;
 use oracle::refusal::number_of;
 use oracle::replication::{Delivery, Replica};
@@ -35,8 +35,8 @@ fn report(name: &str, rounds: u64, round: fn(&mut Random, &mut Coverage), seed: 
 
 /// A desk makes some edits; a wall gets each message twice and must end with the same image.
 fn survey_edits(random: &mut Random, coverage: &mut Coverage) {
-    let drawing = bridges::any_drawing(random);
-    let (mut desk, mut wall) = (Replica::new(drawing.clone()), Replica::new(drawing));
+    let (drawing, mark) = (bridges::any_drawing(random), marks::mark(random));
+    let (mut desk, mut wall) = (Replica::new(drawing.clone(), mark), Replica::new(drawing, mark));
     let mut out = [0; message::SIZE];
     for _ in 0..EDITS {
         let edit = edits::edit(random, &desk.drawing);

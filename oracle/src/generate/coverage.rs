@@ -2,10 +2,8 @@
 
 use crate::drawing::Drawing;
 use crate::message::Operation;
-use crate::refusal::Refusal;
+use crate::refusal::OUTCOMES;
 use std::fmt;
-
-const OUTCOMES: usize = *Refusal::NUMBERS.end() as usize + 1;
 
 /// How often each outcome, overall or by operation, each curve kind and relation kind came up.
 #[derive(Clone, Default)]

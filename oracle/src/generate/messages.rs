@@ -1,8 +1,9 @@
 //! Edits, their messages, and damaged messages.
 
+use super::marks;
 use super::numbers::EDGE_FLOATS;
 use super::random::Random;
-use crate::bytes::put;
+use crate::bytes::{put, u64_at};
 use crate::drawing::Id;
 use crate::message::*;
 
@@ -33,40 +34,100 @@ fn coordinate(random: &mut Random) -> f64 {
     }
 }
 
-/// The bytes of a message, two thirds of them damaged.
-pub fn message_bytes(random: &mut Random) -> Vec<u8> {
-    let mut bytes = to_bytes(&message(random)).to_vec();
+/// The bytes of a message under a mark, two thirds of them damaged.
+pub fn message_bytes(random: &mut Random, mark: Mark) -> Vec<u8> {
+    let mut bytes = to_bytes(&message(random), mark).to_vec();
     if !random.one_in(3) {
         damage(random, &mut bytes);
     }
     bytes
 }
 
-/// One fault, at times a second one.
+/// The mark of a wall, and bytes for it: a message of its own desk or another's, mostly damaged.
+pub fn delivery(random: &mut Random) -> (Mark, Vec<u8>) {
+    let own = marks::mark(random);
+    let mark = marks::delivered(random, own);
+    (own, message_bytes(random, mark))
+}
+
+/// A fault of a message.
+#[derive(Clone, Copy, Debug, PartialEq, Eq, PartialOrd, Ord)]
+pub enum Fault {
+    Size,
+    Length,
+    Version,
+    Mark,
+    Number,
+    Operation,
+    /// A float field at an edge of what it may hold, which is for the edit to judge.
+    Pick,
+    /// Any byte.
+    Byte,
+}
+
+const FAULTS: [(usize, Fault); 8] = [
+    (3, Fault::Size),
+    (1, Fault::Length),
+    (1, Fault::Version),
+    (3, Fault::Mark),
+    (1, Fault::Number),
+    (1, Fault::Operation),
+    (1, Fault::Pick),
+    (1, Fault::Byte),
+];
+
+/// One fault of a message as a desk writes it, at times a second one, which shows which test comes first.
 pub fn damage(random: &mut Random, bytes: &mut Vec<u8>) {
-    match random.below(9) {
-        0 => bytes.truncate(random.below(SIZE)),
-        1 => bytes.truncate(random.pick(&[0, 1, 3, 4, 5, 6, 29])),
-        2 => bytes.resize(random.pick(&[31, 32, 34, 38, 60]), 0),
-        3 => {
-            let length = random.pick(&[0, 1, 25, 27, 30, 34, 26 << 24, u32::MAX]);
-            put(bytes, 0, length.to_be_bytes());
+    for _ in 0..random.weighted(&[(3, 1), (1, 2)]) {
+        let fault = random.weighted(&FAULTS);
+        spoil(random, bytes, fault);
+    }
+}
+
+/// Puts a fault into a message; one that is cut short of the field stays as it is.
+pub fn spoil(random: &mut Random, bytes: &mut Vec<u8>, fault: Fault) {
+    match fault {
+        Fault::Size => resize(random, bytes),
+        Fault::Length => {
+            let lengths = [0, 1, LENGTH - 1, LENGTH + 1, SIZE as u32, 26, LENGTH << 24, u32::MAX];
+            set(bytes, 0, random.pick(&lengths).to_be_bytes());
         }
-        4 => bytes[4] = random.pick(&[0, 2, 3, 255]),
-        5 => put(bytes, 5, random.pick(&[0u32, 0, 1, 1 << 24, u32::MAX]).to_be_bytes()),
-        6 => bytes[9] = random.pick(&[0, 4, 5, 255]),
-        7 => {
-            let at = random.pick(&[14, 22]);
-            put(bytes, at, random.pick(&EDGE_FLOATS).to_be_bytes());
+        Fault::Version => set(bytes, VERSION_AT, [random.pick(&[0, 1, 3, 255])]),
+        Fault::Mark => {
+            if bytes.len() >= NUMBER_AT {
+                let foreign = marks::foreign(random, u64_at(bytes, MARK_AT));
+                set(bytes, MARK_AT, foreign.to_be_bytes());
+            }
         }
-        _ => {
+        Fault::Number => {
+            let number = random.pick(&[0u32, 0, 1, 1 << 24, u32::MAX]);
+            set(bytes, NUMBER_AT, number.to_be_bytes());
+        }
+        Fault::Operation => set(bytes, OPERATION_AT, [random.pick(&[0, 4, 5, 255])]),
+        Fault::Pick => {
+            let at = random.pick(&[X_AT, Y_AT]);
+            set(bytes, at, random.pick(&EDGE_FLOATS).to_be_bytes());
+        }
+        Fault::Byte => {
             let at = random.below(SIZE);
-            bytes[at] = random.bits() as u8;
+            set(bytes, at, [random.bits() as u8]);
         }
     }
-    // A second fault shows which test comes first.
-    if random.one_in(4) && bytes.len() > 10 {
-        let at = random.pick(&[0, 3, 4, 5, 8, 9]);
-        bytes[at] = random.pick(&[0, 1, 2, 26, 255]);
+}
+
+/// Cuts the bytes or appends some: by a few at the end, anywhere, to a field's end, or to the 30 of
+/// version 1.
+fn resize(random: &mut Random, bytes: &mut Vec<u8>) {
+    let anywhere = random.below(SIZE);
+    let fields = [VERSION_AT, MARK_AT, NUMBER_AT, OPERATION_AT, CURVE_AT, X_AT, Y_AT];
+    let field = random.pick(&fields);
+    let size =
+        random.pick(&[0, 1, 3, field, field, anywhere, anywhere, 30, SIZE - 1, SIZE + 1, 2 * SIZE]);
+    bytes.resize(size, 0);
+}
+
+fn set<const N: usize>(bytes: &mut [u8], at: usize, value: [u8; N]) {
+    if bytes.len() >= at + N {
+        put(bytes, at, value);
     }
 }

@@ -14,6 +14,7 @@ pub mod fields;
 pub mod figures;
 pub mod frame;
 pub mod lists;
+pub mod marks;
 pub mod messages;
 pub mod near_misses;
 pub mod near_relations;

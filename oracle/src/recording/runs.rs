@@ -4,12 +4,13 @@
 //! input, and the bytes that the program writes for it. The outcome is that of the image.
 
 use super::List;
-use crate::bytes::u32_at;
-use crate::examples::{l, point, t};
+use crate::bytes::{put, u32_at};
+use crate::drawing::Relation;
+use crate::examples::{l, t};
 use crate::generate::{random::Random, runs};
 use crate::image::{self, HEADER_SIZE};
-use crate::message::{self, Edit, Message, Operation};
-use crate::program::{self, image_end, MAX_INPUT};
+use crate::message::{self, Edit, Mark, Message, Operation, MARK_SIZE, OPERATION_AT};
+use crate::program::{self, Parts, MAX_INPUT};
 use crate::refusal::Refusal;
 use crate::replication::Delivery;
 use std::collections::{BTreeMap, BTreeSet};
@@ -21,10 +22,13 @@ const CHOICE: usize = 20_000;
 /// How many runs of each sort are recorded, and how large their inputs may be.
 const EACH: usize = 3;
 const LARGEST: usize = 7_000;
+/// The mark of the runs that are not generated.
+const MARK: Mark = 0x0123_4567_89ab_cdef;
 
 pub fn runs(seed: u64) -> List<()> {
     let mut list = List::new(outcome_of);
     add_short_inputs(&mut list);
+    add_marks(&mut list);
     add_limits(&mut list);
     let mut random = Random::new(seed);
     let mut taken: BTreeMap<Sort, usize> = BTreeMap::new();
@@ -53,7 +57,7 @@ pub fn run_coverage(list: &List<()>) -> BTreeMap<u8, usize> {
 }
 
 /// Stands for a message whose edit was applied before.
-pub const OLD: u8 = 26;
+pub const OLD: u8 = u8::MAX;
 
 fn program_input(entry: &[u8]) -> &[u8] {
     &entry[HEADER..][..u32_at(entry, 0) as usize]
@@ -61,8 +65,7 @@ fn program_input(entry: &[u8]) -> &[u8] {
 
 /// The outcome of the image that an entry's run begins with.
 fn outcome_of(entry: &[u8]) -> Result<(), Refusal> {
-    let input = program_input(entry);
-    image::read(&input[..image_end(input)]).map(|_| ())
+    image::read(Parts::of(program_input(entry)).image).map(|_| ())
 }
 
 fn add(list: &mut List<()>, input: &[u8]) {
@@ -89,31 +92,36 @@ enum Sort {
     Image(u8),
     /// The outcome of a delivery, and the message's operation byte if it is long enough for one.
     Delivered(u8, Option<u8>),
-    /// A delivery and the one behind it: applied, old, ahead or refused otherwise.
+    /// A delivery and the one behind it: applied, old, ahead, foreign or refused otherwise.
     Followed(u8, u8),
     /// The number of edits applied, in fours, rounded up.
     Applied(usize),
+    /// There are so many bytes of the mark, fewer than it has.
+    MarkCut(usize),
     /// The last message is cut short.
     Rest,
 }
 
 fn sorts(input: &[u8]) -> BTreeSet<Sort> {
-    let (image, messages) = input.split_at(image_end(input));
+    let Parts { image, mark, messages } = Parts::of(input);
     if let Err(refusal) = image::read(image) {
         return BTreeSet::from([Sort::Image(refusal.number())]);
     }
     let outcomes = deliveries(input);
-    let operations = messages.chunks(message::SIZE).map(|bytes| bytes.get(9).copied());
+    let operations = messages.chunks(message::SIZE).map(|bytes| bytes.get(OPERATION_AT).copied());
     let mut sorts: BTreeSet<Sort> = outcomes
         .iter()
         .zip(operations)
         .map(|(outcome, operation)| Sort::Delivered(*outcome, operation.filter(|code| *code < 4)))
         .collect();
-    let broad = |outcome| if [0, OLD, 7].contains(&outcome) { outcome } else { 1 };
+    let broad = |outcome| if [0, OLD, 7, 28].contains(&outcome) { outcome } else { 1 };
     sorts.extend(outcomes.windows(2).map(|pair| Sort::Followed(broad(pair[0]), broad(pair[1]))));
     sorts.insert(Sort::Applied(
         outcomes.iter().filter(|outcome| **outcome == 0).count().div_ceil(4),
     ));
+    if mark.len() < MARK_SIZE {
+        sorts.insert(Sort::MarkCut(mark.len()));
+    }
     if !messages.len().is_multiple_of(message::SIZE) {
         sorts.insert(Sort::Rest);
     }
@@ -121,25 +129,43 @@ fn sorts(input: &[u8]) -> BTreeSet<Sort> {
 }
 
 /// The message of an edit of the line 3.
-fn message(number: u32, operation: Operation, x: f64) -> Vec<u8> {
-    message::to_bytes(&Message { number, edit: Edit { operation, curve: 3, x, y: 0.0 } }).to_vec()
+fn message(mark: Mark, number: u32, operation: Operation, x: f64) -> Vec<u8> {
+    let edit = Edit { operation, curve: 3, x, y: 0.0 };
+    message::to_bytes(&Message { number, edit }, mark).to_vec()
 }
 
-/// An image cut at each length of its header and one short of its end; a message cut at several
-/// lengths.
+/// An image, a mark and a message, cut at each length of the image's header and at each from one short
+/// of the image's end on; the same with a wrong length of the image.
 fn add_short_inputs(list: &mut List<()>) {
     let image = image::to_bytes(&l());
-    let whole = [&image[..], &message(1, Operation::Split, 1.0)].concat();
-    for size in (0..=HEADER_SIZE).chain([image.len() - 1]) {
+    let split = message(MARK, 1, Operation::Split, 1.0);
+    let whole = [&image[..], &MARK.to_be_bytes(), &split].concat();
+    for size in (0..=HEADER_SIZE).chain(image.len() - 1..=whole.len()) {
         add(list, &whole[..size]);
-    }
-    for size in [0, 1, 4, 5, 29, 30] {
-        add(list, &whole[..image.len() + size]);
     }
     for length in [0, 1, 11, 12, u32::MAX] {
         let mut whole = whole.clone();
-        whole[..HEADER].copy_from_slice(&length.to_be_bytes());
+        put(&mut whole, 0, length.to_be_bytes());
         add(list, &whole);
+    }
+}
+
+/// Splits under the wall's mark and under others: alone, before the wall's own, between them, and with
+/// no mark between the image and the messages.
+fn add_marks(list: &mut List<()>) {
+    let image = image::to_bytes(&l());
+    let split = |mark, number, x| message(mark, number, Operation::Split, x);
+    for own in [MARK, 0, Mark::MAX] {
+        let (first, second) = (split(own, 1, 1.0), split(own, 2, 0.5));
+        let start = [&image[..], &own.to_be_bytes()].concat();
+        add(list, &[&image[..], &first, &second].concat());
+        for other in [0, Mark::MAX, own.wrapping_add(1), own ^ 1 << 63, own.swap_bytes()] {
+            let [foreign_first, foreign_second] = [1, 2].map(|number| split(other, number, 0.25));
+            add(list, &[&start[..], &foreign_first, &foreign_second].concat());
+            add(list, &[&start[..], &foreign_first, &first, &second].concat());
+            let between = [&first, &foreign_first, &foreign_second, &second].map(Vec::as_slice);
+            add(list, &[&start[..], &between.concat()].concat());
+        }
     }
 }
 
@@ -148,15 +174,14 @@ fn add_short_inputs(list: &mut List<()>) {
 fn add_limits(list: &mut List<()>) {
     let mut drawing = t();
     for _ in 0..2 {
-        let id = drawing.next_id;
-        drawing.points.extend([id, id + 1, id + 2].map(|id| point(id, 9.0, 9.0)));
-        drawing.next_id += 3;
+        drawing.relations.extend([Relation::Length { line: 6, value: 2.0 }; 3]);
         let mut input = image::to_bytes(&drawing);
+        input.extend(MARK.to_be_bytes());
         while input.len() + 2 * message::SIZE <= MAX_INPUT {
-            input.extend(message(1, Operation::Trim, 0.5));
+            input.extend(message(MARK, 1, Operation::Trim, 0.5));
         }
-        input.extend(message(2, Operation::Split, 3.0));
-        input.extend(message(3, Operation::Split, 2.0));
+        input.extend(message(MARK, 2, Operation::Split, 3.0));
+        input.extend(message(MARK, 3, Operation::Split, 2.0));
         add(list, &input);
     }
 }
