@@ -28,8 +28,27 @@ pub const GREATEST_COORDINATE: f64 = 1e6;
 pub const RADIUS: RangeInclusive<f64> = 1e-6..=1e6;
 pub const VALUE: RangeInclusive<f64> = 0.0..=4e6;
 
-/// Where the fields of a message stand that come after its length and version, each with the highest
-/// byte first.
+/// Where the fields of a message stand behind its length and version, each with the highest byte first.
+///
+/// ```
+/// use mulkefi::message::{CURVE_AT, MARK_AT, NUMBER_AT, OPERATION_AT, X_AT, Y_AT};
+/// use mulkefi::{Desk, Drawing, Edit, Kind, Mark, Operation};
+///
+/// let mut drawing = Drawing::new();
+/// let (a, b) = (drawing.add_point(0.0, 0.0), drawing.add_point(4.0, 0.0));
+/// let curve = drawing.add_curve(Kind::Line { a, b });
+/// let mut desk = Desk::start(&drawing.to_image(), Mark::from(0x0102_0304_0506_0708))?;
+/// let edit = Edit { operation: Operation::Split, curve, x: 1.0, y: 3.0 };
+/// let message = desk.edit(&edit)?.message;
+/// assert_eq!(message[..MARK_AT], [0, 0, 0, 34, 2]);
+/// assert_eq!(message[MARK_AT..NUMBER_AT], desk.mark().to_bytes());
+/// assert_eq!(message[NUMBER_AT..OPERATION_AT], desk.count().to_be_bytes());
+/// assert_eq!(message[OPERATION_AT..CURVE_AT], [edit.operation.code()]);
+/// assert_eq!(message[CURVE_AT..X_AT], edit.curve.to_be_bytes());
+/// assert_eq!(message[X_AT..Y_AT], edit.x.to_be_bytes());
+/// assert_eq!(message[Y_AT..], edit.y.to_be_bytes());
+/// # Ok::<(), mulkefi::Refusal>(())
+/// ```
 pub mod message {
     /// Eight bytes.
     pub const MARK_AT: usize = 5;

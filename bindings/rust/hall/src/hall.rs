@@ -7,8 +7,10 @@ use mulkefi::{Edit, Mark, Refusal};
 
 /// How many random edits each desk is asked for after its script.
 const RANDOM_EDITS: usize = 24;
-/// How many messages of a desk are sent again before its wall's count is looked at.
+/// How many messages of a desk are sent again before its wall's count is looked at, and how often this is
+/// done before it is given up.
 const AT_A_TIME: usize = 3;
+const MOST_ROUNDS: usize = 1_000;
 
 pub struct Hall {
     pub simulations: Vec<Simulation>,
@@ -80,7 +82,7 @@ impl Hall {
     /// Sends again what walls lack, a few messages at a time and by the same radio, until no wall lacks
     /// any.
     fn catch_up(&mut self) -> Result<(), String> {
-        loop {
+        for _ in 0..MOST_ROUNDS {
             let lacking = self.simulations.iter().flat_map(|one| one.lacking(AT_A_TIME));
             let lacking: Vec<Message> = lacking.copied().collect();
             if lacking.is_empty() {
@@ -89,6 +91,7 @@ impl Hall {
             lacking.into_iter().try_for_each(|message| self.send(message))?;
             self.deliver_rest()?;
         }
+        Err(format!("walls do not catch up in {MOST_ROUNDS} rounds"))
     }
 
     /// What became of the messages of one desk.

@@ -128,7 +128,7 @@ impl Simulation {
     /// wall catches up; a neighbour's must be refused by its mark, and nothing else may be.
     pub fn deliver(&mut self, message: &Message) -> Result<(), String> {
         let before = drawing_of(self.wall.image());
-        let is_own = Mark::of_message(message) == Some(self.desk.mark());
+        let is_own = self.messages.contains(message);
         match (is_own, self.wall.deliver(message)) {
             (true, Ok(Delivery::Old)) => self.tally.old += 1,
             (true, Ok(Delivery::Applied(report))) => self.follow_at_wall(&before, message, &report),
