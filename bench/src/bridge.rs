@@ -7,7 +7,7 @@ use oracle::convert::{curve_place, to_sketch};
 use oracle::drawing::{Drawing, Id};
 use oracle::edit::{apply, edit_sketch};
 use oracle::generate::{bridges, edits, random::Random};
-use oracle::message::{self, Edit, Message, Operation};
+use oracle::message::{self, Edit, Mark, Message, Operation};
 use oracle::{upstream, validity};
 
 const BRIDGES: usize = 8;
@@ -17,6 +17,8 @@ const RELATIONS: usize = 20;
 /// How many picks are tried on a bridge before it is given up.
 const MOST_TRIES: usize = 4000;
 
+/// The mark of every desk and wall.
+pub const MARK: Mark = 0x0123_4567_89ab_cdef;
 /// Curves of the bridges.
 pub const SIZES: [usize; 3] = [10, 60, 124];
 
@@ -66,24 +68,25 @@ impl Sample {
         sketch
     }
 
-    /// The message of the edit under a number, of a curve that may be another.
-    pub fn message(&self, number: u32, curve: Id) -> [u8; message::SIZE] {
-        message::to_bytes(&Message { number, edit: Edit { curve, ..self.edit } })
+    /// The message of the edit under a mark and a number, of a curve that may be another.
+    pub fn message(&self, mark: Mark, number: u32, curve: Id) -> [u8; message::SIZE] {
+        message::to_bytes(&Message { number, edit: Edit { curve, ..self.edit } }, mark)
     }
 
     /// The Rust's desk with the engine's tests: as `tested`, then the message.
     pub fn desk(&self, count: u32, out: &mut [u8]) -> Sketch {
         let number = count.checked_add(1).expect("a number is left");
         let sketch = self.tested();
-        message::write(&Message { number, edit: self.edit }, out).expect("room for a message");
+        let message = Message { number, edit: self.edit };
+        message::write(&message, MARK, out).expect("room for a message");
         sketch
     }
 
     /// The Rust's wall with the engine's tests: the drawing's, the message's, then the edit's and the
-    /// edit on a copy. Nothing comes of a message that is old, ahead or refused.
+    /// edit on a copy. Nothing comes of a message that is foreign, old, ahead or refused.
     pub fn deliver(&self, count: u32, bytes: &[u8]) -> Option<Sketch> {
         validity::check(&self.drawing).expect("a good drawing");
-        let message = message::read(bytes).expect("a good message");
+        let message = message::read(bytes, MARK).ok()?;
         if message.number <= count || message.number - count > 1 {
             return None;
         }

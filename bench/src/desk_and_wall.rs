@@ -1,10 +1,11 @@
 //! An edit at a desk and a delivery to a wall: an engine's calls beside the Rust with the same tests.
 
-use crate::bridge::{samples, Sample, SIZES, WORKS};
+use crate::bridge::{samples, Sample, MARK, SIZES, WORKS};
 use crate::timing::{medians_in_turn, Times};
 use cad_sketch::Sketch;
 use oracle::convert::to_drawing;
 use oracle::drawing::Id;
+use oracle::message::Mark;
 use oracle::steps::{State, Step};
 use oracle::{image, message, upstream};
 use std::hint::black_box;
@@ -24,12 +25,12 @@ pub enum Request {
 }
 
 impl Request {
-    fn delivery(sample: &Sample, number: u32, curve: Id) -> Request {
-        Request::Delivery(sample.message(number, curve))
+    fn delivery(sample: &Sample, mark: Mark, number: u32, curve: Id) -> Request {
+        Request::Delivery(sample.message(mark, number, curve))
     }
 
     fn by_oracle(&self, sample: &Sample) -> Step {
-        let state = State { image: sample.call.image.clone(), count: COUNT };
+        let state = State { image: sample.call.image.clone(), mark: MARK, count: COUNT };
         match self {
             Request::Edit => state.edit(&sample.edit, &mut [0; message::SIZE]),
             Request::Delivery(message) => state.deliver(message),
@@ -61,7 +62,7 @@ pub fn run(engine: Engine) {
             let name = format!("{}, {curves} curves", work.name);
             print(&format!("desk: {name}"), &samples, engine, |_| Request::Edit);
             print(&format!("wall: {name}"), &samples, engine, |sample| {
-                Request::delivery(sample, NEXT, sample.call.curve)
+                Request::delivery(sample, MARK, NEXT, sample.call.curve)
             });
         }
     }
@@ -71,14 +72,15 @@ pub fn run(engine: Engine) {
 /// Deliveries that apply no edit.
 fn run_without_edit(curves: usize, engine: Engine) {
     let samples = samples(curves, WORKS[0]);
-    let timed = |message: &str, number, curve: fn(&Sample) -> Id| {
+    let timed = |message: &str, mark, number, curve: fn(&Sample) -> Id| {
         print(&format!("wall: {message}, {curves} curves"), &samples, engine, |sample| {
-            Request::delivery(sample, number, curve(sample))
+            Request::delivery(sample, mark, number, curve(sample))
         });
     };
-    timed("old message", COUNT, |sample| sample.call.curve);
-    timed("message ahead", NEXT + 1, |sample| sample.call.curve);
-    timed("no such curve", NEXT, |_| 0);
+    timed("foreign message", MARK + 1, NEXT, |sample| sample.call.curve);
+    timed("old message", MARK, COUNT, |sample| sample.call.curve);
+    timed("message ahead", MARK, NEXT + 1, |sample| sample.call.curve);
+    timed("no such curve", MARK, NEXT, |_| 0);
 }
 
 /// Nanoseconds a call by side, on average over the samples.

@@ -1,6 +1,6 @@
 //! Desk and wall as the probe calls them, each on an image in a buffer of its own.
 
-use bench::bridge::Sample;
+use bench::bridge::{Sample, MARK};
 use bench::desk_and_wall::{self, Calls, Request, COUNT, REPEATS};
 use engine::replication::{deliver_repeated, desk_repeated, ACCEPTED};
 use oracle::call::Call;
@@ -17,7 +17,7 @@ fn calls<'a>(sample: &'a Sample, request: &'a Request, expected: &Step) -> Calls
         let Call { operation, image, curve, x, y } = black_box(&sample.call);
         let sum = match black_box(request) {
             Request::Edit => desk_repeated(image, COUNT, *operation, *curve, [*x, *y], REPEATS),
-            Request::Delivery(message) => deliver_repeated(image, COUNT, message, REPEATS),
+            Request::Delivery(message) => deliver_repeated(image, COUNT, MARK, message, REPEATS),
         };
         assert_eq!(sum, expected, "the engine does the same");
     })

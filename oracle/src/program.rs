@@ -11,12 +11,15 @@ pub const MAX_INPUT: usize = 65_536;
 
 /// The bytes that the program writes for its input.
 pub fn run(input: &[u8]) -> Vec<u8> {
-    run_watched(input, |_| ())
+    run_watched(input, |_, _| ())
 }
 
-/// `run`, with each delivery's outcome handed to `watch` on the way.
-pub fn run_watched(input: &[u8], mut watch: impl FnMut(&Result<Delivery, Refused>)) -> Vec<u8> {
-    let Parts { image, mark, messages } = Parts::of(input);
+/// `run`, with the bytes and the outcome of each delivery handed to `watch` on the way.
+pub fn run_watched(
+    input: &[u8],
+    mut watch: impl FnMut(&[u8], Result<Delivery, Refused>),
+) -> Vec<u8> {
+    let Parts { image, mark, messages, .. } = Parts::of(input);
     let drawing = match image::read(image) {
         Ok(drawing) => drawing,
         Err(refusal) => return refused(refusal),
@@ -27,24 +30,27 @@ pub fn run_watched(input: &[u8], mut watch: impl FnMut(&Result<Delivery, Refused
     let mut wall = Replica::new(drawing, Mark::from_be_bytes(mark));
     for bytes in messages.chunks(message::SIZE) {
         // A refused message is passed over.
-        watch(&wall.deliver(bytes));
+        watch(bytes, wall.deliver(bytes));
     }
     image::to_bytes(&wall.drawing)
 }
 
-/// What the program looks at, taken apart. Where the input is short there is less of the mark, or none.
+/// An input taken apart as the program does it.
 pub struct Parts<'a> {
     pub image: &'a [u8],
+    /// Eight bytes, or fewer where the input ends there.
     pub mark: &'a [u8],
     pub messages: &'a [u8],
+    /// What is not looked at.
+    pub beyond: &'a [u8],
 }
 
 impl Parts<'_> {
     pub fn of(input: &[u8]) -> Parts<'_> {
-        let input = &input[..input.len().min(MAX_INPUT)];
+        let (input, beyond) = input.split_at(input.len().min(MAX_INPUT));
         let (image, behind) = input.split_at(image_end(input));
         let (mark, messages) = behind.split_at(behind.len().min(MARK_SIZE));
-        Parts { image, mark, messages }
+        Parts { image, mark, messages, beyond }
     }
 }
 

@@ -1,13 +1,15 @@
 //! Images and messages: layout, round trips, and the order of their tests.
 
+use oracle::bytes::u64_at;
 use oracle::drawing::*;
 use oracle::examples::{l, t};
 use oracle::generate::bridges::{self, Size};
 use oracle::generate::random::Random;
-use oracle::message::{self, Edit, Message, Operation};
+use oracle::message::{self, Edit, Mark, Message, Operation, MARK_AT, MARK_SIZE, SIZE};
 use oracle::recording::{self, SEED};
 use oracle::refusal::{number_of, Refusal};
 use oracle::{generate, image, validity};
+use std::collections::BTreeSet;
 
 #[test]
 fn sizes_follow_the_counts() {
@@ -116,4 +118,19 @@ fn recorded_lists_are_the_same_each_time_and_hold_every_outcome() {
     let largest = (image::MAX_SIZE as u32).to_be_bytes();
     let accepted_largest = [0, largest[0], largest[1], largest[2], largest[3]];
     assert!(images.bytes().windows(5).any(|window| window == accepted_largest));
+}
+
+#[test]
+fn recorded_messages_have_every_size_and_each_bit_of_the_mark_another() {
+    let messages = recording::messages(SEED);
+    let (mut sizes, mut bits) = (BTreeSet::new(), BTreeSet::new());
+    for (outcome, entry) in messages.entries() {
+        let (mark, bytes) = entry.split_at(MARK_SIZE);
+        sizes.insert(bytes.len());
+        if outcome == 28 {
+            bits.insert(u64_at(mark, 0) ^ u64_at(bytes, MARK_AT));
+        }
+    }
+    assert!((0..=SIZE + 2).all(|size| sizes.contains(&size)), "{sizes:?}");
+    assert!((0..Mark::BITS).all(|bit| bits.contains(&(1 << bit))), "{bits:x?}");
 }

@@ -148,8 +148,10 @@ fn refusal_28_comes_whatever_the_number_and_operation() {
     assert_eq!(wall.count, 1);
 }
 
+type Fault = fn(&mut Vec<u8>);
+
 /// The faults of a message in the order of their tests, each with its refusal.
-const FAULTS: [(fn(&mut Vec<u8>), Refusal); 6] = [
+const FAULTS: [(Fault, Refusal); 6] = [
     (|bytes| bytes[VERSION_AT] = 1, Refusal::Version),
     (|bytes| bytes[3] = 26, Refusal::Length),
     (|bytes| bytes.push(0), Refusal::Length),

@@ -1,17 +1,27 @@
 //! Desk, wall and the wall's program over generated edits.
 #![cfg(upstream)]
 
+use oracle::bytes::u64_at;
 use oracle::call::answer;
+use oracle::edit::{apply, Report};
 use oracle::examples::{l, t};
 use oracle::generate::{bridges, edits, marks, random::Random, runs::Run};
 use oracle::image;
-use oracle::message::{self, Edit, Mark, Operation, MARK_SIZE, OPERATION_AT};
-use oracle::program;
+use oracle::message::{self, Edit, Mark, Operation, MARK_AT, MARK_SIZE, OPERATION_AT};
+use oracle::program::{self, Parts};
+use oracle::refusal::Refusal;
 use oracle::replication::{Delivery, Replica};
 use oracle::steps::State;
 
 const MARK: Mark = 0x0123_4567_89ab_cdef;
 const SPLIT: Edit = Edit { operation: Operation::Split, curve: 3, x: 1.0, y: 3.0 };
+
+/// The message that a desk with the mark writes for the split of L, and the image that it leaves.
+fn split_of_l(mark: Mark) -> ([u8; message::SIZE], Vec<u8>) {
+    let (mut desk, mut out) = (Replica::new(l(), mark), [0; message::SIZE]);
+    desk.edit(&SPLIT, &mut out).expect("the example is accepted");
+    (out, image::to_bytes(&desk.drawing))
+}
 
 #[test]
 fn a_wall_follows_its_desk() {
@@ -62,34 +72,78 @@ fn the_program_answers_a_refused_image_with_its_number() {
     let mut bytes = image::to_bytes(&t());
     bytes.pop();
     assert_eq!(program::run(&bytes), [0, 0, 0, 2, 1, 1]);
+    let mut whole = [&image::to_bytes(&l())[..], &MARK.to_be_bytes(), &split_of_l(MARK).0].concat();
+    whole[image::LENGTH_SIZE] = 2;
+    assert_eq!(program::run(&whole), [0, 0, 0, 2, 1, 2]);
 }
 
 #[test]
 fn the_program_passes_over_refused_messages_and_a_shorter_rest() {
-    let mut desk = Replica::new(l(), MARK);
-    let mut out = [0; message::SIZE];
-    desk.edit(&SPLIT, &mut out).expect("the example is accepted");
-    let mut damaged = out;
+    let (split, after) = split_of_l(MARK);
+    let mut damaged = split;
     damaged[OPERATION_AT] = 9;
     let image = image::to_bytes(&l());
-    let input = [&image[..], &MARK.to_be_bytes(), &damaged, &out, &out, &out[..7]].concat();
-    assert_eq!(program::run(&input), image::to_bytes(&desk.drawing));
+    let input = [&image[..], &MARK.to_be_bytes(), &damaged, &split, &split, &split[..7]].concat();
+    assert_eq!(program::run(&input), after);
+}
+
+/// The input that the gate runs the engine's program on.
+#[test]
+fn the_walls_example_has_messages_of_seven_outcomes() {
+    let input = include_bytes!("../../crates/wall/stdin");
+    let mut outcomes = Vec::new();
+    let written = program::run_watched(input, |_, delivered| outcomes.push(delivered));
+    let refused = |refusal: Refusal| Err(refusal.into());
+    let expected = [
+        refused(Refusal::Ahead),
+        Ok(Delivery::Applied(Report::default())),
+        Ok(Delivery::Old),
+        refused(Refusal::Version),
+        refused(Refusal::Foreign),
+        refused(Refusal::NoCurve),
+        refused(Refusal::Length),
+    ];
+    assert_eq!(outcomes, expected);
+    assert_eq!(written, include_bytes!("../../crates/wall/stdout"));
+    let foreign = Parts::of(input).messages.chunks(message::SIZE).nth(4).expect("the fifth");
+    let message = message::read(foreign, u64_at(foreign, MARK_AT)).expect("its own desk's");
+    let wall = image::read(&written).expect("the program writes an image");
+    assert!(apply(&wall, &message.edit).is_ok(), "without its mark it would be applied");
+}
+
+#[test]
+fn the_program_takes_the_mark_from_behind_the_image() {
+    let image = image::to_bytes(&l());
+    for own in [MARK, 0, Mark::MAX] {
+        let (split, after) = split_of_l(own);
+        let whole = [&image[..], &own.to_be_bytes(), &split].concat();
+        assert_eq!(program::run(&whole), after);
+        for size in image.len()..whole.len() {
+            assert_eq!(program::run(&whole[..size]), image);
+        }
+        for other in [!own, own ^ 1, own ^ 1 << 63, own ^ 1 << 31] {
+            let (foreign, _) = split_of_l(other);
+            let foreign_to_all = [&image[..], &other.to_be_bytes(), &split].concat();
+            assert_eq!(program::run(&foreign_to_all), image);
+            let with_both = [&image[..], &own.to_be_bytes(), &foreign, &split, &foreign].concat();
+            assert_eq!(program::run(&with_both), after);
+        }
+        assert_eq!(program::run(&[&image[..], &split, &split].concat()), image);
+    }
 }
 
 #[test]
 fn the_program_reads_no_further_than_its_limit() {
-    let mut desk = Replica::new(l(), MARK);
-    let mut out = [0; message::SIZE];
-    desk.edit(&SPLIT, &mut out).expect("the example is accepted");
+    let (split, after) = split_of_l(MARK);
     let image = image::to_bytes(&l());
     let start = [&image[..], &MARK.to_be_bytes()].concat();
     let fill = (program::MAX_INPUT - start.len()) / message::SIZE;
     let refused = [7; message::SIZE];
     let run = |before: usize| {
-        let messages = std::iter::repeat_n(refused, before).chain([out]).flatten();
+        let messages = std::iter::repeat_n(refused, before).chain([split]).flatten();
         program::run(&start.iter().copied().chain(messages).collect::<Vec<u8>>())
     };
-    assert_eq!(run(fill - 1), image::to_bytes(&desk.drawing));
+    assert_eq!(run(fill - 1), after);
     assert_eq!(run(fill), image);
 }
 

@@ -1,6 +1,6 @@
 //! The calls that a host makes, on image bytes in its own memory, beside the Rust with the same tests.
 
-use bench::bridge::Sample;
+use bench::bridge::{Sample, MARK};
 use bench::desk_and_wall::{self, Calls, Request, COUNT, NEXT, REPEATS};
 use bench::timing;
 use mulkefi::{raw, LARGEST_IMAGE, MESSAGE_SIZE};
@@ -51,14 +51,16 @@ impl Host {
                 // SAFETY: all that is lent is apart, and its lengths are its own.
                 unsafe {
                     raw::mulkefi_desk_edit(
-                        bytes, room, len, COUNT, operation, curve, x, y, out, lent, answer,
+                        bytes, room, len, COUNT, MARK, operation, curve, x, y, out, lent, answer,
                     )
                 }
             }
             Request::Delivery(message) => {
                 let (message, size) = (message.as_ptr(), message.len());
                 // SAFETY: as above.
-                unsafe { raw::mulkefi_wall_deliver(bytes, room, len, COUNT, message, size, answer) }
+                unsafe {
+                    raw::mulkefi_wall_deliver(bytes, room, len, COUNT, MARK, message, size, answer)
+                }
             }
         }
     }
@@ -74,7 +76,11 @@ impl Host {
             assert_eq!(self.answer, numbers, "the same answer");
         }
         if let Request::Edit = request {
-            assert_eq!(self.message, sample.message(NEXT, sample.call.curve), "the same message");
+            assert_eq!(
+                self.message,
+                sample.message(MARK, NEXT, sample.call.curve),
+                "the same message"
+            );
         }
     }
 }

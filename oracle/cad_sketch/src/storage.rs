@@ -131,7 +131,7 @@ impl Sketch {
         let mut used_going = vec![false; self.points.len()];
         let mut used_staying = used_going.clone();
         for (curve, goes) in self.curves.iter().zip(&curves_going) {
-            curve.kind.mark(if *goes { &mut used_going } else { &mut used_staying });
+            curve.kind.flag_points(if *goes { &mut used_going } else { &mut used_staying });
         }
         let points_going: Vec<bool> = used_going
             .iter()
@@ -172,7 +172,7 @@ fn places_after(going: &[bool]) -> Vec<usize> {
 
 fn retain_by_place<T>(table: &mut Vec<T>, going: &[bool]) {
     let mut going = going.iter();
-    table.retain(|_| !going.next().expect("one mark a record"));
+    table.retain(|_| !going.next().expect("one flag a record"));
 }
 
 #[cfg(test)]

@@ -68,17 +68,17 @@ impl CurveKind {
         }
     }
 
-    /// Marks the points that the curve uses.
-    pub fn mark(&self, marks: &mut [bool]) {
+    /// Sets the flag of each point that the curve uses.
+    pub fn flag_points(&self, used: &mut [bool]) {
         match *self {
-            CurveKind::Line { a, b } => [a, b].iter().for_each(|p| marks[*p] = true),
-            CurveKind::Arc { c, a, b } => [c, a, b].iter().for_each(|p| marks[*p] = true),
-            CurveKind::Circle { c, .. } => marks[c] = true,
+            CurveKind::Line { a, b } => [a, b].iter().for_each(|p| used[*p] = true),
+            CurveKind::Arc { c, a, b } => [c, a, b].iter().for_each(|p| used[*p] = true),
+            CurveKind::Circle { c, .. } => used[c] = true,
             CurveKind::Bezier { degree, points } => {
-                points[..=usize::from(degree)].iter().for_each(|p| marks[*p] = true)
+                points[..=usize::from(degree)].iter().for_each(|p| used[*p] = true)
             }
             CurveKind::Conic { a, apex, b, .. } => {
-                [a, apex, b].iter().for_each(|p| marks[*p] = true)
+                [a, apex, b].iter().for_each(|p| used[*p] = true)
             }
         }
     }

@@ -61,7 +61,7 @@ pub fn oracle_answer(
     Answer { number, out: Hex(out) }
 }
 
-pub fn engine_answer(case: &Case, copy: fn(&[u8], &mut [u8]) -> u32) -> Answer {
+pub fn engine_answer(case: &Case, copy: impl FnOnce(&[u8], &mut [u8]) -> u32) -> Answer {
     let mut out = lent_buffer(case.room);
     let number = copy(&case.bytes.0, &mut out);
     Answer { number, out: Hex(out) }

@@ -2,7 +2,7 @@
 //! come with 13 and 19.
 
 use crate::counts::Counts;
-use crate::outcomes;
+use crate::numerals::numeral;
 use crate::places;
 use oracle::call::{Call, REPORT_SIZE};
 use oracle::drawing::{CurveKind, Drawing, Relation};
@@ -31,7 +31,7 @@ const PLACES: [&str; 2] = ["extend 13", "extend 19"];
 
 /// Counts a call by its answer; what an accepted one left stands in the buffer.
 pub fn count(call: &Call, number: u32, out: &[u8], counts: &mut Counts) {
-    let outcome = outcomes::name(number as u8);
+    let outcome = numeral(number as u8);
     let (Ok(drawing), Some(operation)) = (image::read(&call.image), call.operation()) else {
         return counts.add("no image or call", outcome);
     };

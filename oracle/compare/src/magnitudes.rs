@@ -3,6 +3,7 @@
 
 use crate::counts::Counts;
 use crate::number::Number;
+use crate::numerals::numeral;
 use crate::roots::{upstream_search, MOST};
 use crate::simpler;
 use crate::subject::Subject;
@@ -69,19 +70,13 @@ fn searched(numbers: &[f64], roots: Roots) -> Option<(Search, Vec<Number>)> {
     })
 }
 
-const NAMES: [&str; 41] = [
-    "0", "1", "2", "3", "4", "5", "6", "7", "8", "9", "10", "11", "12", "13", "14", "15", "16",
-    "17", "18", "19", "20", "21", "22", "23", "24", "25", "26", "27", "28", "29", "30", "31", "32",
-    "33", "34", "35", "36", "37", "38", "39", "40",
-];
-
 fn count_not_finite(numbers: &[f64], place: usize, counts: &mut Counts) {
     let row = match numbers[place] {
         f64::INFINITY => "+inf at",
         f64::NEG_INFINITY => "-inf at",
         _ => "NaN at",
     };
-    counts.add(row, NAMES[place]);
+    counts.add(row, numeral(place));
     let another = numbers[place + 1..].iter().any(|number| !number.is_finite());
     counts.add_if(another, "not finite", "more behind it");
 }
@@ -109,7 +104,7 @@ fn count_search(numbers: &[f64], is_finite: bool, search: &Search, counts: &mut 
 }
 
 fn count(numbers: &[f64], magnitude: Magnitude, answer: &Answer, counts: &mut Counts) {
-    counts.add("numbers", NAMES[numbers.len()]);
+    counts.add("numbers", numeral(numbers.len()));
     match magnitude {
         Magnitude::NotFinite(place) => count_not_finite(numbers, place, counts),
         Magnitude::Largest(largest) => count_finite(numbers, largest, counts),

@@ -13,11 +13,14 @@ mod edits;
 mod hex;
 mod images;
 mod magnitudes;
+#[cfg(test)]
+mod mark_faults;
+mod marks;
 mod measures;
 mod messages;
 mod number;
 mod number_pairs;
-mod outcomes;
+mod numerals;
 #[cfg(test)]
 mod place_faults;
 mod places;
@@ -68,7 +71,7 @@ fn compare_all() -> Result<(), String> {
     subject::run::<images::Images>(image_cases, seed)?;
     subject::run::<sketches::Sketches>(image_cases, seed)?;
     subject::run::<relations::Relations>(relation_cases, seed)?;
-    subject::run::<messages::Messages>(message_cases, seed)?;
+    subject::run::<messages::Messages<messages::Engine>>(message_cases, seed)?;
     subject::run::<magnitudes::Magnitudes<magnitudes::Engine>>(cases(10, LISTS), seed)?;
     if !upstream::PRESENT {
         println!("roots and edits: the upstream source is absent, skipped");

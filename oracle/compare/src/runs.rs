@@ -2,13 +2,17 @@
 
 use crate::counts::Counts;
 use crate::hex::Hex;
-use crate::outcomes;
+use crate::marks;
+use crate::numerals::numeral;
 use crate::shrink;
 use crate::subject::Subject;
+use oracle::bytes::u64_at;
 use oracle::generate::{random::Random, runs};
-use oracle::program::{image_end, run_watched, MAX_INPUT};
+use oracle::image;
+use oracle::message::{self, MARK_SIZE};
+use oracle::program::{run_watched, Parts, MAX_INPUT};
+use oracle::refusal::{number_of, Refusal};
 use oracle::replication::Delivery;
-use oracle::{image, message};
 use std::fmt;
 use std::marker::PhantomData;
 
@@ -53,18 +57,44 @@ fn answer(write: impl FnOnce(&mut [u8]) -> usize) -> Answer {
     Answer { written, out: Hex(out) }
 }
 
-fn count(input: &[u8], counts: &mut Counts) -> Vec<u8> {
-    let written = run_watched(input, |delivered| match delivered {
-        Ok(Delivery::Old) => counts.add("delivery", "old"),
-        Ok(Delivery::Applied(_)) => counts.add("delivery", "0"),
-        Err(refused) => counts.add("delivery", outcomes::name(refused.refusal.number())),
-    });
-    let refused = written.len() == 6;
-    counts.add("image", outcomes::name(if refused { written[5] } else { 0 }));
+/// Puts bytes to the front of a buffer and answers how many they are.
+pub fn put_in_front(bytes: &[u8], out: &mut [u8]) -> usize {
+    out[..bytes.len()].copy_from_slice(bytes);
+    bytes.len()
+}
+
+/// The bytes that the program writes, all that it meets counted.
+fn run_counted(input: &[u8], counts: &mut Counts) -> Vec<u8> {
+    let parts = Parts::of(input);
+    let image = image::read(parts.image).map(|_| ());
+    counts.add("image", numeral(number_of(&image)));
+    counts.add("input ends", end(&parts, image));
+    counts.add_if(parts.mark.len() < MARK_SIZE, "bytes of a mark", numeral(parts.mark.len()));
     counts.add_if(input.len() > MAX_INPUT, "input", "longer than is read");
     counts.add_if(input.len() == MAX_INPUT, "input", "as long as is read");
     counts.add_if(input.len() <= MAX_INPUT, "input", "read whole");
-    written
+    run_watched(input, |bytes, delivered| {
+        let outcome = match delivered {
+            Ok(Delivery::Old) => "old",
+            Ok(Delivery::Applied(_)) => "0",
+            Err(refused) => numeral(refused.refusal.number()),
+        };
+        counts.add("delivery", outcome);
+        marks::count(u64_at(parts.mark, 0), bytes, outcome, counts);
+    })
+}
+
+/// Where the part of an input ends that is looked at.
+fn end(parts: &Parts, image: Result<(), Refusal>) -> &'static str {
+    match (parts.mark.len(), parts.messages.len()) {
+        (0, _) if image == Err(Refusal::Length) => "in the image",
+        (0, _) => "with the image",
+        (1..MARK_SIZE, _) => "in the mark",
+        (_, 0) => "with the mark",
+        (_, 1..message::SIZE) => "in the first message",
+        (_, size) if size.is_multiple_of(message::SIZE) => "with a message",
+        _ => "in a later message",
+    }
 }
 
 impl<I: Implementation> Subject for Runs<I> {
@@ -78,11 +108,8 @@ impl<I: Implementation> Subject for Runs<I> {
     }
 
     fn oracle(case: &Hex, counts: &mut Counts) -> Answer {
-        let bytes = count(&case.0, counts);
-        answer(|out| {
-            out[..bytes.len()].copy_from_slice(&bytes);
-            bytes.len()
-        })
+        let bytes = run_counted(&case.0, counts);
+        answer(|out| put_in_front(&bytes, out))
     }
 
     fn engine(case: &Hex) -> Answer {
@@ -92,13 +119,14 @@ impl<I: Implementation> Subject for Runs<I> {
     /// Fewer messages, then fewer records.
     fn shrink(case: Hex, differs: impl Fn(&Hex) -> bool) -> Hex {
         Hex(shrink::until_stable(case.0, |input| {
-            let (image, messages) = input.split_at(image_end(input));
+            let Parts { image, mark, messages, beyond } = Parts::of(input);
+            let messages = [messages, beyond].concat();
             let mut messages: Vec<&[u8]> = messages.chunks(message::SIZE).collect();
             shrink::drop_runs(&mut messages, |messages| {
-                differs(&Hex([image, &messages.concat()].concat()))
+                differs(&Hex([image, mark, &messages.concat()].concat()))
             });
-            let messages = messages.concat();
-            let with = |image: &[u8]| Hex([image, &messages].concat());
+            let behind = [mark, &messages.concat()].concat();
+            let with = |image: &[u8]| Hex([image, &behind].concat());
             let image = shrink::records(image, |image| differs(&with(image)));
             *input = with(&image).0;
         }))
@@ -109,21 +137,19 @@ impl<I: Implementation> Subject for Runs<I> {
 mod tests {
     use super::*;
     use crate::subject;
-    use oracle::upstream;
+    use oracle::message::{NUMBER_AT, OPERATION_AT};
+    use oracle::{program, upstream};
 
     /// The oracle with a fault: a wall that stops at the second message that it would apply.
     struct OneEditOnly;
 
     impl Implementation for OneEditOnly {
         fn wall(input: &[u8], out: &mut [u8]) -> usize {
-            let input = &input[..input.len().min(MAX_INPUT)];
-            let (image, messages) = input.split_at(image_end(input));
-            let second = |bytes: &&[u8]| bytes.get(5..9) == Some(&[0, 0, 0, 2]);
+            let Parts { image, mark, messages, .. } = Parts::of(input);
+            let second = |bytes: &&[u8]| bytes.get(NUMBER_AT..OPERATION_AT) == Some(&[0, 0, 0, 2]);
             let kept: Vec<&[u8]> =
                 messages.chunks(message::SIZE).take_while(|bytes| !second(bytes)).collect();
-            let bytes = oracle::program::run(&[image, &kept.concat()].concat());
-            out[..bytes.len()].copy_from_slice(&bytes);
-            bytes.len()
+            put_in_front(&program::run(&[image, mark, &kept.concat()].concat()), out)
         }
     }
 

@@ -2,19 +2,19 @@
 //! refusal's with the place that comes with 13 and 19.
 
 use crate::counts::Counts;
-use crate::hex::Hex;
-use crate::outcomes;
+use crate::hex::{Hex, HexMark};
+use crate::marks;
+use crate::numerals::numeral;
 use crate::places;
 use crate::shrink;
 use crate::subject::Subject;
 use engine::edits;
 use engine::replication::{self, ACCEPTED};
-use oracle::bytes::put;
 use oracle::call::{self, Call};
 use oracle::edit::Refused;
 use oracle::generate::messages::damage;
-use oracle::generate::{calls, random::Random};
-use oracle::message::{self, Edit};
+use oracle::generate::{calls, marks as generated, random::Random};
+use oracle::message::{self, Edit, Mark, Message, Operation, OPERATION_AT};
 use oracle::refusal::Refusal;
 use oracle::replication::{Delivery, Replica};
 use oracle::unmet::Unmet;
@@ -37,7 +37,9 @@ impl Implementation for Engine {
             Asked::Desk => {
                 replication::desk_repeated(image, *count, *operation, *curve, [*x, *y], *times)
             }
-            Asked::Wall(Hex(bytes)) => replication::deliver_repeated(image, *count, bytes, *times),
+            Asked::Wall(HexMark(mark), Hex(bytes)) => {
+                replication::deliver_repeated(image, *count, *mark, bytes, *times)
+            }
         }
     }
 }
@@ -49,7 +51,8 @@ enum Asked {
     Edit,
     TypedEdit,
     Desk,
-    Wall(Hex),
+    /// The wall's mark, and the bytes that it is given.
+    Wall(HexMark, Hex),
 }
 
 /// An edit of an image, which a desk or wall has at a count.
@@ -61,6 +64,9 @@ pub struct Case {
     times: u32,
 }
 
+/// A delivery to a wall.
+pub type Deliver = fn(&mut Replica, &[u8]) -> Result<Delivery, Refused>;
+
 /// The refusal of all calls at once, for the image or the operation, or the reply of each call.
 type Replies = Result<Result<u32, Refused>, Refused>;
 
@@ -70,7 +76,7 @@ impl Case {
             Asked::Edit => "edit",
             Asked::TypedEdit => "typed edit",
             Asked::Desk => "desk",
-            Asked::Wall(_) => "wall",
+            Asked::Wall(..) => "wall",
         }
     }
 
@@ -80,22 +86,22 @@ impl Case {
             Asked::Edit => ["edit 13", "edit 19"],
             Asked::TypedEdit => ["typed edit 13", "typed edit 19"],
             Asked::Desk => ["desk 13", "desk 19"],
-            Asked::Wall(_) => ["wall 13", "wall 19"],
+            Asked::Wall(..) => ["wall 13", "wall 19"],
         }
     }
 
     /// The edit that is asked for, of the message where one is delivered.
     fn edit(&self) -> Option<Edit> {
-        if let Asked::Wall(bytes) = &self.asked {
-            return message::read(&bytes.0).ok().map(|message| message.edit);
+        if let Asked::Wall(HexMark(mark), Hex(bytes)) = &self.asked {
+            return message::read(bytes, *mark).ok().map(|message| message.edit);
         }
         self.call.edit()
     }
 
     fn outcome(&self, replies: &Replies) -> &'static str {
         match replies {
-            Err(refused) | Ok(Err(refused)) => outcomes::name(refused.refusal.number()),
-            Ok(Ok(ACCEPTED)) if matches!(self.asked, Asked::Wall(_)) => "old",
+            Err(refused) | Ok(Err(refused)) => numeral(refused.refusal.number()),
+            Ok(Ok(ACCEPTED)) if matches!(self.asked, Asked::Wall(..)) => "old",
             Ok(Ok(_)) => "0",
         }
     }
@@ -106,15 +112,25 @@ impl Case {
     }
 
     fn replies(&self) -> Replies {
+        self.replies_by(Replica::deliver)
+    }
+
+    /// What the replies add up to where a message is delivered so.
+    #[cfg(test)]
+    pub fn sum_by(&self, deliver: Deliver) -> u32 {
+        sum(self.replies_by(deliver), self.times)
+    }
+
+    fn replies_by(&self, deliver: Deliver) -> Replies {
         let drawing = image::read(&self.call.image)?;
-        let replica = Replica { drawing, count: self.count };
-        if let Asked::Wall(bytes) = &self.asked {
-            return Ok(wall_reply(replica, &bytes.0));
+        let replica = |mark| Replica { drawing: drawing.clone(), mark, count: self.count };
+        if let Asked::Wall(HexMark(mark), Hex(bytes)) = &self.asked {
+            return Ok(wall_reply(replica(*mark), bytes, deliver));
         }
         let edit = self.edit().ok_or(Refusal::Operation)?;
         Ok(match self.asked {
-            Asked::Desk => desk_reply(replica, &edit),
-            _ => edit::apply_tested(&replica.drawing, &edit)
+            Asked::Desk => desk_reply(replica(0), &edit),
+            _ => edit::apply_tested(&drawing, &edit)
                 .map(|(after, report)| after.next_id.wrapping_add(report.removed)),
         })
     }
@@ -125,8 +141,8 @@ fn desk_reply(mut desk: Replica, edit: &Edit) -> Result<u32, Refused> {
     Ok(ACCEPTED.wrapping_add(desk.count))
 }
 
-fn wall_reply(mut wall: Replica, bytes: &[u8]) -> Result<u32, Refused> {
-    Ok(match wall.deliver(bytes)? {
+fn wall_reply(mut wall: Replica, bytes: &[u8], deliver: Deliver) -> Result<u32, Refused> {
+    Ok(match deliver(&mut wall, bytes)? {
         Delivery::Old => ACCEPTED,
         Delivery::Applied(_) => ACCEPTED.wrapping_add(wall.count),
     })
@@ -141,19 +157,16 @@ fn sum(replies: Replies, times: u32) -> u32 {
     }
 }
 
-/// The edit's message under a number at or near the next one, at times damaged.
-fn message_near(call: &Call, count: u32, random: &mut Random) -> Vec<u8> {
-    let mut bytes = vec![0; message::SIZE];
+/// The edit's message under the wall's mark or another, and under a number at or near the next one, at
+/// times damaged.
+fn message_near(call: &Call, count: u32, own: Mark, random: &mut Random) -> Vec<u8> {
     let next = count.wrapping_add(1);
     let number =
         random.weighted(&[(12, next), (1, count), (1, count / 2), (1, next.wrapping_add(1))]);
-    put(&mut bytes, 0, ((message::SIZE - image::LENGTH_SIZE) as u32).to_be_bytes());
-    bytes[4] = message::VERSION;
-    put(&mut bytes, 5, number.to_be_bytes());
-    bytes[9] = call.operation as u8;
-    put(&mut bytes, 10, call.curve.to_be_bytes());
-    put(&mut bytes, 14, call.x.to_bits().to_be_bytes());
-    put(&mut bytes, 22, call.y.to_bits().to_be_bytes());
+    let edit = Edit { operation: Operation::Trim, curve: call.curve, x: call.x, y: call.y };
+    let mark = generated::delivered(random, own);
+    let mut bytes = message::to_bytes(&Message { number, edit }, mark).to_vec();
+    bytes[OPERATION_AT] = call.operation as u8;
     if random.one_in(8) {
         damage(random, &mut bytes);
     }
@@ -169,19 +182,26 @@ impl<I: Implementation> Subject for Sums<I> {
     fn case(random: &mut Random) -> Case {
         let call = if random.one_in(2) { calls::cut(random) } else { calls::extension(random) };
         let count = random.pick(&[0, 0, 1, 7, 255, 65_536, u32::MAX - 1, u32::MAX]);
-        let times = random.pick(&[0, 1, 1, 2, 3]);
+        let times = random.weighted(&[(1, 0), (9, 1), (3, 2), (3, 3)]);
         let asked = match random.below(8) {
             0 => Asked::Edit,
             1 => Asked::TypedEdit,
             2..=4 => Asked::Desk,
-            _ => Asked::Wall(Hex(message_near(&call, count, random))),
+            _ => {
+                let mark = generated::mark(random);
+                Asked::Wall(HexMark(mark), Hex(message_near(&call, count, mark, random)))
+            }
         };
         Case { asked, call, count, times }
     }
 
     fn oracle(case: &Case, counts: &mut Counts) -> u32 {
         let replies = case.replies();
-        counts.add(case.row(), case.outcome(&replies));
+        let outcome = case.outcome(&replies);
+        counts.add(case.row(), outcome);
+        if let Asked::Wall(HexMark(mark), Hex(bytes)) = &case.asked {
+            marks::count(*mark, bytes, outcome, counts);
+        }
         if let (Ok(Err(Refused { place: Some(_), .. })), 1..) = (&replies, case.times) {
             places::count(case.place_rows(), case.unmet(), counts);
         }
@@ -214,7 +234,7 @@ mod tests {
 
     impl<F: PlaceFault> Implementation for Faulty<F> {
         fn sum(case: &Case) -> u32 {
-            let planted = matches!(case.asked, Asked::Desk | Asked::Wall(_));
+            let planted = matches!(case.asked, Asked::Desk | Asked::Wall(..));
             let replies = match (case.replies(), image::read(&case.call.image), case.edit()) {
                 (Ok(Err(refused)), Ok(drawing), Some(edit)) if planted => {
                     Ok(Err(with_fault::<F>(&drawing, &edit, refused)))

@@ -22,6 +22,7 @@ mod interface {
         pub fn mulkefi_message_copy(
             message: *const u8,
             len: usize,
+            mark: u64,
             out: *mut u8,
             out_len: usize,
         ) -> u32;
@@ -61,18 +62,13 @@ pub fn image_test(image: &[u8]) -> u32 {
     unsafe { interface::mulkefi_image_test(image.as_ptr(), image.len()) }
 }
 
-/// Reads a message and writes it back to the front of `out`.
+/// Reads a message as a wall with the mark does, and writes it back to the front of `out` as the desk
+/// with that mark does.
 #[inline]
-pub fn message_copy(message: &[u8], out: &mut [u8]) -> u32 {
+pub fn message_copy(message: &[u8], mark: u64, out: &mut [u8]) -> u32 {
+    let (bytes, len) = (message.as_ptr(), message.len());
     // SAFETY: both slices are lent for the call, and the engine stays within their lengths.
-    unsafe {
-        interface::mulkefi_message_copy(
-            message.as_ptr(),
-            message.len(),
-            out.as_mut_ptr(),
-            out.len(),
-        )
-    }
+    unsafe { interface::mulkefi_message_copy(bytes, len, mark, out.as_mut_ptr(), out.len()) }
 }
 
 /// As `sketch_test`, and looks for the first relation that is not met: 0 where all are, its place

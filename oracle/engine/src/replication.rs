@@ -18,6 +18,7 @@ mod interface {
             image: *const u8,
             len: usize,
             count: u32,
+            mark: u64,
             message: *const u8,
             message_len: usize,
             times: u32,
@@ -53,13 +54,13 @@ pub fn desk_repeated(
     unsafe { interface::mulkefi_desk_repeated(bytes, len, count, operation, curve, x, y, times) }
 }
 
-/// Reads the image once, then delivers a message to a wall with its sketch and the count so many
-/// times. Each adds a refusal's number and the place of the first relation not met times 65,536,
+/// Reads the image once, then delivers a message to a wall with its sketch, the count and the mark so
+/// many times. Each adds a refusal's number and the place of the first relation not met times 65,536,
 /// `ACCEPTED` where it is old, or `ACCEPTED` and the count after it.
 #[inline]
-pub fn deliver_repeated(image: &[u8], count: u32, message: &[u8], times: u32) -> u32 {
+pub fn deliver_repeated(image: &[u8], count: u32, mark: u64, message: &[u8], times: u32) -> u32 {
     let (bytes, len) = (image.as_ptr(), image.len());
-    let (message, message_len) = (message.as_ptr(), message.len());
+    let (message, size) = (message.as_ptr(), message.len());
     // SAFETY: both slices are lent for the call, and the engine stays within their lengths.
-    unsafe { interface::mulkefi_deliver_repeated(bytes, len, count, message, message_len, times) }
+    unsafe { interface::mulkefi_deliver_repeated(bytes, len, count, mark, message, size, times) }
 }

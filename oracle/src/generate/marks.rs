@@ -3,23 +3,23 @@
 use super::random::Random;
 use crate::message::{Mark, MARK_SIZE};
 
-/// How a mark in a message differs from the wall's own; the first case that holds names it.
+/// How a message's mark differs from the wall's own: the first case that holds.
 #[derive(Clone, Copy, Debug, PartialEq, Eq, PartialOrd, Ord)]
 pub enum Difference {
     None,
     OneBit,
     ByOne,
     OneByte,
-    /// The last four bytes are alike.
+    /// The first four bytes alone are others.
     HighHalf,
-    /// The first four bytes are alike.
+    /// The last four bytes alone are others.
     LowHalf,
     Swapped,
     Far,
 }
 
 impl Difference {
-    /// Those in which two marks are near each other.
+    /// Those of two marks that are near each other.
     pub const NEAR: [Difference; 6] = [
         Difference::OneBit,
         Difference::ByOne,
@@ -43,7 +43,7 @@ impl Difference {
         match self {
             Difference::None => false,
             Difference::OneBit => changed.is_power_of_two(),
-            Difference::ByOne => own.wrapping_sub(other).wrapping_add(1) <= 2,
+            Difference::ByOne => [own.wrapping_add(1), own.wrapping_sub(1)].contains(&other),
             Difference::OneByte => {
                 changed.to_be_bytes().iter().filter(|byte| **byte != 0).count() == 1
             }
@@ -54,7 +54,7 @@ impl Difference {
         }
     }
 
-    /// A mark that differs so, or the own one where none does.
+    /// A mark that differs so; by chance it may differ less.
     fn apply(self, random: &mut Random, own: Mark) -> Mark {
         match self {
             Difference::None => own,
@@ -86,24 +86,21 @@ impl Difference {
 
 /// A mark that a host may give.
 pub fn mark(random: &mut Random) -> Mark {
-    let bits = random.bits();
     match random.below(8) {
         0 => 0,
         1 => Mark::MAX,
-        2 => random.pick(&[1, 1 << 32, u32::MAX.into(), 1 << 63, 0x4d55_4c4b_4546_4934]),
-        3 => random.below(9) as Mark,
-        _ => bits,
+        2 => random.pick(&[1 << 32, u32::MAX.into(), 1 << 63]),
+        3 => 1 + random.below(9) as Mark,
+        _ => random.bits(),
     }
 }
 
 /// Another mark, near to the own one or far from it.
 pub fn foreign(random: &mut Random, own: Mark) -> Mark {
-    let difference = match random.one_in(4) {
-        true => Difference::Far,
-        false => random.pick(&Difference::NEAR),
-    };
+    let difference =
+        if random.one_in(4) { Difference::Far } else { random.pick(&Difference::NEAR) };
     match difference.apply(random, own) {
-        // A swap, or a chance, may give the own one back.
+        // A mark that reads the same from both ends, or a chance, gives the own one back.
         same if same == own => !own,
         other => other,
     }

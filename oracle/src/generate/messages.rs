@@ -5,6 +5,7 @@ use super::numbers::EDGE_FLOATS;
 use super::random::Random;
 use crate::bytes::{put, u64_at};
 use crate::drawing::Id;
+use crate::image::LENGTH_SIZE;
 use crate::message::*;
 
 /// A message that a desk could write, or a sender make up: its fields are in range.
@@ -50,53 +51,59 @@ pub fn delivery(random: &mut Random) -> (Mark, Vec<u8>) {
     (own, message_bytes(random, mark))
 }
 
-/// A fault of a message.
-#[derive(Clone, Copy, Debug, PartialEq, Eq, PartialOrd, Ord)]
+/// What a message without a mark has.
+const VERSION_1_SIZE: usize = 30;
+
+/// A fault of a message, by the field that has it.
+#[derive(Clone, Copy, Debug, PartialEq, Eq)]
 pub enum Fault {
+    /// Too few bytes or too many, which the length field does not follow.
     Size,
     Length,
     Version,
     Mark,
     Number,
     Operation,
-    /// A float field at an edge of what it may hold, which is for the edit to judge.
+    Curve,
     Pick,
     /// Any byte.
     Byte,
 }
 
-const FAULTS: [(usize, Fault); 8] = [
+const FAULTS: [(usize, Fault); 9] = [
     (3, Fault::Size),
     (1, Fault::Length),
     (1, Fault::Version),
     (3, Fault::Mark),
     (1, Fault::Number),
     (1, Fault::Operation),
+    (1, Fault::Curve),
     (1, Fault::Pick),
     (1, Fault::Byte),
 ];
 
-/// One fault of a message as a desk writes it, at times a second one, which shows which test comes first.
+/// One fault, at times a second one, which shows which test comes first.
 pub fn damage(random: &mut Random, bytes: &mut Vec<u8>) {
-    for _ in 0..random.weighted(&[(3, 1), (1, 2)]) {
+    for _ in 0..random.weighted(&[(2, 1), (1, 2)]) {
         let fault = random.weighted(&FAULTS);
         spoil(random, bytes, fault);
     }
 }
 
-/// Puts a fault into a message; one that is cut short of the field stays as it is.
+/// Puts a fault into a message, unless its bytes end before the field does.
 pub fn spoil(random: &mut Random, bytes: &mut Vec<u8>, fault: Fault) {
     match fault {
         Fault::Size => resize(random, bytes),
         Fault::Length => {
-            let lengths = [0, 1, LENGTH - 1, LENGTH + 1, SIZE as u32, 26, LENGTH << 24, u32::MAX];
+            let old = (VERSION_1_SIZE - LENGTH_SIZE) as u32;
+            let lengths = [0, 1, old, LENGTH - 1, LENGTH + 1, SIZE as u32, LENGTH << 24, u32::MAX];
             set(bytes, 0, random.pick(&lengths).to_be_bytes());
         }
         Fault::Version => set(bytes, VERSION_AT, [random.pick(&[0, 1, 3, 255])]),
         Fault::Mark => {
-            if bytes.len() >= NUMBER_AT {
-                let foreign = marks::foreign(random, u64_at(bytes, MARK_AT));
-                set(bytes, MARK_AT, foreign.to_be_bytes());
+            if let Some(mark) = bytes.get(MARK_AT..NUMBER_AT) {
+                let mark = marks::foreign(random, u64_at(mark, 0));
+                set(bytes, MARK_AT, mark.to_be_bytes());
             }
         }
         Fault::Number => {
@@ -104,6 +111,10 @@ pub fn spoil(random: &mut Random, bytes: &mut Vec<u8>, fault: Fault) {
             set(bytes, NUMBER_AT, number.to_be_bytes());
         }
         Fault::Operation => set(bytes, OPERATION_AT, [random.pick(&[0, 4, 5, 255])]),
+        Fault::Curve => {
+            let curve: Id = random.pick(&[0, 1, 1 << 24, Id::MAX]);
+            set(bytes, CURVE_AT, curve.to_be_bytes());
+        }
         Fault::Pick => {
             let at = random.pick(&[X_AT, Y_AT]);
             set(bytes, at, random.pick(&EDGE_FLOATS).to_be_bytes());
@@ -115,15 +126,14 @@ pub fn spoil(random: &mut Random, bytes: &mut Vec<u8>, fault: Fault) {
     }
 }
 
-/// Cuts the bytes or appends some: by a few at the end, anywhere, to a field's end, or to the 30 of
-/// version 1.
+/// Cuts the bytes anywhere, before a field or to the size of version 1, or has a few too many.
 fn resize(random: &mut Random, bytes: &mut Vec<u8>) {
-    let anywhere = random.below(SIZE);
-    let fields = [VERSION_AT, MARK_AT, NUMBER_AT, OPERATION_AT, CURVE_AT, X_AT, Y_AT];
-    let field = random.pick(&fields);
-    let size =
-        random.pick(&[0, 1, 3, field, field, anywhere, anywhere, 30, SIZE - 1, SIZE + 1, 2 * SIZE]);
-    bytes.resize(size, 0);
+    const FIELDS: [usize; 7] = [VERSION_AT, MARK_AT, NUMBER_AT, OPERATION_AT, CURVE_AT, X_AT, Y_AT];
+    let (field, anywhere) = (random.pick(&FIELDS), random.below(SIZE));
+    let few = random.pick(&[0, 1, 3, VERSION_1_SIZE]);
+    let near = random.pick(&[SIZE - 1, SIZE + 1, 2 * SIZE]);
+    let shares = [(4, few), (2, field), (2, anywhere), (3, near)];
+    bytes.resize(random.weighted(&shares), 0);
 }
 
 fn set<const N: usize>(bytes: &mut [u8], at: usize, value: [u8; N]) {

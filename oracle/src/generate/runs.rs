@@ -98,7 +98,7 @@ fn deliveries(random: &mut Random, mark: Mark, mut messages: Vec<Vec<u8>>) -> Ve
             }
             7 | 8 => {
                 let neighbours = foreign(random, mark, &messages[at]);
-                messages.insert(at, neighbours);
+                messages.insert(random.pick(&[at, at + 1, other]), neighbours);
             }
             _ => messages[other..].reverse(),
         }
@@ -172,7 +172,7 @@ pub fn input(random: &mut Random) -> Vec<u8> {
 /// the end of what is read.
 fn up_to_the_limit(random: &mut Random, run: &Run) -> Vec<u8> {
     let input = run.input();
-    let Parts { image, mark, messages } = Parts::of(&input);
+    let Parts { image, mark, messages, .. } = Parts::of(&input);
     let size = message::SIZE;
     let end = MAX_INPUT + random.pick(&[0, 1, size / 2, size - 1, size, size + 1, 300, 1000]);
     let neighbours = foreign(random, run.mark, &messages[..messages.len().min(size)]);

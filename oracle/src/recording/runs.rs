@@ -9,7 +9,7 @@ use crate::drawing::Relation;
 use crate::examples::{l, t};
 use crate::generate::{random::Random, runs};
 use crate::image::{self, HEADER_SIZE};
-use crate::message::{self, Edit, Mark, Message, Operation, MARK_SIZE, OPERATION_AT};
+use crate::message::{self, Edit, Mark, Message, Operation, OPERATION_AT};
 use crate::program::{self, Parts, MAX_INPUT};
 use crate::refusal::Refusal;
 use crate::replication::Delivery;
@@ -76,7 +76,7 @@ fn add(list: &mut List<()>, input: &[u8]) {
 /// The outcome of each delivery of a run, in order.
 fn deliveries(input: &[u8]) -> Vec<u8> {
     let mut outcomes = Vec::new();
-    program::run_watched(input, |delivered| {
+    program::run_watched(input, |_, delivered| {
         outcomes.push(match delivered {
             Ok(Delivery::Old) => OLD,
             Ok(Delivery::Applied(_)) => 0,
@@ -96,14 +96,12 @@ enum Sort {
     Followed(u8, u8),
     /// The number of edits applied, in fours, rounded up.
     Applied(usize),
-    /// There are so many bytes of the mark, fewer than it has.
-    MarkCut(usize),
     /// The last message is cut short.
     Rest,
 }
 
 fn sorts(input: &[u8]) -> BTreeSet<Sort> {
-    let Parts { image, mark, messages } = Parts::of(input);
+    let Parts { image, messages, .. } = Parts::of(input);
     if let Err(refusal) = image::read(image) {
         return BTreeSet::from([Sort::Image(refusal.number())]);
     }
@@ -119,9 +117,6 @@ fn sorts(input: &[u8]) -> BTreeSet<Sort> {
     sorts.insert(Sort::Applied(
         outcomes.iter().filter(|outcome| **outcome == 0).count().div_ceil(4),
     ));
-    if mark.len() < MARK_SIZE {
-        sorts.insert(Sort::MarkCut(mark.len()));
-    }
     if !messages.len().is_multiple_of(message::SIZE) {
         sorts.insert(Sort::Rest);
     }
