@@ -5,11 +5,11 @@ use crate::format::{LENGTH_SIZE, MESSAGE_SIZE, MESSAGE_VERSION, VERSION_AT};
 use crate::record::{field, u32_at};
 use std::fmt;
 
-/// The mark of a desk's start: any eight bytes, zeros too. Each of its messages bears the mark, and a wall
-/// takes only messages that bear its own.
+/// The mark of a start: any eight bytes, zeros too. A desk's messages bear its mark, and a wall refuses
+/// those that bear another than its own.
 ///
 /// A host gives each start of a desk a mark that no start of a desk had before, since messages of the
-/// earlier one would be read as the later one's, and gives a wall the mark of its desk. Each side keeps the
+/// earlier start would be read as this one's, and gives a wall the mark of its desk. Each side keeps the
 /// mark beside image and count, and resumes with it.
 ///
 /// Eight random bytes from the system are a mark, or a counter of starts that is kept on disk, with the
@@ -21,6 +21,7 @@ use std::fmt;
 /// let (desk, start): (u32, u32) = (3, 41);
 /// let mark = Mark::from(u64::from(desk) << 32 | u64::from(start));
 /// assert_eq!(mark.to_string(), "0000000300000029");
+/// assert_eq!(format!("{mark:?}"), "Mark(0000000300000029)");
 /// assert_eq!(mark.to_bytes(), [0, 0, 0, 3, 0, 0, 0, 41]);
 /// assert_eq!(Mark::from(mark.to_bytes()), mark);
 /// ```

@@ -17,21 +17,19 @@ pub struct Hall {
     radio: Radio,
 }
 
-/// The mark of a desk's start: the desk's number, and behind it the start's, which desks have in common.
+/// The mark of a desk's start: the desk's number in the upper half, the start's, which all desks share, in
+/// the lower.
 fn mark(desk: usize, start: u64) -> Mark {
     Mark::from((desk as u64) << 32 | start & 0xffff_ffff)
 }
 
 impl Hall {
     pub fn new(bridges: impl IntoIterator<Item = Bridge>, seed: u64) -> Result<Hall, Refusal> {
-        let started = bridges
-            .into_iter()
-            .enumerate()
-            .map(|(place, bridge)| Simulation::new(bridge, mark(place, seed), seed + place as u64));
-        Ok(Hall {
-            simulations: started.collect::<Result<_, _>>()?,
-            radio: Radio::new(seed ^ 0x5eed),
-        })
+        let places = bridges.into_iter().zip(0..);
+        let simulations = places
+            .map(|(bridge, place)| Simulation::new(bridge, mark(place, seed), seed + place as u64));
+        let simulations = simulations.collect::<Result<_, _>>()?;
+        Ok(Hall { simulations, radio: Radio::new(seed ^ 0x5eed) })
     }
 
     /// Asks all edits and lets the walls catch up, or says which wall did what it may not.

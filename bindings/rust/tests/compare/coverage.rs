@@ -12,7 +12,7 @@ pub const OLD: u32 = u32::MAX;
 /// Stands for a list with a number that is not finite.
 pub const NOT_FINITE: u32 = u32::MAX - 1;
 
-/// Among so many deliveries every mark and every reading must come up.
+/// Among so many messages every outcome, difference and reading must come up.
 const ENOUGH: usize = 2_000;
 
 #[derive(Default)]
@@ -45,24 +45,24 @@ impl Coverage {
         *self.foreign.entry(reading).or_default() += 1;
     }
 
-    /// Fails where many deliveries were made and some outcome of messages, some difference of marks or some
-    /// reading of a foreign message did not come up.
+    /// Fails where enough messages came to walls, and some outcome of a message, some difference of marks or
+    /// some reading of a foreign message did not come up.
     pub fn check_deliveries(&self) -> Result<(), String> {
         if self.marks.values().sum::<usize>() < ENOUGH {
             return Ok(());
         }
         for number in [0, 1, 2, 6, 7, 28, OLD] {
             if !self.outcomes.keys().any(|(_, seen)| *seen == number) {
-                return Err(format!("no delivery was answered {number}"));
+                return Err(format!("no outcome is {}", outcome(number)));
             }
         }
         for difference in [Difference::None, Difference::Far].iter().chain(&Difference::NEAR) {
             if !self.marks.contains_key(difference) {
-                return Err(format!("no message had its mark: {}", difference.name()));
+                return Err(format!("no mark differs so: {}", difference.name()));
             }
         }
         match READINGS.iter().find(|reading| !self.foreign.contains_key(*reading)) {
-            Some(reading) => Err(format!("no foreign message was {reading}")),
+            Some(reading) => Err(format!("no foreign message would have been so: {reading}")),
             None => Ok(()),
         }
     }
@@ -77,12 +77,7 @@ impl fmt::Display for Coverage {
                 write!(f, "{end}  {row:<8}")?;
                 last = row;
             }
-            match *number {
-                0 => write!(f, " accepted:{count}")?,
-                OLD => write!(f, " old:{count}")?,
-                NOT_FINITE => write!(f, " not finite:{count}")?,
-                number => write!(f, " {number}:{count}")?,
-            }
+            write!(f, " {}:{count}", outcome(*number))?;
         }
         writeln!(f)?;
         for number in [13, 19] {
@@ -93,6 +88,15 @@ impl fmt::Display for Coverage {
         let marks = self.marks.iter().map(|(difference, count)| (difference.name(), *count));
         write_row(f, "marks", marks)?;
         write_row(f, "foreign", self.foreign.iter().map(|(reading, count)| (*reading, *count)))
+    }
+}
+
+fn outcome(number: u32) -> String {
+    match number {
+        0 => "accepted".into(),
+        OLD => "old".into(),
+        NOT_FINITE => "not finite".into(),
+        number => number.to_string(),
     }
 }
 

@@ -219,12 +219,13 @@ impl DeskAndWall {
         bytes[MARK_AT..NUMBER_AT].copy_from_slice(&foreign.to_be_bytes());
         let (image, count) = (self.wall.image().to_vec(), self.wall.count());
         let outcome = self.wall.deliver(&bytes);
-        outcomes.add("wall", Refusal::Foreign.number().into());
-        match outcome == Err(Refusal::Foreign)
-            && (self.wall.image(), self.wall.count()) == (&image, count)
-        {
-            true => Ok(()),
-            false => Err(format!("wall: {outcome:?} to a neighbour's message")),
+        let is_unaltered = (self.wall.image(), self.wall.count()) == (&image[..], count);
+        match outcome {
+            Err(refusal @ Refusal::Foreign) if is_unaltered => {
+                outcomes.add("wall", refusal.number().into());
+                Ok(())
+            }
+            _ => Err(format!("wall: {outcome:?} to a message with a foreign mark")),
         }
     }
 }

@@ -5,7 +5,7 @@
 //! Of so many cases a quarter each are desk calls, deliveries, calls with rooms of every size and
 //! searches; as many again are lists of numbers, and a further one in forty is a whole run. For each
 //! case five lists of edits are followed, whose families need no upstream source. What came up is
-//! printed by outcome.
+//! printed by outcome; where messages are many, every kind of foreign one must be among them.
 
 mod boundary;
 mod cases;
