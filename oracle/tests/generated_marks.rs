@@ -1,5 +1,6 @@
 //! What the generators make of marks: every difference from the own one, every byte of it, every order of
 //! tests, and inputs of the program that end at every place about it.
+#![cfg(upstream)]
 
 use oracle::bytes::{u32_at, u64_at};
 use oracle::edit::Refused;
@@ -89,7 +90,6 @@ fn a_foreign_message_has_every_other_fault_too() {
     }
 }
 
-#[cfg(upstream)]
 #[test]
 fn a_run_has_foreign_messages_under_old_next_and_later_numbers() {
     let mut random = Random::new(54);
@@ -107,7 +107,6 @@ fn a_run_has_foreign_messages_under_old_next_and_later_numbers() {
     assert!(numbers.len() == 3 && numbers.values().all(|count| *count > 200), "{numbers:?}");
 }
 
-#[cfg(upstream)]
 #[test]
 fn inputs_end_at_every_place_about_the_mark() {
     let mut random = Random::new(55);

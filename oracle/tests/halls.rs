@@ -74,18 +74,14 @@ impl Bridge {
             Some(place) => outcome == Ok(Delivery::Applied(self.written[place].1)),
             None => is_refusal_of_other_desk(&outcome),
         };
-        let raised = usize::from(place == Some(count));
-        let drawn = image::to_bytes(&self.wall.drawing);
-        if !is_right
-            || self.wall.count as usize != count + raised
-            || drawn != self.images[count + raised]
-        {
-            return Err(format!(
-                "{bytes:02x?} at count {count} of {:016x}: {outcome:?}",
-                self.wall.mark
-            ));
+        let expected = count + usize::from(place == Some(count));
+        let Replica { drawing, mark, count: found } = &self.wall;
+        let has_followed =
+            *found as usize == expected && image::to_bytes(drawing) == self.images[expected];
+        if !is_right || !has_followed {
+            return Err(format!("{mark:016x} at {count}, given {bytes:02x?}: {outcome:?}"));
         }
-        seen.add(self.wall.mark, count, bytes, &outcome);
+        seen.add(*mark, count, bytes, &outcome);
         if bytes.len() == SIZE {
             self.input.extend(bytes);
         }
@@ -202,23 +198,24 @@ fn each_wall_follows_its_own_desk() {
     assert!(seen.no_message > 30_000);
 }
 
-/// Walls that don't ask whose message they hear, or ask half of the mark alone.
+/// The delivery of a wall that compares only those bits of the mark that are set here.
+fn deliver_by<const BITS: Mark>(wall: &mut Replica, bytes: &[u8]) -> Result<Delivery, Refused> {
+    let mark = bytes::u64_at(bytes, MARK_AT);
+    let taken_for_own = (mark ^ wall.mark) & BITS == 0;
+    let message = message::read(bytes, if taken_for_own { mark } else { wall.mark })?;
+    wall.deliver(&to_bytes(&message, wall.mark))
+}
+
 #[test]
-fn a_wall_that_listens_to_a_neighbour_is_found() {
-    let any_mark: Deliver = |wall, bytes| {
-        let mark = bytes::u64_at(bytes, MARK_AT);
-        let message = message::read(bytes, mark)?;
-        wall.deliver(&to_bytes(&message, wall.mark))
-    };
-    let half_a_mark: Deliver = |wall, bytes| {
-        let mark = bytes::u64_at(bytes, MARK_AT);
-        let like_own = mark as u32 == wall.mark as u32;
-        let message = message::read(bytes, if like_own { mark } else { wall.mark })?;
-        wall.deliver(&to_bytes(&message, wall.mark))
-    };
-    for deliver in [any_mark, half_a_mark] {
+fn a_wall_that_follows_a_neighbour_is_found() {
+    const LOW_HALF: Mark = u32::MAX as Mark;
+    let is_found = |deliver: Deliver| {
         let mut random = Random::new(42);
-        let halls = (0..20).map(|_| follow_hall(&mut random, deliver, &mut Seen::default()));
-        assert!(halls.into_iter().any(|followed| followed.is_err()));
-    }
+        (0..50).any(|_| follow_hall(&mut random, deliver, &mut Seen::default()).is_err())
+    };
+    assert!(!is_found(deliver_by::<{ Mark::MAX }>));
+    assert!(is_found(deliver_by::<0>));
+    assert!(is_found(deliver_by::<LOW_HALF>));
+    assert!(is_found(deliver_by::<{ !LOW_HALF }>));
+    assert!(is_found(deliver_by::<{ !1 }>));
 }
