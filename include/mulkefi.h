@@ -15,7 +15,19 @@
  * Places. With MULKEFI_RELATIONS_UNMET and MULKEFI_RELATIONS_BROKEN the place is that of the first relation, in table order and counted
  * from 0, that is not met; with every other number it is 0. MULKEFI_RELATIONS_UNMET counts in the image's table of relations.
  * MULKEFI_RELATIONS_BROKEN counts in the table that the edit would have left: the image's, and behind it the relation that the edit adds,
- * the pin. So the place may be the image's number of relations: then it is the pin's, which the image does not hold. */
+ * the pin. So the place may be the image's number of relations: then it is the pin's, which the image does not hold.
+ *
+ * Marks. A wall may hear its neighbours' desks. So each start of a desk or a wall carries a mark of 8 bytes from the host: a desk writes
+ * its mark into every message, and a wall refuses by MULKEFI_FOREIGN a message that bears another mark than its own. Any 8 bytes are a
+ * mark, 0 too, and none is refused. The host owes three things.
+ *   - Each start of a desk gets a mark that no start of a desk had before. Otherwise messages of the earlier start, which may still be on
+ *     their way, are read as this one's.
+ *   - A wall gets its desk's mark, and starts from the same image.
+ *   - Desk and wall keep the mark beside image and count, and hand it to every call until the next start, also when they resume from
+ *     what they kept.
+ * A host comes by a mark as 8 random bytes from the system, or as a counter of starts that it keeps on disk, with the desk's own number in
+ * the upper half. In a message the mark stands in bytes 5 to 12, the highest first, for a host that routes messages; a wall may as well
+ * be handed them all. */
 #ifndef MULKEFI_H
 #define MULKEFI_H
 
@@ -27,7 +39,7 @@ extern "C" {
 #endif
 
 /* An edit message's size, and the largest image's, in bytes. A buffer of the largest image's size is never too short. */
-#define MULKEFI_MESSAGE_SIZE 30
+#define MULKEFI_MESSAGE_SIZE 38
 #define MULKEFI_IMAGE_SIZE 21135
 
 /* What a drawing holds at most. Ids run from 1 to 4294967294. */
@@ -69,13 +81,14 @@ enum mulkefi_operation {
 enum mulkefi_refusal {
     MULKEFI_ACCEPTED = 0,
     /* of an image or a message */
-    MULKEFI_BAD_LENGTH = 1,        /* too few bytes, or not as many as the length field says */
+    MULKEFI_BAD_LENGTH = 1,        /* too few bytes, not as many as the length field says, or of a message not 38 */
     MULKEFI_BAD_VERSION = 2,       /* a version that this build does not read */
     MULKEFI_BAD_COUNT = 3,         /* a table over its limit, or counts that do not match the length */
     MULKEFI_BAD_VALUE = 4,         /* a value out of range, or a field not zero that has to be */
     MULKEFI_BAD_ID = 5,            /* an id out of order or range, missing, of the wrong kind, or repeated */
     MULKEFI_BAD_OPERATION = 6,     /* an unknown operation, or a message with number 0 */
     MULKEFI_AHEAD = 7,             /* an earlier message has not arrived yet */
+    MULKEFI_FOREIGN = 28,          /* a message with another mark: another desk's, or of another start */
     /* of an edit */
     MULKEFI_NO_CURVE = 8,          /* no such curve */
     MULKEFI_BAD_PICK = 9,          /* a pick that is not finite or beyond 1,000,000 */
@@ -106,23 +119,27 @@ uint32_t mulkefi_test(const uint8_t *image, size_t len);
 
 /* The desk: an edit of a drawing.
  *
- * The drawing is the image in the first `len` bytes of `buffer`, in all `room` bytes where `len` is larger, after `count` edits.
- * Accepted: the new image stands at the buffer's front, the edit's message in the first 30 bytes of `message`, and `answer` holds the
- * new count, the new image's size, the removed curve and its two ends. What lies beyond is left as it was.
+ * The drawing is the image in the first `len` bytes of `buffer`, in all `room` bytes where `len` is larger, after `count` edits since
+ * the start with this `mark`. Accepted: the new image stands at the buffer's front, the edit's message, which bears the mark, in the first
+ * 38 bytes of `message`, and `answer` holds the new count, the new image's size, the removed curve and its two ends. What lies beyond is
+ * left as it was.
  *
- * Refused, in this order: the image's numbers; 6 for an unknown operation; 25 where `message_room` is below 30; 23 where `count` is
+ * Refused, in this order: the image's numbers; 6 for an unknown operation; 25 where `message_room` is below 38; 23 where `count` is
  * 4294967295; the edit's numbers, 8 to 24, as it meets them; 25 where `room` is too short for the new image. */
-uint32_t mulkefi_desk_edit(uint8_t *buffer, size_t room, size_t len, uint32_t count, uint32_t operation, uint32_t curve, double x, double y,
-                           uint8_t *message, size_t message_room, uint32_t answer[5]);
+uint32_t mulkefi_desk_edit(uint8_t *buffer, size_t room, size_t len, uint32_t count, uint64_t mark, uint32_t operation, uint32_t curve,
+                           double x, double y, uint8_t *message, size_t message_room, uint32_t answer[5]);
 
-/* The wall: a message of the desk's, as it came, to a drawing given as at the desk.
+/* The wall: a message as it came, whosever it is, to a drawing given as at the desk; `mark` is that of the wall's own desk.
  *
  * Accepted, the next one: its edit is applied, and buffer and answer are left as at the desk. Accepted, an old one, whose number is not
  * above `count`: the buffer is left, and `answer` holds the count as it was, the image's size and three zeros.
  *
- * Refused, in this order: the image's numbers; the message's, 1, 2 and 6; 7 where messages before it are missing; the edit's numbers;
- * 25 where `room` is too short for the new image. The count is then still what it was. */
-uint32_t mulkefi_wall_deliver(uint8_t *buffer, size_t room, size_t len, uint32_t count, const uint8_t *message, size_t message_len, uint32_t answer[5]);
+ * Refused, in this order: the image's numbers; 1 for a message under 5 bytes, 2 for its version, 1 for any size but 38 or length field
+ * but 34; 28 where it bears another mark than `mark`, whatever its number and operation are; 6 for number 0 or an unknown operation; 7
+ * where messages before it are missing; the edit's numbers; 25 where `room` is too short for the new image. The count is then still what
+ * it was. */
+uint32_t mulkefi_wall_deliver(uint8_t *buffer, size_t room, size_t len, uint32_t count, uint64_t mark, const uint8_t *message,
+                              size_t message_len, uint32_t answer[5]);
 
 /* The roots from 0 to 1 of the polynomial with these `n` coefficients in Bernstein form.
  *

@@ -21,6 +21,9 @@ static const uint8_t drawing[] = {
 /* Where fields of the drawing stand. */
 enum { LENGTH = 3, RELATIONS = 14, POINT_4_Y = 69, RELATION_0 = 193, VALUE = 9, RELATION_SIZE = 17 };
 
+/* The mark of the desk's start. Every edit is refused, so that no message bears it. */
+static const uint64_t mark = 1;
+
 static const char *const kinds[] = {"", "Coincident", "PointOnCurve", "Collinear", "Equal", "Length", "Distance", "Midpoint", "ArcLength", "ArcSweep"};
 
 /* Extends line 3 to line 6, and tells which relation forbids it. */
@@ -28,7 +31,7 @@ static int extend(uint8_t *image, size_t room, size_t len)
 {
     uint8_t message[MULKEFI_MESSAGE_SIZE];
     uint32_t answer[MULKEFI_ANSWER_SIZE];
-    uint32_t refusal = mulkefi_desk_edit(image, room, len, 0, MULKEFI_EXTEND, 3, 2.0, 0.0, message, sizeof message, answer);
+    uint32_t refusal = mulkefi_desk_edit(image, room, len, 0, mark, MULKEFI_EXTEND, 3, 2.0, 0.0, message, sizeof message, answer);
     uint32_t number = MULKEFI_NUMBER(refusal), place = MULKEFI_PLACE(refusal);
     const uint8_t *relation = image + RELATION_0 + RELATION_SIZE * place;
 

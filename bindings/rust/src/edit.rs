@@ -38,14 +38,14 @@ pub struct Edit {
 /// a circle that was cut one ring.
 ///
 /// ```
-/// use mulkefi::{read, Desk, Drawing, Edit, Kind, Operation};
+/// use mulkefi::{read, Desk, Drawing, Edit, Kind, Mark, Operation};
 ///
 /// let mut drawing = Drawing::new();
 /// let (a, b) = (drawing.add_point(-9.0, 0.0), drawing.add_point(9.0, 0.0));
 /// drawing.add_curve(Kind::Line { a, b });
 /// let c = drawing.add_point(0.0, 0.0);
 /// let wheel = drawing.add_curve(Kind::Circle { c, radius: 5.0 });
-/// let mut desk = Desk::start(&drawing.to_image())?;
+/// let mut desk = Desk::start(&drawing.to_image(), Mark::from(7))?;
 ///
 /// let trim = Edit { operation: Operation::Trim, curve: wheel, x: 0.0, y: 5.0 };
 /// let gone = desk.edit(&trim)?.report;

@@ -1,19 +1,21 @@
 //! Two screens that cut one drawing alike, to the bit: the proved engine as safe Rust calls.
 //!
-//! A [`Desk`] and a [`Wall`] start from one image. Each accepted edit at the desk gives a message of
-//! thirty bytes; the wall that gets it applies the same edit. Messages may be lost, come twice or out of
-//! order: the wall then waits, and asks for nothing but the message after its count.
+//! A [`Desk`] and a [`Wall`] start from one image, with one [`Mark`]. Each accepted edit at the desk gives
+//! a message of 38 bytes; the wall that gets it applies the same edit. Messages may be lost, come twice or
+//! out of order: the wall then waits, and asks for nothing but the message after its count. Messages of
+//! other desks may come between: the wall refuses them by their mark.
 //!
 //! ```
-//! use mulkefi::{Delivery, Desk, Drawing, Edit, Kind, Operation, Wall};
+//! use mulkefi::{Delivery, Desk, Drawing, Edit, Kind, Mark, Operation, Wall};
 //!
 //! let mut drawing = Drawing::new();
 //! let (a, b) = (drawing.add_point(0.0, 0.0), drawing.add_point(4.0, 0.0));
 //! let deck = drawing.add_curve(Kind::Line { a, b });
 //! let image = drawing.to_image();
 //!
-//! let mut desk = Desk::start(&image)?;
-//! let mut wall = Wall::start(&image)?;
+//! let mark = Mark::from(7);
+//! let mut desk = Desk::start(&image, mark)?;
+//! let mut wall = Wall::start(&image, mark)?;
 //! let edit = Edit { operation: Operation::Split, curve: deck, x: 1.0, y: 3.0 };
 //! let accepted = desk.edit(&edit)?;
 //! assert_eq!(wall.deliver(&accepted.message)?, Delivery::Applied(accepted.report));
@@ -40,6 +42,7 @@ mod fault;
 mod format;
 mod lend;
 mod magnitude;
+mod mark;
 mod position;
 mod reader;
 mod record;
@@ -57,8 +60,9 @@ pub use desk::{Accepted, Desk};
 pub use drawing::{Curve, Drawing, Id, Kind, Point, Relation};
 pub use edit::{Edit, Operation, Report};
 pub use fault::{Fault, Table};
-pub use format::{LARGEST_IMAGE, MESSAGE_SIZE};
+pub use format::{message, LARGEST_IMAGE, MESSAGE_SIZE};
 pub use magnitude::{largest_magnitude, Magnitude};
+pub use mark::Mark;
 pub use position::{Bounds, Position};
 pub use reader::read;
 pub use refusal::Refusal;
@@ -75,12 +79,16 @@ pub struct Versions {
 }
 
 /// The versions that this crate is written for.
-pub const VERSIONS: Versions = Versions { image: 1, message: 1 };
+pub const VERSIONS: Versions =
+    Versions { image: format::IMAGE_VERSION, message: format::MESSAGE_VERSION };
 
 /// Asks the engine for its versions.
 ///
 /// ```
-/// assert_eq!(mulkefi::versions(), mulkefi::VERSIONS);
+/// use mulkefi::{versions, Versions, VERSIONS};
+///
+/// assert_eq!(versions(), VERSIONS);
+/// assert_eq!(VERSIONS, Versions { image: 1, message: 2 });
 /// ```
 pub fn versions() -> Versions {
     // SAFETY: the call takes nothing and only answers a number.

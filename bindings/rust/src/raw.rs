@@ -13,13 +13,14 @@ extern "C" {
     pub fn mulkefi_test(image: *const u8, len: usize) -> u32;
 
     /// The desk's call on the image in the first `len` of `room` bytes. Accepted, it writes the new
-    /// image and the message to the buffers' fronts and gives count, image's length, removed curve,
-    /// its start and its end.
+    /// image and the message, which bears the mark, to the buffers' fronts and gives count, image's
+    /// length, removed curve, its start and its end.
     pub fn mulkefi_desk_edit(
         buffer: *mut u8,
         room: usize,
         len: usize,
         count: u32,
+        mark: u64,
         operation: u32,
         curve: u32,
         x: f64,
@@ -31,12 +32,14 @@ extern "C" {
 
     /// The wall's call on the image in the first `len` of `room` bytes. Accepted, it writes the new
     /// image to the buffer's front and gives count, image's length, removed curve, its start and its
-    /// end. An old message is accepted and leaves count and image.
+    /// end. An old message is accepted and leaves count and image. One with another mark is refused by
+    /// 28.
     pub fn mulkefi_wall_deliver(
         buffer: *mut u8,
         room: usize,
         len: usize,
         count: u32,
+        mark: u64,
         message: *const u8,
         message_len: usize,
         answer: *mut u32,

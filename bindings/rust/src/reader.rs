@@ -56,8 +56,8 @@ fn header(bytes: &[u8]) -> Reading<([usize; 3], Id)> {
     if bytes.len() <= LENGTH_SIZE {
         return fault(Refusal::Length, end, false, "no version byte");
     }
-    if bytes[4] != VERSION {
-        return fault(Refusal::Version, 4..5, true, "version is not 1");
+    if bytes[VERSION_AT] != IMAGE_VERSION {
+        return fault(Refusal::Version, VERSION_AT..VERSION_AT + 1, true, "version is not 1");
     }
     if u32_at(bytes, 0) as usize != bytes.len() - LENGTH_SIZE {
         return fault(Refusal::Length, 0..4, false, "length is not the number of bytes behind it");

@@ -40,6 +40,7 @@ pub enum Refusal {
     Numbers,
     Coordinate,
     Buffer,
+    Foreign,
     /// A number that this crate does not know: the library is a later one.
     Other {
         number: u16,
@@ -83,6 +84,7 @@ impl Refusal {
             23 => Refusal::Numbers,
             24 => Refusal::Coordinate,
             25 => Refusal::Buffer,
+            28 => Refusal::Foreign,
             number => Refusal::Other { number },
         }
     }
@@ -122,6 +124,7 @@ impl Refusal {
             Refusal::Numbers => 23,
             Refusal::Coordinate => 24,
             Refusal::Buffer => 25,
+            Refusal::Foreign => 28,
             Refusal::Other { number } => number,
         }
     }
@@ -163,6 +166,7 @@ impl Refusal {
             Refusal::Numbers => "The ids, or the edits' numbers, are used up.",
             Refusal::Coordinate => "A new point would lie out of bounds.",
             Refusal::Buffer => "The buffer is too short.",
+            Refusal::Foreign => "The message is another desk's, by its mark.",
             Refusal::Other { .. } => "The engine gave a number that this crate doesn't know.",
         }
     }
@@ -190,6 +194,11 @@ impl std::error::Error for Refusal {}
 mod tests {
     use super::*;
 
+    /// The numbers in use.
+    fn numbers() -> impl Iterator<Item = u16> {
+        (1..=25).chain([28])
+    }
+
     #[test]
     fn numbers_round_trip() {
         assert_eq!(Refusal::of_answer(0), Ok(()));
@@ -197,14 +206,15 @@ mod tests {
             let refusal = Refusal::of_answer(u32::from(number)).unwrap_err();
             assert_eq!(refusal.number(), number);
             let known = !matches!(refusal, Refusal::Other { .. });
-            assert_eq!(known, number <= 25);
+            assert_eq!(known, numbers().any(|used| used == number));
         }
     }
 
     #[test]
     fn places_come_with_two_numbers() {
-        for number in 1..=25 {
-            let place = Refusal::of_answer(number + 7 * 65_536).unwrap_err().place();
+        for number in numbers() {
+            let answer = u32::from(number) + 7 * 65_536;
+            let place = Refusal::of_answer(answer).unwrap_err().place();
             assert_eq!(place, [13, 19].contains(&number).then_some(7));
         }
     }
@@ -212,7 +222,7 @@ mod tests {
     #[test]
     fn the_handbook_has_every_sentence_under_its_number() {
         let handbook = include_str!("../../../docs/HANDBOOK.md");
-        for number in 1..=25 {
+        for number in numbers() {
             let refusal = Refusal::new(number, 0);
             let heading = format!("### {number}. {}", refusal.sentence());
             assert!(handbook.lines().any(|line| line == heading), "{heading}");

@@ -1,7 +1,9 @@
-//! The state of a desk or of a wall: an image, in a buffer with room for the largest, and a count.
+//! The state of a desk or of a wall: an image, in a buffer with room for the largest, the mark of its
+//! start, and a count.
 
 use crate::edit::Report;
 use crate::format::LARGEST_IMAGE;
+use crate::mark::Mark;
 use crate::refusal::Refusal;
 
 /// The first `len` bytes of the buffer are an image that the engine accepts.
@@ -9,6 +11,7 @@ use crate::refusal::Refusal;
 pub struct Replica {
     pub buffer: Box<[u8; LARGEST_IMAGE]>,
     pub len: usize,
+    pub mark: Mark,
     pub count: u32,
 }
 
@@ -19,14 +22,14 @@ impl Replica {
     /// # Panics
     ///
     /// If the library is of other versions than the sizes of this crate's buffers.
-    pub fn new(image: &[u8], count: u32) -> Result<Replica, Refusal> {
+    pub fn new(image: &[u8], mark: Mark, count: u32) -> Result<Replica, Refusal> {
         assert_eq!(crate::versions(), crate::VERSIONS, "the library is of the crate's versions");
         crate::test(image)?;
         let mut buffer = Box::new([0; LARGEST_IMAGE]);
         // The engine accepts nothing longer; were it otherwise, that is a refusal too.
         let front = buffer.get_mut(..image.len()).ok_or(Refusal::Buffer)?;
         front.copy_from_slice(image);
-        Ok(Replica { buffer, len: image.len(), count })
+        Ok(Replica { buffer, len: image.len(), mark, count })
     }
 
     pub fn image(&self) -> &[u8] {

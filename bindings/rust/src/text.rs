@@ -4,8 +4,8 @@ use crate::drawing::{Curve, Drawing, Kind, Point, Relation};
 use std::fmt;
 
 impl Drawing {
-    /// The drawing in words, where a `>` in front marks the relation at a place and the points and
-    /// curves that it names. Where there is no such relation, nothing is marked.
+    /// The drawing in words, where a `>` in front highlights the relation at a place and the points and
+    /// curves that it names. Where there is no such relation, nothing is highlighted.
     ///
     /// ```
     /// use mulkefi::{Drawing, Kind, Relation};
@@ -26,24 +26,24 @@ impl Drawing {
     ///        0  Length of 3, 4.0
     /// >      1  PointOnCurve of 1, 3
     /// ";
-    /// assert_eq!(drawing.marked(1).to_string(), text);
-    /// assert_eq!(drawing.marked(2).to_string(), drawing.to_string());
+    /// assert_eq!(drawing.highlighted(1).to_string(), text);
+    /// assert_eq!(drawing.highlighted(2).to_string(), drawing.to_string());
     /// ```
-    pub fn marked(&self, place: usize) -> impl fmt::Display + '_ {
-        Listing { drawing: self, marked: Some(place) }
+    pub fn highlighted(&self, place: usize) -> impl fmt::Display + '_ {
+        Listing { drawing: self, highlighted: Some(place) }
     }
 }
 
-/// A drawing's records, some of them marked.
+/// A drawing's records, some of them highlighted.
 struct Listing<'d> {
     drawing: &'d Drawing,
-    marked: Option<usize>,
+    highlighted: Option<usize>,
 }
 
 impl fmt::Display for Listing<'_> {
     fn fmt(&self, f: &mut fmt::Formatter<'_>) -> fmt::Result {
-        let Listing { drawing: Drawing { next, points, curves, relations }, marked } = self;
-        let relation = marked.and_then(|place| self.drawing.relation(place));
+        let Listing { drawing: Drawing { next, points, curves, relations }, highlighted } = self;
+        let relation = highlighted.and_then(|place| self.drawing.relation(place));
         let named_points = relation.map_or(Vec::new(), Relation::points);
         let named_curves = relation.map_or(Vec::new(), Relation::curves);
         writeln!(f, "next id {next}\n{} points", points.len())?;
@@ -57,15 +57,15 @@ impl fmt::Display for Listing<'_> {
         writeln!(f, "{} relations", relations.len())?;
         // A relation has no id; refusals name it by its place.
         for (place, relation) in relations.iter().enumerate() {
-            write_record(f, *marked == Some(place), format!("{place:>8}  {relation}"))?;
+            write_record(f, *highlighted == Some(place), format!("{place:>8}  {relation}"))?;
         }
         Ok(())
     }
 }
 
-/// The mark stands in the place of a space, so that columns stay; an id of eight digits or more has none.
-fn write_record(f: &mut fmt::Formatter<'_>, marked: bool, line: String) -> fmt::Result {
-    match marked {
+/// The `>` stands in the place of a space, so that columns stay; an id of eight digits or more has none.
+fn write_record(f: &mut fmt::Formatter<'_>, highlighted: bool, line: String) -> fmt::Result {
+    match highlighted {
         true => writeln!(f, ">{}", line.strip_prefix(' ').unwrap_or(&line)),
         false => writeln!(f, "{line}"),
     }
@@ -91,7 +91,7 @@ fn write_record(f: &mut fmt::Formatter<'_>, marked: bool, line: String) -> fmt::
 /// ```
 impl fmt::Display for Drawing {
     fn fmt(&self, f: &mut fmt::Formatter<'_>) -> fmt::Result {
-        Listing { drawing: self, marked: None }.fmt(f)
+        Listing { drawing: self, highlighted: None }.fmt(f)
     }
 }
 

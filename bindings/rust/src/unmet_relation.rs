@@ -22,7 +22,7 @@ impl Refusal {
     /// 13 names the first relation of the drawing that is not met:
     ///
     /// ```
-    /// use mulkefi::{Desk, Drawing, Edit, Kind, Operation, Refusal, Relation, UnmetRelation};
+    /// use mulkefi::{Desk, Drawing, Edit, Kind, Mark, Operation, Refusal, Relation, UnmetRelation};
     ///
     /// let mut drawing = Drawing::new();
     /// let (a, b) = (drawing.add_point(0.0, 0.0), drawing.add_point(2.0, 0.0));
@@ -37,7 +37,8 @@ impl Refusal {
     ///     Relation::Coincident { p: b, q: p },
     /// ];
     /// let extend = Edit { operation: Operation::Extend, curve: beam, x: 2.0, y: 0.0 };
-    /// let refusal = Desk::start(&drawing.to_image())?.edit(&extend).unwrap_err();
+    /// let mut desk = Desk::start(&drawing.to_image(), Mark::from(7))?;
+    /// let refusal = desk.edit(&extend).unwrap_err();
     /// assert_eq!(refusal, Refusal::Unmet { place: 1 });
     /// let named = refusal.relation(&drawing);
     /// assert_eq!(named, Some(UnmetRelation::Standing(&Relation::Length { line: post, value: 3.0 })));
@@ -47,7 +48,7 @@ impl Refusal {
     /// 19 names the first that would not be met after the edit, or the pin that the edit adds:
     ///
     /// ```
-    /// use mulkefi::{Desk, Drawing, Edit, Kind, Operation, Refusal, Relation, UnmetRelation};
+    /// use mulkefi::{Desk, Drawing, Edit, Kind, Mark, Operation, Refusal, Relation, UnmetRelation};
     ///
     /// let mut drawing = Drawing::new();
     /// let (a, b) = (drawing.add_point(0.0, 0.0), drawing.add_point(2.0, 0.0));
@@ -59,12 +60,14 @@ impl Refusal {
     ///
     /// let length = Relation::Length { line: beam, value: 2.0 };
     /// drawing.relations = vec![length, Relation::Distance { p: a, q: b, value: 2.0 }];
-    /// let refusal = Desk::start(&drawing.to_image())?.edit(&extend).unwrap_err();
+    /// let mut desk = Desk::start(&drawing.to_image(), Mark::from(7))?;
+    /// let refusal = desk.edit(&extend).unwrap_err();
     /// assert_eq!(refusal, Refusal::Conflict { place: 0 });
     /// assert_eq!(refusal.relation(&drawing), Some(UnmetRelation::Standing(&length)));
     ///
     /// drawing.relations = vec![Relation::PointOnCurve { p: a, curve: beam }];
-    /// let refusal = Desk::start(&drawing.to_image())?.edit(&extend).unwrap_err();
+    /// let mut desk = Desk::start(&drawing.to_image(), Mark::from(7))?;
+    /// let refusal = desk.edit(&extend).unwrap_err();
     /// assert_eq!(refusal, Refusal::Conflict { place: 1 });
     /// assert_eq!(refusal.relation(&drawing), Some(UnmetRelation::Pin));
     ///

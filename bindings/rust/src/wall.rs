@@ -3,12 +3,13 @@
 use crate::edit::Report;
 use crate::format::LARGEST_IMAGE;
 use crate::lend;
+use crate::mark::Mark;
 use crate::raw;
 use crate::refusal::Refusal;
 use crate::replica::{Answer, Replica};
 use std::fmt;
 
-/// A drawing's image, and how many edits were applied to it.
+/// A drawing's image, the mark of its desk, and how many edits were applied since the start.
 #[derive(Clone)]
 pub struct Wall(Replica);
 
@@ -21,22 +22,28 @@ pub enum Delivery {
 }
 
 impl Wall {
-    /// A wall with count 0, or the refusal of its image.
+    /// A wall with count 0, or the refusal of its image. Image and mark are those that its desk started
+    /// with.
     ///
     /// # Panics
     ///
     /// If the library is of other versions than this crate, as in [`Wall::resume`].
-    pub fn start(image: &[u8]) -> Result<Wall, Refusal> {
-        Wall::resume(image, 0)
+    pub fn start(image: &[u8], mark: Mark) -> Result<Wall, Refusal> {
+        Wall::resume(image, mark, 0)
     }
 
-    /// A wall as it was left: its image and count.
-    pub fn resume(image: &[u8], count: u32) -> Result<Wall, Refusal> {
-        Replica::new(image, count).map(Wall)
+    /// A wall as it was left: its image, mark and count.
+    pub fn resume(image: &[u8], mark: Mark, count: u32) -> Result<Wall, Refusal> {
+        Replica::new(image, mark, count).map(Wall)
     }
 
     pub fn image(&self) -> &[u8] {
         self.0.image()
+    }
+
+    /// The mark that its desk's messages bear.
+    pub fn mark(&self) -> Mark {
+        self.0.mark
     }
 
     /// The number of the last edit applied. The wall waits for the message with the number after it.
@@ -44,23 +51,48 @@ impl Wall {
         self.0.count
     }
 
-    /// Takes a message. A refusal leaves the wall as it was.
+    /// Takes a message, from whatever desk it comes. A refusal leaves the wall as it was.
     ///
     /// ```
-    /// use mulkefi::{Drawing, Refusal, Wall};
+    /// use mulkefi::{Drawing, Mark, Refusal, Wall};
     ///
-    /// let mut wall = Wall::start(&Drawing::new().to_image())?;
+    /// let mut wall = Wall::start(&Drawing::new().to_image(), Mark::from(7))?;
     /// assert_eq!(wall.deliver(&[]), Err(Refusal::Length));
-    /// assert_eq!(wall.deliver(&[0; 30]), Err(Refusal::Version));
+    /// assert_eq!(wall.deliver(&[0; 38]), Err(Refusal::Version));
     ///
     /// // Number 2 while number 1 has not come.
-    /// let mut message = [0; 30];
-    /// message[..10].copy_from_slice(&[0, 0, 0, 26, 1, 0, 0, 0, 2, 1]);
+    /// let mut message = [0; 38];
+    /// message[..5].copy_from_slice(&[0, 0, 0, 34, 2]);
+    /// message[5..18].copy_from_slice(&[0, 0, 0, 0, 0, 0, 0, 7, 0, 0, 0, 2, 1]);
     /// assert_eq!(wall.deliver(&message), Err(Refusal::Ahead));
     /// # Ok::<(), Refusal>(())
     /// ```
+    ///
+    /// A neighbour's message changes nothing, not even one with the number that the wall waits for:
+    ///
+    /// ```
+    /// use mulkefi::{Delivery, Desk, Drawing, Edit, Kind, Mark, Operation, Refusal, Wall};
+    ///
+    /// let mut drawing = Drawing::new();
+    /// let (a, b) = (drawing.add_point(0.0, 0.0), drawing.add_point(4.0, 0.0));
+    /// let curve = drawing.add_curve(Kind::Line { a, b });
+    /// let image = drawing.to_image();
+    /// let mut desk = Desk::start(&image, Mark::from(1))?;
+    /// let mut neighbour = Desk::start(&image, Mark::from(2))?;
+    /// let mut wall = Wall::start(&image, desk.mark())?;
+    ///
+    /// let split = Edit { operation: Operation::Split, curve, x: 1.0, y: 0.0 };
+    /// let foreign = neighbour.edit(&split)?.message;
+    /// assert_eq!(wall.deliver(&foreign), Err(Refusal::Foreign));
+    /// assert_eq!((wall.image(), wall.count()), (&image[..], 0));
+    ///
+    /// let own = desk.edit(&split)?;
+    /// assert_eq!(wall.deliver(&own.message)?, Delivery::Applied(own.report));
+    /// assert_eq!(wall.deliver(&foreign), Err(Refusal::Foreign));
+    /// # Ok::<(), Refusal>(())
+    /// ```
     pub fn deliver(&mut self, message: &[u8]) -> Result<Delivery, Refusal> {
-        let Replica { buffer, len, count } = &mut self.0;
+        let Replica { buffer, len, mark, count } = &mut self.0;
         assert!(*len <= LARGEST_IMAGE, "an image keeps within its buffer");
         let (bytes, size) = lend::bytes(message);
         let before = *count;
@@ -73,6 +105,7 @@ impl Wall {
                 buffer.len(),
                 *len,
                 *count,
+                (*mark).into(),
                 bytes,
                 size,
                 answer.as_mut_ptr(),
@@ -86,6 +119,7 @@ impl Wall {
 
 impl fmt::Debug for Wall {
     fn fmt(&self, f: &mut fmt::Formatter<'_>) -> fmt::Result {
-        write!(f, "Wall {{ image: {} bytes, count: {} }}", self.0.len, self.0.count)
+        let Replica { len, mark, count, .. } = &self.0;
+        write!(f, "Wall {{ image: {len} bytes, mark: {mark}, count: {count} }}")
     }
 }

@@ -1,7 +1,7 @@
 //! Images of drawings.
 
 use crate::drawing::{Curve, Drawing, Kind, Point, Relation};
-use crate::format::{image_size, LENGTH_SIZE, SLOTS, VERSION};
+use crate::format::{image_size, IMAGE_VERSION, LENGTH_SIZE, SLOTS};
 
 impl Drawing {
     /// The bytes of the drawing's image. Where the drawing breaks a rule, they break it too, and the
@@ -25,7 +25,7 @@ impl Drawing {
         let mut bytes = Vec::with_capacity(size);
         let length = u32::try_from(size - LENGTH_SIZE).unwrap_or(u32::MAX);
         bytes.extend(length.to_be_bytes());
-        bytes.push(VERSION);
+        bytes.push(IMAGE_VERSION);
         bytes.extend(self.next.to_be_bytes());
         // A count past its field is over every limit.
         let fields = counts.map(|count| u16::try_from(count).unwrap_or(u16::MAX).to_be_bytes());

@@ -65,7 +65,7 @@ fn with_relations() -> Drawing {
 }
 
 #[test]
-fn a_relation_is_marked_with_what_it_names() {
+fn a_relation_is_highlighted_with_what_it_names() {
     let output = show(&["--relation", "1"], &with_relations().to_image());
     let listed = "\
 image of 206 bytes, version 1

@@ -1,13 +1,15 @@
 //! Tests that every call's answer passes.
 
 use oracle::image::HEADER_SIZE;
-use oracle::message::SIZE;
+use oracle::message::{self, Mark, SIZE};
 
 /// Count, image's length, removed curve, its start and its end.
 pub const ANSWER: usize = 5;
 /// What the answer's memory holds before a call.
 pub const ANSWER_BEFORE: [u8; 4 * ANSWER] = [0x3c; 4 * ANSWER];
 pub const MESSAGE_SIZE: usize = SIZE;
+/// The number of a message with another mark.
+const FOREIGN: u32 = 28;
 
 /// A known refusal's number, and no place.
 pub fn number(answer: u32) -> Result<u32, String> {
@@ -30,6 +32,32 @@ pub fn edit_number(answer: u32, image: &[u8]) -> Result<u32, String> {
         true => Ok(number),
         false => Err(format!("{number} with place {place}, of {places}")),
     }
+}
+
+/// The same of a delivery to a wall with this mark. It is refused by a number of images or of messages, 28
+/// among them, just where the plain reading is.
+pub fn delivery_number(
+    answer: u32,
+    image: &[u8],
+    mark: Mark,
+    message: &[u8],
+) -> Result<u32, String> {
+    let number = if answer == FOREIGN { answer } else { edit_number(answer, image)? };
+    match (plain_reading(image, mark, message), number) {
+        (Some(expected), _) if expected == number => Ok(number),
+        (None, 0 | 7..=25) => Ok(number),
+        (expected, _) => {
+            let expected = expected.unwrap_or(0);
+            Err(format!("the engine says {number}, the plain reading {expected}"))
+        }
+    }
+}
+
+/// The number by which readers in Rust refuse the image, or else the message.
+fn plain_reading(image: &[u8], mark: Mark, message: &[u8]) -> Option<u32> {
+    let of_image = mulkefi::read(image).err().map(|fault| fault.refusal.number().into());
+    let of_message = || message::read(message, mark).err().map(|refusal| refusal.number().into());
+    of_image.or_else(of_message)
 }
 
 /// How many relations an image has; 0 where bytes are too few for its header.

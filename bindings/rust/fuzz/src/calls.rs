@@ -8,6 +8,7 @@ pub type DeskEdit = unsafe extern "C" fn(
     usize,
     usize,
     u32,
+    u64,
     u32,
     u32,
     f64,
@@ -17,7 +18,7 @@ pub type DeskEdit = unsafe extern "C" fn(
     *mut u32,
 ) -> u32;
 pub type WallDeliver =
-    unsafe extern "C" fn(*mut u8, usize, usize, u32, *const u8, usize, *mut u32) -> u32;
+    unsafe extern "C" fn(*mut u8, usize, usize, u32, u64, *const u8, usize, *mut u32) -> u32;
 pub type Roots = unsafe extern "C" fn(*const f64, usize, *mut f64, usize, usize, *mut u64) -> u32;
 pub type LargestMagnitude = unsafe extern "C" fn(*const f64, usize, *mut f64) -> usize;
 

@@ -5,7 +5,9 @@ use crate::buffers::Buffers;
 use crate::calls::Calls;
 use crate::inputs;
 use mulkefi::{Delivery, Wall};
+use oracle::generate::marks;
 use oracle::generate::random::Random;
+use oracle::message::Mark;
 
 /// The bytes lent for a message: mostly just enough.
 const ROOMS: [usize; 9] = [
@@ -32,7 +34,7 @@ impl Subject {
         let call = inputs::call(random);
         let held = inputs::buffer(random, &call.image);
         let len = inputs::claimed(random, call.image.len(), held.len());
-        let count = inputs::count(random);
+        let (mark, count) = (marks::mark(random), inputs::count(random));
         let lent = vec![0x77; random.pick(&ROOMS)];
         let buffer = self.0.buffer.lend(&held, inputs::edge(random));
         let message = self.0.message.lend(&lent, inputs::edge(random));
@@ -45,6 +47,7 @@ impl Subject {
                 held.len(),
                 len,
                 count,
+                mark,
                 operation,
                 curve,
                 x,
@@ -57,7 +60,7 @@ impl Subject {
         let image = &held[..len.min(held.len())];
         let outcome = edit_number(answered, image)?;
         match outcome {
-            0 => self.accepted(image, count).map(|()| 0),
+            0 => self.accepted(image, mark, count).map(|()| 0),
             _ => self.untouched().map(|()| outcome),
         }
     }
@@ -68,9 +71,9 @@ impl Subject {
         self.0.answer.check("the answer, on refusal", 0)
     }
 
-    /// The image, the message and five numbers are written; a wall that gets the message has the
-    /// same image.
-    fn accepted(&self, image: &[u8], count: u32) -> Result<(), String> {
+    /// The image, the message and five numbers are written; a wall with the same mark that gets the
+    /// message has the same image.
+    fn accepted(&self, image: &[u8], mark: Mark, count: u32) -> Result<(), String> {
         self.0.answer.check("the answer", ANSWER_BEFORE.len())?;
         let words = words(self.0.answer.bytes());
         let len = words[1] as usize;
@@ -81,7 +84,7 @@ impl Subject {
         }
         let after = &self.0.buffer.bytes()[..len];
         let wrong = |refusal| format!("at a wall: {refusal}");
-        let mut wall = Wall::resume(image, count).map_err(wrong)?;
+        let mut wall = Wall::resume(image, mark.into(), count).map_err(wrong)?;
         let delivery = wall.deliver(&self.0.message.bytes()[..MESSAGE_SIZE]).map_err(wrong)?;
         let same = matches!(delivery, Delivery::Applied(_)) && wall.image() == after;
         if same {

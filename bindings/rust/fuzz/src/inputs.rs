@@ -3,9 +3,9 @@
 use crate::guard::Edge;
 use oracle::call::Call;
 use oracle::generate::random::Random;
-use oracle::generate::{calls, image_bytes, messages};
+use oracle::generate::{calls, image_bytes, marks, messages};
 use oracle::image::{CURVE_SIZE, HEADER_SIZE, POINT_SIZE, RELATION_SIZE};
-use oracle::message::{self, Edit, Message, Operation};
+use oracle::message::{self, Edit, Mark, Message, Operation};
 
 /// More than any image, and what an edit adds to it.
 pub const BUFFER: usize = 6 * 4_096;
@@ -121,17 +121,19 @@ pub fn buffer(random: &mut Random, image: &[u8]) -> Vec<u8> {
     bytes
 }
 
-/// A message for a wall with this count: mostly the next one.
-pub fn message(random: &mut Random, call: &Call, count: u32) -> Vec<u8> {
+/// A message for a wall with this mark and count: mostly the next one of its desk, else one of another desk,
+/// whose mark is near to the wall's or far from it.
+pub fn message(random: &mut Random, call: &Call, mark: Mark, count: u32) -> Vec<u8> {
     let operation = call.operation().unwrap_or(Operation::Trim);
     let edit = Edit { operation, curve: call.curve, x: call.x, y: call.y };
     let next = count.saturating_add(1);
     let number = random.pick(&[next, next, next, next, next, count, next.saturating_add(1)]);
-    let mut bytes = message::to_bytes(&Message { number, edit }).to_vec();
+    let mark = marks::delivered(random, mark);
+    let mut bytes = message::to_bytes(&Message { number, edit }, mark).to_vec();
     match random.below(12) {
-        0 => bytes = messages::message_bytes(random),
+        0 => bytes = messages::message_bytes(random, mark),
         1 => bytes = noise(random, 64),
-        2 => bytes.truncate(random.pick(&[0, 1, 4, 5, 29])),
+        2 => bytes.truncate(random.pick(&[0, 1, 4, 5, message::SIZE - 1])),
         3 => mutate(random, &mut bytes),
         _ => {}
     }

@@ -3,8 +3,9 @@
 //! Every buffer lies against a page that may not be touched, before it or behind it, and what is only
 //! lent for reading may not be written. The calls run on a thread with the stack that the header asks
 //! for. After each call: nothing outside of what an accepted call may write has changed, a refused one
-//! has changed nothing, a place comes with 13 and 19 alone and is one of its table's, and the call has
-//! ended in time. A planted fault stands in for the engine's call, to show that it is seen.
+//! has changed nothing, a place comes with 13 and 19 alone and is one of its table's, a delivery is refused
+//! by the numbers of images and messages, 28 among them, just where plain readers in Rust refuse it, and
+//! the call has ended in time. A planted fault stands in for the engine's call, to show that it is seen.
 
 mod answers;
 mod buffers;

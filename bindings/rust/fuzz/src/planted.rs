@@ -1,10 +1,11 @@
 //! Wrong callees, each the engine's call with one fault.
 
 use crate::calls::{Calls, ENGINE};
-use mulkefi::raw;
+use mulkefi::message::{MARK_AT, NUMBER_AT, OPERATION_AT};
+use mulkefi::{raw, Mark};
 
 /// Names, and what each does.
-pub const ALL: [(&str, &str); 15] = [
+pub const ALL: [(&str, &str); 19] = [
     ("writes-behind", "an accepted edit writes the byte behind its buffer"),
     ("writes-before", "an accepted edit writes the byte before its buffer"),
     ("writes-rest", "an accepted edit writes the byte behind the new image"),
@@ -12,8 +13,12 @@ pub const ALL: [(&str, &str); 15] = [
     ("unmet-place", "an edit's 13 has the place behind the last relation"),
     ("broken-place", "an edit's 19 has the place behind the pin"),
     ("other-place", "a refused edit's 18 has a place"),
+    ("swapped-mark", "an accepted edit writes the mark with its lowest byte first"),
     ("refused-answer", "a refused delivery writes to the answer"),
     ("reads-behind", "a delivery reads the byte behind the message"),
+    ("operation-first", "a foreign message with number 0 or an unknown operation is refused by 6"),
+    ("foreign-old", "a foreign message with the number of an old one is answered as old"),
+    ("half-mark", "a delivery compares the low 32 bits of marks alone"),
     ("writes-input", "the test writes to its image"),
     ("writes-roots", "a search writes one root more than it found"),
     ("reads-number-behind", "a pass over a list reads the number behind it"),
@@ -31,8 +36,12 @@ pub fn by_name(name: &str) -> Option<Calls> {
         "unmet-place" => Calls { desk_edit: edit_with::<UNMET_PLACE>, ..ENGINE },
         "broken-place" => Calls { desk_edit: edit_with::<BROKEN_PLACE>, ..ENGINE },
         "other-place" => Calls { desk_edit: edit_with::<OTHER_PLACE>, ..ENGINE },
-        "refused-answer" => Calls { wall_deliver: refused_answer, ..ENGINE },
-        "reads-behind" => Calls { wall_deliver: reads_behind, ..ENGINE },
+        "swapped-mark" => Calls { desk_edit: edit_with::<SWAPPED_MARK>, ..ENGINE },
+        "refused-answer" => Calls { wall_deliver: deliver_with::<REFUSED_ANSWER>, ..ENGINE },
+        "reads-behind" => Calls { wall_deliver: deliver_with::<READS_BEHIND>, ..ENGINE },
+        "operation-first" => Calls { wall_deliver: deliver_with::<OPERATION_FIRST>, ..ENGINE },
+        "foreign-old" => Calls { wall_deliver: deliver_with::<FOREIGN_OLD>, ..ENGINE },
+        "half-mark" => Calls { wall_deliver: deliver_with::<HALF_MARK>, ..ENGINE },
         "writes-input" => Calls { test: writes_input, ..ENGINE },
         "writes-roots" => Calls { roots: writes_roots, ..ENGINE },
         "reads-number-behind" => Calls { largest_magnitude: reads_number_behind, ..ENGINE },
@@ -50,12 +59,14 @@ const REFUSED_MESSAGE: u8 = 3;
 const UNMET_PLACE: u8 = 4;
 const BROKEN_PLACE: u8 = 5;
 const OTHER_PLACE: u8 = 6;
+const SWAPPED_MARK: u8 = 7;
 
 unsafe extern "C" fn edit_with<const FAULT: u8>(
     buffer: *mut u8,
     room: usize,
     len: usize,
     count: u32,
+    mark: u64,
     operation: u32,
     curve: u32,
     x: f64,
@@ -69,6 +80,7 @@ unsafe extern "C" fn edit_with<const FAULT: u8>(
         room,
         len,
         count,
+        mark,
         operation,
         curve,
         x,
@@ -89,6 +101,7 @@ unsafe extern "C" fn edit_with<const FAULT: u8>(
         (UNMET_PLACE, _) if number == 13 => return at_place(number, relations(buffer)),
         (BROKEN_PLACE, _) if number == 19 => return at_place(number, relations(buffer) + 1),
         (OTHER_PLACE, 18) => return at_place(number, 1),
+        (SWAPPED_MARK, 0) => message.add(MARK_AT).cast::<u64>().write_unaligned(mark.to_le()),
         _ => {}
     }
     result
@@ -103,33 +116,53 @@ unsafe fn relations(image: *const u8) -> u32 {
     u16::from_be_bytes([*image.add(13), *image.add(14)]).into()
 }
 
-unsafe extern "C" fn refused_answer(
+const REFUSED_ANSWER: u8 = 0;
+const READS_BEHIND: u8 = 1;
+const OPERATION_FIRST: u8 = 2;
+const FOREIGN_OLD: u8 = 3;
+const HALF_MARK: u8 = 4;
+
+unsafe extern "C" fn deliver_with<const FAULT: u8>(
     buffer: *mut u8,
     room: usize,
     len: usize,
     count: u32,
+    mark: u64,
     message: *const u8,
     message_len: usize,
     answer: *mut u32,
 ) -> u32 {
-    let result = raw::mulkefi_wall_deliver(buffer, room, len, count, message, message_len, answer);
-    if result != 0 {
-        answer.write_volatile(count);
+    let bytes = std::slice::from_raw_parts(message, message_len);
+    let bears = Mark::of_message(bytes).map_or(mark, u64::from);
+    let deliver = |mark| {
+        raw::mulkefi_wall_deliver(buffer, room, len, count, mark, message, message_len, answer)
+    };
+    match FAULT {
+        READS_BEHIND => _ = message.add(message_len).read_volatile(),
+        HALF_MARK if bears as u32 == mark as u32 => return deliver(bears),
+        _ => {}
+    }
+    let result = deliver(mark);
+    match (FAULT, result) {
+        (REFUSED_ANSWER, 1..) => answer.write_volatile(count),
+        (OPERATION_FIRST, 28) if !is_operation(bytes) => return 6,
+        (FOREIGN_OLD, 28) if is_old(bytes, count) => return deliver(bears),
+        _ => {}
     }
     result
 }
 
-unsafe extern "C" fn reads_behind(
-    buffer: *mut u8,
-    room: usize,
-    len: usize,
-    count: u32,
-    message: *const u8,
-    message_len: usize,
-    answer: *mut u32,
-) -> u32 {
-    message.add(message_len).read_volatile();
-    raw::mulkefi_wall_deliver(buffer, room, len, count, message, message_len, answer)
+/// Whether a message has a number and an operation that are some.
+fn is_operation(message: &[u8]) -> bool {
+    number(message) != 0 && (1..=3).contains(&message[OPERATION_AT])
+}
+
+fn is_old(message: &[u8], count: u32) -> bool {
+    is_operation(message) && number(message) <= count
+}
+
+fn number(message: &[u8]) -> u32 {
+    message[NUMBER_AT..].first_chunk().map_or(0, |number| u32::from_be_bytes(*number))
 }
 
 unsafe extern "C" fn writes_input(image: *const u8, len: usize) -> u32 {

@@ -1,10 +1,11 @@
 //! `mulkefi_wall_deliver`.
 
-use crate::answers::{edit_number, words, ANSWER_BEFORE};
+use crate::answers::{delivery_number, words, ANSWER_BEFORE};
 use crate::buffers::Buffers;
 use crate::calls::Calls;
 use crate::inputs;
 use crate::tally::OLD;
+use oracle::generate::marks;
 use oracle::generate::random::Random;
 
 pub struct Subject(Buffers);
@@ -19,18 +20,19 @@ impl Subject {
         let call = inputs::call(random);
         let held = inputs::buffer(random, &call.image);
         let len = inputs::claimed(random, call.image.len(), held.len());
-        let count = inputs::count(random);
-        let sent = inputs::message(random, &call, count);
+        let (mark, count) = (marks::mark(random), inputs::count(random));
+        let sent = inputs::message(random, &call, mark, count);
         let buffer = self.0.buffer.lend(&held, inputs::edge(random));
         let message = self.0.message.lend_to_read(&sent, inputs::edge(random));
         let answer = self.0.answer.lend(&ANSWER_BEFORE, inputs::edge(random)).cast();
         // SAFETY: three buffers apart, with their own lengths; the answer has five numbers.
         let answered = unsafe {
-            (calls.wall_deliver)(buffer, held.len(), len, count, message, sent.len(), answer)
+            (calls.wall_deliver)(buffer, held.len(), len, count, mark, message, sent.len(), answer)
         };
-        let outcome = edit_number(answered, &held[..len.min(held.len())])?;
+        let image = &held[..len.min(held.len())];
+        let outcome = delivery_number(answered, image, mark, &sent)?;
         match outcome {
-            0 => self.accepted(len.min(held.len()), count),
+            0 => self.accepted(image.len(), count),
             _ => {
                 self.0.buffer.check("the buffer, on refusal", 0)?;
                 self.0.answer.check("the answer, on refusal", 0)?;

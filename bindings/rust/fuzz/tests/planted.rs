@@ -21,8 +21,12 @@ fn planted_faults_are_seen() {
         ("unmet-place", ["13 with place "; 2]),
         ("broken-place", ["19 with place "; 2]),
         ("other-place", ["answer 0x10012 is no refusal"; 2]),
+        ("swapped-mark", ["at a wall: 28: "; 2]),
         ("refused-answer", ["of the answer, on refusal altered"; 2]),
         ("reads-behind", ["memory that it was not lent"; 2]),
+        ("operation-first", ["the engine says 6, the plain reading 28"; 2]),
+        ("foreign-old", ["the engine says 0, the plain reading 28"; 2]),
+        ("half-mark", ["the plain reading 28"; 2]),
         ("writes-input", ["memory that it was not lent"; 2]),
         ("writes-roots", ["of the roots altered"; 2]),
         ("reads-number-behind", ["memory that it was not lent"; 2]),
@@ -42,6 +46,8 @@ fn planted_faults_are_seen() {
 fn the_engine_passes() {
     let (output, printed) = fuzz(&["2"]);
     assert_eq!(output.status.code(), Some(0), "{printed}");
+    // Foreign messages came up.
+    assert!(printed.contains(" 28:"), "{printed}");
 }
 
 #[test]

@@ -28,7 +28,7 @@ impl Bridge {
     pub fn new(name: &'static str) -> Bridge {
         let mut bridge = Bridge { name, drawing: Drawing::new(), script: Vec::new() };
         let water = bridge.line((WEST - 4.0, 0.0), (EAST + 4.0, 0.0));
-        bridge.mark_construction(water);
+        bridge.set_construction(water);
         bridge.line((WEST, UNDERSIDE), (EAST, UNDERSIDE));
         bridge
     }
@@ -47,7 +47,7 @@ impl Bridge {
         self.drawing.add_curve(Kind::Circle { c, radius })
     }
 
-    fn mark_construction(&mut self, id: Id) {
+    fn set_construction(&mut self, id: Id) {
         let curve = self.drawing.curves.iter_mut().find(|curve| curve.id == id);
         curve.expect("it was just added").construction = true;
     }
@@ -131,7 +131,7 @@ fn water_gauge(bridge: &mut Bridge, x: f64) {
 fn bank_arch(bridge: &mut Bridge, x: f64) {
     let (radius, springing) = (7.5, 8.0);
     let course = bridge.line((x - radius - 0.7, springing), (x + radius + 0.7, springing));
-    bridge.mark_construction(course);
+    bridge.set_construction(course);
     let ring = bridge.circle((x, springing), radius);
     bridge.line((x - radius, 0.0), (x - radius, springing));
     bridge.line((x + radius, 0.0), (x + radius, springing));
@@ -201,11 +201,12 @@ fn free_lamp(bridge: &mut Bridge, x: f64) {
 #[cfg(test)]
 mod tests {
     use super::*;
-    use mulkefi::{read, Desk};
+    use mulkefi::{read, Desk, Mark};
 
     /// The refusals of a script's edits, by number and place, and how many relations the desk then has.
     fn refusals(bridge: &Bridge) -> (Vec<(u16, Option<usize>)>, usize) {
-        let mut desk = Desk::start(&bridge.drawing.to_image()).expect("a bridge is a good image");
+        let desk = Desk::start(&bridge.drawing.to_image(), Mark::from(1));
+        let mut desk = desk.expect("a bridge is a good image");
         let outcomes = bridge.script.iter().map(|edit| desk.edit(edit));
         let refusals = outcomes.filter_map(Result::err);
         let refusals = refusals.map(|refusal| (refusal.number(), refusal.place())).collect();

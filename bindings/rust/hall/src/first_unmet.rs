@@ -2,7 +2,7 @@
 //! that comes with 13 and 19. It rounds otherwise than the engine; nothing in the hall lies so near to
 //! the tolerance that this tells.
 
-use mulkefi::{read, Curve, Desk, Drawing, Edit, Id, Kind, Position, Refusal, Relation};
+use mulkefi::{read, Curve, Desk, Drawing, Edit, Id, Kind, Mark, Position, Refusal, Relation};
 
 const TOLERANCE: f64 = 1e-7;
 
@@ -35,7 +35,8 @@ pub fn first_unmet_after(drawing: &Drawing, extend: &Edit) -> Option<usize> {
 }
 
 fn edited(drawing: &Drawing, edit: &Edit) -> Result<Drawing, Refusal> {
-    let mut desk = Desk::start(&drawing.to_image())?;
+    // Its message goes nowhere, so that any mark will do.
+    let mut desk = Desk::start(&drawing.to_image(), Mark::from(0))?;
     desk.edit(edit)?;
     Ok(read(desk.image()).expect("a desk holds a good image"))
 }

@@ -1,16 +1,19 @@
 //! A simulated hall to try desk and wall in: `hall [SEED [PICTURE]]`, the picture being `target/hall.svg` where
 //! none is named.
 //!
-//! Three bridges each have a desk, a wall and a radio between them that loses, repeats and reorders.
-//! The desk gets a list of edits that make the bridge whole, then random ones; the wall catches up.
-//! A table counts what happened, and a picture shows each desk beside its wall. Where the desk is
-//! refused by 13 or 19, the relation that is named is highlighted, and looked for in plain Rust too.
+//! Three bridges each have a desk and a wall. They share one radio that loses, repeats and reorders, so
+//! that each wall hears every desk, and tells its own desk's messages by their mark. The desks get lists
+//! of edits that make the bridges whole, then random ones; the walls catch up. After every delivery a wall
+//! must show what its desk showed after as many edits. A table counts what happened, and a picture shows
+//! each desk beside its wall. Where a desk is refused by 13 or 19, the relation that is named is
+//! highlighted, and looked for in plain Rust too.
 
 mod bridges;
 mod cut_away;
 mod edits;
 mod first_unmet;
 mod footbridge;
+mod hall;
 mod highlight;
 mod picture;
 mod radio;
@@ -18,6 +21,8 @@ mod random;
 mod rings;
 mod simulation;
 
+use hall::Hall;
+use radio::Traffic;
 use simulation::{Simulation, Tally};
 use std::process::ExitCode;
 
@@ -42,27 +47,28 @@ fn main() -> ExitCode {
     }
 }
 
-/// Answers whether every wall ended with its desk's image, every circle that was cut as a ring, and
-/// whether every relation that was named was the first that is not met.
+/// Answers whether every wall heard its neighbours and ended with its desk's image, every circle that was
+/// cut as a ring, and whether every relation that was named was the first that is not met.
 fn run(seed: u64, file: &str) -> Result<bool, Box<dyn std::error::Error>> {
-    let mut simulations = Vec::new();
-    for (place, bridge) in bridges::all().into_iter().enumerate() {
-        let mut simulation = Simulation::new(bridge, seed + place as u64)?;
-        simulation.run()?;
-        simulations.push(simulation);
-    }
-    print_table(&simulations);
-    std::fs::write(file, picture::of(&simulations)).map_err(|error| format!("{file}: {error}"))?;
+    let mut hall = Hall::new(bridges::all(), seed)?;
+    hall.run()?;
+    print_table(&hall);
+    let picture = picture::of(&hall.simulations);
+    std::fs::write(file, picture).map_err(|error| format!("{file}: {error}"))?;
     println!("picture: {file}");
-    Ok(simulations.iter().all(Simulation::passes))
+    Ok(hall.passes())
 }
 
-fn print_table(simulations: &[Simulation]) {
+fn print_table(hall: &Hall) {
+    let simulations = &hall.simulations;
     let row = |name: &str, cell: &dyn Fn(&Simulation) -> String| {
         let cells: String = simulations.iter().map(|one| format!("{:>14}", cell(one))).collect();
         println!("{name:<28}{cells}");
     };
     let count = |name: &str, of: fn(&Tally) -> usize| row(name, &|one| of(&one.tally).to_string());
+    let traffic = |name: &str, of: fn(&Traffic) -> usize| {
+        row(name, &|one| of(&hall.traffic(one)).to_string())
+    };
     row("bridge", &|simulation| simulation.name().to_string());
     count("edits asked at the desk", |tally| tally.asked);
     count("accepted", |tally| tally.accepted);
@@ -70,12 +76,13 @@ fn print_table(simulations: &[Simulation]) {
     count("refused", |tally| tally.refused.values().sum());
     count("refused by a relation", |tally| tally.named);
     count("that is the first not met", |tally| tally.named_first);
-    count("messages sent", |tally| tally.sent);
-    count("lost by the radio", |tally| tally.lost);
-    count("repeated", |tally| tally.repeated);
-    count("overtaken", |tally| tally.overtaken);
+    traffic("messages sent", |traffic| traffic.sent);
+    traffic("lost by the radio", |traffic| traffic.lost);
+    traffic("repeated", |traffic| traffic.repeated);
+    traffic("overtaken", |traffic| traffic.overtaken);
     count("old at the wall", |tally| tally.old);
     count("ahead at the wall", |tally| tally.ahead);
+    count("foreign at the wall", |tally| tally.foreign);
     row("wall's count as sent", &|simulation| simulation.tally.wall_before.to_string());
     row("wall's count caught up", &|simulation| simulation.wall_count().to_string());
     row("desk's count", &|simulation| simulation.desk_count().to_string());

@@ -46,6 +46,7 @@ fn panel(sheet: &mut Sheet, (left, top): (f64, f64), caption: &str, snapshot: &S
 mod tests {
     use super::*;
     use crate::bridges;
+    use crate::hall::Hall;
 
     /// What is highlighted after the script's last refusal, which random edits follow in a whole run.
     #[test]
@@ -56,9 +57,9 @@ mod tests {
             "refused by 13, relation 5: Length of ",
         ];
         for (bridge, words) in bridges::all().into_iter().zip(expected) {
-            let mut simulation = Simulation::new(bridge, 1).expect("a bridge is a good image");
-            simulation.run_script().expect("the wall is refused nothing but what is ahead");
-            let picture = of(&[simulation]);
+            let mut hall = Hall::new([bridge], 1).expect("a bridge is a good image");
+            hall.run_scripts().expect("the wall is refused nothing but what is ahead");
+            let picture = of(&hall.simulations);
             assert_eq!(picture.matches(words).count(), 1, "{words}");
             assert!(picture.contains("class=\"highlight"), "{words}");
             let (_, after) = picture.split_once(", wall, ").expect("the wall's caption");

@@ -95,7 +95,7 @@ impl Rings {
 #[cfg(test)]
 mod tests {
     use super::*;
-    use mulkefi::{read, Desk, Edit, Operation};
+    use mulkefi::{read, Desk, Edit, Mark, Operation};
 
     /// A wheel that a line crosses, a lamp that nothing crosses, and a circle that no edit is of.
     fn start() -> (Drawing, [Id; 3]) {
@@ -113,7 +113,8 @@ mod tests {
     fn counts(change: fn(&Report) -> Report) -> RingCounts {
         let (mut before, [wheel, lamp, _]) = start();
         let mut rings = Rings::new(&before);
-        let mut desk = Desk::start(&before.to_image()).expect("it is a good image");
+        let desk = Desk::start(&before.to_image(), Mark::from(1));
+        let mut desk = desk.expect("it is a good image");
         for (curve, x) in [(wheel, 0.0), (lamp, 100.0)] {
             let edit = Edit { operation: Operation::Trim, curve, x, y: 5.0 };
             let report = desk.edit(&edit).expect("the trim is accepted").report;

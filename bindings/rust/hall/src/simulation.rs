@@ -1,20 +1,16 @@
-//! A run of one bridge's desk and wall, with the radio between them.
+//! One bridge's desk and wall. The hall's radio lies between them.
 
 use crate::bridges::Bridge;
 use crate::cut_away::cut_away;
 use crate::edits;
 use crate::first_unmet::{first_unmet, first_unmet_after};
 use crate::highlight::Highlight;
-use crate::radio::{Message, Radio};
+use crate::radio::Message;
 use crate::random::Random;
 use crate::rings::{RingCounts, Rings};
-use mulkefi::{read, Delivery, Desk, Drawing, Edit, Refusal, Report, Stroke, Wall};
+use mulkefi::message::CURVE_AT;
+use mulkefi::{read, Delivery, Desk, Drawing, Edit, Id, Mark, Refusal, Report, Stroke, Wall};
 use std::collections::BTreeMap;
-
-/// How many random edits are asked for after the script.
-const RANDOM_EDITS: usize = 24;
-/// How many messages are sent again before the wall's count is looked at.
-const AT_A_TIME: usize = 3;
 
 #[derive(Default)]
 pub struct Tally {
@@ -25,12 +21,9 @@ pub struct Tally {
     /// Refusals that name a relation, and those of them that name the first that is not met.
     pub named: usize,
     pub named_first: usize,
-    pub sent: usize,
-    pub lost: usize,
-    pub repeated: usize,
-    pub overtaken: usize,
     pub old: usize,
     pub ahead: usize,
+    pub foreign: usize,
     /// The wall's count before the lost messages were sent again.
     pub wall_before: u32,
 }
@@ -55,10 +48,11 @@ pub struct Simulation {
     bridge: Bridge,
     desk: Desk,
     wall: Wall,
-    radio: Radio,
     random: Random,
     /// The desk's messages, kept so that they can be sent again.
     messages: Vec<Message>,
+    /// The desk's images, the starting one and those after each of its edits.
+    images: Vec<Vec<u8>>,
     desk_cut_away: Vec<Stroke>,
     wall_cut_away: Vec<Stroke>,
     highlight: Option<Highlight>,
@@ -68,17 +62,17 @@ pub struct Simulation {
 }
 
 impl Simulation {
-    pub fn new(bridge: Bridge, seed: u64) -> Result<Simulation, Refusal> {
+    pub fn new(bridge: Bridge, mark: Mark, seed: u64) -> Result<Simulation, Refusal> {
         let image = bridge.drawing.to_image();
         Ok(Simulation {
-            desk: Desk::start(&image)?,
-            wall: Wall::start(&image)?,
-            radio: Radio::new(seed ^ 0x5eed),
+            desk: Desk::start(&image, mark)?,
+            wall: Wall::start(&image, mark)?,
             random: Random::new(seed),
             desk_rings: Rings::new(&bridge.drawing),
             wall_rings: Rings::new(&bridge.drawing),
             bridge,
             messages: Vec::new(),
+            images: vec![image],
             desk_cut_away: Vec::new(),
             wall_cut_away: Vec::new(),
             highlight: None,
@@ -86,27 +80,23 @@ impl Simulation {
         })
     }
 
-    pub fn run(&mut self) -> Result<(), Refusal> {
-        self.run_script()?;
-        for _ in 0..RANDOM_EDITS {
-            let edit = edits::random(&mut self.random, &drawing_of(self.desk.image()));
-            self.ask(&edit)?;
-        }
-        self.radio.rest().iter().try_for_each(|message| self.deliver(message))?;
-        self.tally.wall_before = self.wall.count();
-        self.catch_up()
+    pub fn script(&self) -> &[Edit] {
+        &self.bridge.script
     }
 
-    pub fn run_script(&mut self) -> Result<(), Refusal> {
-        self.bridge.script.clone().iter().try_for_each(|edit| self.ask(edit))
+    pub fn random_edit(&mut self) -> Edit {
+        edits::random(&mut self.random, &drawing_of(self.desk.image()))
     }
 
-    /// The desk's host: an accepted edit's message goes to the radio, and some arrive.
-    fn ask(&mut self, edit: &Edit) -> Result<(), Refusal> {
+    /// The desk's host: asks for an edit, and answers its message if it is accepted.
+    pub fn ask(&mut self, edit: &Edit) -> Option<Message> {
         self.tally.asked += 1;
         let before = drawing_of(self.desk.image());
         match self.desk.edit(edit) {
-            Err(refusal) => self.follow_refusal(&before, edit, refusal),
+            Err(refusal) => {
+                self.follow_refusal(&before, edit, refusal);
+                None
+            }
             Ok(accepted) => {
                 self.tally.accepted += 1;
                 let after = drawing_of(self.desk.image());
@@ -115,10 +105,10 @@ impl Simulation {
                 self.desk_cut_away.extend(piece);
                 self.desk_rings.follow(&before, &after, edit.curve, &accepted.report);
                 self.messages.push(accepted.message);
-                self.send(accepted.message)?;
+                self.images.push(self.desk.image().to_vec());
+                Some(accepted.message)
             }
         }
-        Ok(())
     }
 
     /// The desk's host: a relation that is named is highlighted, and looked for in plain Rust too.
@@ -134,47 +124,58 @@ impl Simulation {
         self.highlight = Highlight::of(refusal, drawing, edit).or(self.highlight.take());
     }
 
-    fn send(&mut self, message: Message) -> Result<(), Refusal> {
-        self.tally.sent += 1;
-        let arrived = self.radio.transmit(message);
-        (self.tally.lost, self.tally.repeated) = (self.radio.lost, self.radio.repeated);
-        self.tally.overtaken = self.radio.overtaken;
-        arrived.iter().try_for_each(|message| self.deliver(message))
-    }
-
-    /// The wall's host. A message that is ahead is refused; it comes again when the wall catches up.
-    fn deliver(&mut self, message: &Message) -> Result<(), Refusal> {
+    /// The wall's host, which hands over all that it hears. A message that is ahead comes again when the
+    /// wall catches up; a neighbour's must be refused by its mark, and nothing else may be.
+    pub fn deliver(&mut self, message: &Message) -> Result<(), String> {
         let before = drawing_of(self.wall.image());
-        match self.wall.deliver(message) {
-            Ok(Delivery::Old) => self.tally.old += 1,
-            Ok(Delivery::Applied(report)) => self.follow_at_wall(&before, message, &report),
-            Err(Refusal::Ahead) => self.tally.ahead += 1,
-            Err(refusal) => return Err(refusal),
+        let is_own = self.messages.contains(message);
+        match (is_own, self.wall.deliver(message)) {
+            (true, Ok(Delivery::Old)) => self.tally.old += 1,
+            (true, Ok(Delivery::Applied(report))) => self.follow_at_wall(&before, message, &report),
+            (true, Err(Refusal::Ahead)) => self.tally.ahead += 1,
+            (false, Err(Refusal::Foreign)) => self.tally.foreign += 1,
+            (_, outcome) => {
+                let whose = if is_own { "its desk's" } else { "a neighbour's" };
+                let name = self.name();
+                return Err(format!("{name}: the wall answers {outcome:?} to {whose} message"));
+            }
         }
-        Ok(())
+        self.check_wall()
     }
 
     fn follow_at_wall(&mut self, before: &Drawing, message: &Message, report: &Report) {
-        let curve = u32::from_be_bytes([message[10], message[11], message[12], message[13]]);
+        let curve = message[CURVE_AT..].first_chunk().expect("a message names a curve");
+        let curve = Id::from_be_bytes(*curve);
         let after = drawing_of(self.wall.image());
         self.wall_cut_away.extend(cut_away(before, &after, curve, report));
         self.wall_rings.follow(before, &after, curve, report);
     }
 
-    /// Sends again from the wall's count on, a few at a time and by the same radio, until nothing is
-    /// missing.
-    fn catch_up(&mut self) -> Result<(), Refusal> {
-        while self.wall.count() < self.desk.count() {
-            let missing = self.messages.iter().skip(self.wall.count() as usize);
-            let missing: Vec<Message> = missing.take(AT_A_TIME).copied().collect();
-            missing.into_iter().try_for_each(|message| self.send(message))?;
-            self.radio.rest().iter().try_for_each(|message| self.deliver(message))?;
+    /// Fails unless the wall shows what its desk showed after as many edits.
+    fn check_wall(&self) -> Result<(), String> {
+        let (name, count) = (self.name(), self.wall.count());
+        match self.images.get(count as usize) {
+            Some(image) if image == self.wall.image() => Ok(()),
+            _ => Err(format!("{name}: after {count} edits the wall's image is not its desk's")),
         }
-        Ok(())
+    }
+
+    /// Notes the wall's count before the lost messages are sent again.
+    pub fn note_count(&mut self) {
+        self.tally.wall_before = self.wall.count();
+    }
+
+    /// The messages that the wall lacks, from its count on and no more than so many.
+    pub fn lacking(&self, most: usize) -> impl Iterator<Item = &Message> {
+        self.messages.iter().skip(self.wall.count() as usize).take(most)
     }
 
     pub fn name(&self) -> &'static str {
         self.bridge.name
+    }
+
+    pub fn mark(&self) -> Mark {
+        self.desk.mark()
     }
 
     pub fn agrees(&self) -> bool {
@@ -226,25 +227,29 @@ fn drawing_of(image: &[u8]) -> Drawing {
 mod tests {
     use super::*;
     use crate::bridges;
+    use crate::hall::Hall;
+    use crate::radio::Traffic;
     use mulkefi::Kind;
 
-    fn run(bridge: Bridge, seed: u64) -> Simulation {
-        let mut simulation = Simulation::new(bridge, seed).expect("a bridge is a good image");
-        simulation.run().expect("the wall is refused nothing but what is ahead");
-        simulation
+    /// All bridges after a whole run.
+    fn run(seed: u64) -> Hall {
+        let mut hall = Hall::new(bridges::all(), seed).expect("bridges are good images");
+        hall.run().unwrap_or_else(|fault| panic!("seed {seed}: {fault}"));
+        hall
     }
 
     #[test]
     fn walls_catch_up_whatever_the_radio_does() {
         for seed in 0..100 {
-            let simulations = bridges::all().map(|bridge| run(bridge, seed));
-            for simulation in &simulations {
+            let hall = run(seed);
+            for simulation in &hall.simulations {
                 assert!(simulation.agrees(), "seed {seed}");
                 assert_eq!(simulation.desk_cut_away, simulation.wall_cut_away, "seed {seed}");
             }
             // The footbridge has few messages, all of which may come once.
-            for Simulation { tally, .. } in &simulations[..2] {
-                assert!(tally.lost > 0 && tally.repeated > 0, "seed {seed}");
+            for simulation in &hall.simulations[..2] {
+                let Traffic { lost, repeated, overtaken, .. } = hall.traffic(simulation);
+                assert!(lost > 0 && repeated > 0 && overtaken > 0, "seed {seed}");
             }
         }
     }
@@ -254,22 +259,22 @@ mod tests {
     #[test]
     fn circles_that_are_cut_are_rings_at_desk_and_wall() {
         for seed in 0..100 {
-            let [round, free, foot] = bridges::all().map(|bridge| run(bridge, seed));
-            for simulation in [&round, &free, &foot] {
+            let Hall { simulations, .. } = run(seed);
+            for simulation in &simulations {
                 let at_desk = simulation.desk_rings();
                 assert_eq!(at_desk.closed, at_desk.cut, "seed {seed}");
                 assert_eq!(simulation.wall_rings(), at_desk, "seed {seed}");
                 assert!(simulation.passes(), "seed {seed}");
             }
-            assert!((6..=8).contains(&round.desk_rings().cut), "seed {seed}");
-            assert_eq!((free.desk_rings().cut, free.desk_rings().uncut), (0, 4), "seed {seed}");
+            let [round, free, ..] = [0, 1].map(|place| simulations[place].desk_rings());
+            assert!((6..=8).contains(&round.cut), "seed {seed}");
+            assert_eq!((free.cut, free.uncut), (0, 4), "seed {seed}");
         }
     }
 
     #[test]
     fn a_ring_that_is_open_at_the_wall_alone_is_noticed() {
-        let [bridge, ..] = bridges::all();
-        let mut simulation = run(bridge, 1);
+        let simulation = &mut run(1).simulations[0];
         assert!(simulation.passes());
         let drawing = drawing_of(simulation.wall.image());
         let mut curves = drawing.curves.iter();
@@ -285,8 +290,7 @@ mod tests {
     #[test]
     fn every_named_relation_is_the_first_that_is_not_met() {
         for seed in 0..100 {
-            for bridge in bridges::all() {
-                let simulation = run(bridge, seed);
+            for simulation in &run(seed).simulations {
                 let Tally { named, named_first, refused, .. } = &simulation.tally;
                 let with_a_place: usize = [13, 19].iter().filter_map(|n| refused.get(n)).sum();
                 assert_eq!((*named_first, *named), (with_a_place, with_a_place), "seed {seed}");
@@ -300,16 +304,62 @@ mod tests {
     /// Of the gauge's two measures, and of the two false posts', the second is named in place of the first.
     #[test]
     fn a_relation_that_is_not_the_first_is_noticed() {
-        let [round, _, foot] = bridges::all();
+        let mut hall = run(1);
+        let [round, _, foot] = &mut hall.simulations[..] else { panic!("three bridges") };
         let second = [(round, Refusal::Conflict { place: 2 }), (foot, Refusal::Unmet { place: 6 })];
-        for (bridge, refusal) in second {
-            let drawing = bridge.drawing.clone();
-            let extend = *bridge.script.last().expect("a script has edits");
-            let mut simulation = run(bridge, 1);
+        for (simulation, refusal) in second {
             assert!(simulation.passes());
+            let drawing = simulation.bridge.drawing.clone();
+            let extend = *simulation.script().last().expect("a script has edits");
             simulation.follow_refusal(&drawing, &extend, refusal);
             assert!(!simulation.passes(), "{refusal}");
             assert!(simulation.agrees());
         }
+    }
+
+    /// Two bridges alike, so that each wall could apply the messages of both desks.
+    fn neighbours() -> [Simulation; 2] {
+        [1, 2].map(|mark| {
+            let [bridge, ..] = bridges::all();
+            Simulation::new(bridge, Mark::from(mark), 1).expect("a bridge is a good image")
+        })
+    }
+
+    /// The message of the script's first edit.
+    fn first_message(simulation: &mut Simulation) -> Message {
+        let edit = simulation.script()[0];
+        simulation.ask(&edit).expect("the script's first edit is accepted")
+    }
+
+    #[test]
+    fn a_wall_that_takes_a_neighbours_message_is_noticed() {
+        let [mut simulation, mut neighbour] = neighbours();
+        let [own, foreign] = [&mut simulation, &mut neighbour].map(first_message);
+        assert_eq!(simulation.deliver(&foreign), Ok(()));
+        assert_eq!((simulation.wall.count(), simulation.tally.foreign), (0, 1));
+
+        // The wall was started with the mark of the neighbour's desk.
+        let wall = Wall::start(&simulation.images[0], neighbour.mark());
+        simulation.wall = wall.expect("a bridge is a good image");
+        for (message, expected) in [
+            (own, "answers Err(Foreign) to its desk's message"),
+            (foreign, "answers Ok(Applied("),
+            (foreign, "answers Ok(Old) to a neighbour's message"),
+        ] {
+            let fault = simulation.deliver(&message).expect_err(expected);
+            assert!(fault.contains(expected), "{fault}");
+        }
+    }
+
+    #[test]
+    fn a_wall_that_shows_another_drawing_is_noticed() {
+        let [mut simulation, _] = neighbours();
+        let message = first_message(&mut simulation);
+        let mut drawing = simulation.bridge.drawing.clone();
+        drawing.add_point(0.0, -3.0);
+        let wall = Wall::start(&drawing.to_image(), simulation.mark());
+        simulation.wall = wall.expect("a bridge with a point more is a good image");
+        let fault = "round arch: after 1 edits the wall's image is not its desk's";
+        assert_eq!(simulation.deliver(&message), Err(fault.into()));
     }
 }

@@ -1,6 +1,6 @@
 //! Prints an image: `mulkefi-show [--svg] [--relation PLACE] [FILE]`, from standard input where no file is
 //! named. With the place that comes with refusal 13 or 19, the relation there and what it names are
-//! marked by `>`, or highlighted in the picture.
+//! highlighted, by `>` or in the picture.
 //!
 //! A bad image is refused by the engine; the reader of this crate says at which byte. Status 0 for a
 //! good image, 1 for a refused one, 2 for a wrong call, where there was nothing to read or no relation
@@ -86,7 +86,7 @@ fn show(options: &Options, bytes: &[u8], drawing: &Drawing) -> Result<String, St
         return Ok(if options.svg { Sheet::of(drawing) } else { text() });
     };
     let relation = drawing.relation(place).ok_or_else(|| missing(drawing, place))?;
-    let text = || format!("{head}\n{}", drawing.marked(place));
+    let text = || format!("{head}\n{}", drawing.highlighted(place));
     Ok(if options.svg { Sheet::with_relation(drawing, relation) } else { text() })
 }
 

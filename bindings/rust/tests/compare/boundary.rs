@@ -1,11 +1,12 @@
 //! The C interface itself, with rooms that are ample, exact or short and operations that are none.
 
-use super::coverage::Coverage;
+use super::coverage::{Coverage, OLD};
+use super::deliveries;
 use mulkefi::raw;
 use oracle::call::Call;
-use oracle::generate::{calls, random::Random};
+use oracle::generate::{calls, marks, random::Random};
 use oracle::image;
-use oracle::message::{self, Edit, Message};
+use oracle::message::{self, Edit, Operation, OPERATION_AT};
 use oracle::refusal::{number_of, Refusal};
 use oracle::steps::{State, Step};
 use oracle::unmet::Unmet;
@@ -13,6 +14,14 @@ use oracle::unmet::Unmet;
 const COUNT: u32 = 41;
 /// What buffers hold before a call.
 const FILL: u8 = 0xa5;
+
+/// An edit at the desk, or bytes that come to the wall.
+#[derive(Debug)]
+struct Case {
+    call: Call,
+    state: State,
+    delivered: Option<Vec<u8>>,
+}
 
 /// All that was lent, after a call.
 #[derive(Clone, Debug, PartialEq)]
@@ -24,20 +33,44 @@ struct Memory {
 
 pub fn compare(random: &mut Random, count: usize, seen: &mut Coverage) -> Result<(), String> {
     for _ in 0..count {
-        let call = if random.one_in(2) { calls::cut(random) } else { calls::extension(random) };
-        let at_desk = random.one_in(2);
-        let memory = memory(random, &call);
-        let expected = by_oracle(&call, at_desk, &memory);
-        let found = by_engine(&call, at_desk, memory.clone());
+        let case = case(random);
+        let memory = memory(random, &case.call);
+        let expected = by_oracle(&case, &memory);
+        let found = by_engine(&case, memory.clone());
         if expected != found {
-            return Err(format!("{call:?}, {memory:?}\n  oracle {expected:?}\n  engine {found:?}"));
+            return Err(format!("{case:?}, {memory:?}\n  oracle {expected:?}\n  engine {found:?}"));
         }
-        seen.add(if at_desk { "desk" } else { "wall" }, expected.0 & 0xffff);
-        if let (13 | 19, Some(unmet)) = (expected.0 & 0xffff, Unmet::of_call(&call)) {
+        let number = match expected {
+            (0, Memory { answer: [COUNT, ..], .. }) => OLD,
+            (answered, _) => answered & 0xffff,
+        };
+        seen.add(if case.delivered.is_none() { "desk" } else { "wall" }, number);
+        if let (13 | 19, Some(unmet)) = (number, Unmet::of_call(&case.call)) {
             seen.add_place(&unmet);
+        }
+        if let Some(bytes) = &case.delivered {
+            deliveries::add(bytes, &case.state, seen)?;
         }
     }
     Ok(())
+}
+
+fn case(random: &mut Random) -> Case {
+    let call = if random.one_in(2) { calls::cut(random) } else { calls::extension(random) };
+    let state = State { image: call.image.clone(), mark: marks::mark(random), count: COUNT };
+    let delivered = random.one_in(2).then(|| delivered(random, &call, &state));
+    Case { call, state, delivered }
+}
+
+/// A message of the call's edit, also where its operation is none.
+fn delivered(random: &mut Random, call: &Call, state: &State) -> Vec<u8> {
+    let operation = call.operation().unwrap_or(Operation::Trim);
+    let edit = Edit { operation, curve: call.curve, x: call.x, y: call.y };
+    let mut bytes = deliveries::bytes(random, state, edit);
+    if let (None, Some(code)) = (call.operation(), bytes.get_mut(OPERATION_AT)) {
+        *code = call.operation as u8;
+    }
+    bytes
 }
 
 /// Room for the image that will be there, one byte less or more, or just the image that is there.
@@ -54,28 +87,17 @@ fn memory(random: &mut Random, call: &Call) -> Memory {
     Memory { buffer, message: vec![FILL; lent], answer: [7; 5] }
 }
 
-fn next_message(call: &Call) -> Vec<u8> {
-    let operation = call.operation().unwrap_or(message::Operation::Trim);
-    let edit = Edit { operation, curve: call.curve, x: call.x, y: call.y };
-    let mut bytes = message::to_bytes(&Message { number: COUNT + 1, edit }).to_vec();
-    bytes[9] = call.operation as u8;
-    bytes
-}
-
 /// What the oracle expects, in the order that the interface has: image, operation, edit, then room.
-fn by_oracle(call: &Call, at_desk: bool, before: &Memory) -> (u32, Memory) {
+fn by_oracle(case: &Case, before: &Memory) -> (u32, Memory) {
+    let Case { call, state, delivered } = case;
     if let number @ 1.. = number_of(&image::read(&call.image)) {
         return (number.into(), before.clone());
     }
-    let state = State { image: call.image.clone(), count: COUNT };
     let mut after = before.clone();
-    let step = match (at_desk, call.operation()) {
-        (false, _) => state.deliver(&next_message(call)),
-        (true, None) => return (Refusal::Operation.number().into(), after),
-        (true, Some(operation)) => {
-            let edit = Edit { operation, curve: call.curve, x: call.x, y: call.y };
-            state.edit(&edit, &mut after.message)
-        }
+    let step = match (delivered, call.edit()) {
+        (Some(bytes), _) => state.deliver(bytes),
+        (None, None) => return (Refusal::Operation.number().into(), after),
+        (None, Some(edit)) => state.edit(&edit, &mut after.message),
     };
     let Step { answer, report, state, .. } = step;
     if answer != 0 {
@@ -90,23 +112,25 @@ fn by_oracle(call: &Call, at_desk: bool, before: &Memory) -> (u32, Memory) {
     (0, after)
 }
 
-fn by_engine(call: &Call, at_desk: bool, mut memory: Memory) -> (u32, Memory) {
+fn by_engine(case: &Case, mut memory: Memory) -> (u32, Memory) {
+    let Case { call, state: State { image, mark, count }, delivered } = case;
     let Call { operation, curve, x, y, .. } = *call;
-    let len = call.image.len();
+    let (len, mark, count) = (image.len(), *mark, *count);
     let Memory { buffer, message, answer } = &mut memory;
-    let (bytes, room) = (buffer.as_mut_ptr(), buffer.len());
+    let (bytes, room, answer) = (buffer.as_mut_ptr(), buffer.len(), answer.as_mut_ptr());
     // SAFETY: all that is lent is apart, and its lengths are its own.
     let number = unsafe {
-        if at_desk {
-            let (out, lent) = (message.as_mut_ptr(), message.len());
-            let answer = answer.as_mut_ptr();
-            raw::mulkefi_desk_edit(
-                bytes, room, len, COUNT, operation, curve, x, y, out, lent, answer,
-            )
-        } else {
-            let next = next_message(call);
-            let answer = answer.as_mut_ptr();
-            raw::mulkefi_wall_deliver(bytes, room, len, COUNT, next.as_ptr(), next.len(), answer)
+        match delivered {
+            None => {
+                let (out, lent) = (message.as_mut_ptr(), message.len());
+                raw::mulkefi_desk_edit(
+                    bytes, room, len, count, mark, operation, curve, x, y, out, lent, answer,
+                )
+            }
+            Some(came) => {
+                let (came, size) = (came.as_ptr(), came.len());
+                raw::mulkefi_wall_deliver(bytes, room, len, count, mark, came, size, answer)
+            }
         }
     };
     (number, memory)

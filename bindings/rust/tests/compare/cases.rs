@@ -1,10 +1,12 @@
 //! Single calls at desk and wall.
 
+use super::coverage::Coverage;
+use super::deliveries;
 use super::implementations::{Implementation, Outcome};
 use oracle::generate::random::Random;
-use oracle::generate::{calls, messages};
+use oracle::generate::{calls, marks};
 use oracle::image;
-use oracle::message::{self, Edit, Message, Operation};
+use oracle::message::{self, Edit, Operation};
 use oracle::steps::State;
 use oracle::unmet::Unmet;
 
@@ -32,17 +34,31 @@ impl Case {
     fn edit(&self) -> Option<Edit> {
         match &self.asked {
             Asked::Edit(edit) => Some(*edit),
-            Asked::Deliver(bytes) => message::read(bytes).ok().map(|read| read.edit),
+            Asked::Deliver(bytes) => {
+                message::read(bytes, self.state.mark).ok().map(|read| read.edit)
+            }
+        }
+    }
+
+    /// Counts the outcome, and what was delivered.
+    pub fn add(&self, outcome: &Outcome, seen: &mut Coverage) -> Result<(), String> {
+        seen.add(self.name(), outcome.number());
+        if let (13 | 19, Some(unmet)) = (outcome.number(), self.unmet()) {
+            seen.add_place(&unmet);
+        }
+        match &self.asked {
+            Asked::Edit(_) => Ok(()),
+            Asked::Deliver(bytes) => deliveries::add(bytes, &self.state, seen),
         }
     }
 
     /// The relations that are not met where the edit is refused for them.
-    pub fn unmet(&self) -> Option<Unmet> {
+    fn unmet(&self) -> Option<Unmet> {
         Unmet::of(&image::read(&self.state.image).ok()?, &self.edit()?)
     }
 
     /// The operation, if there is one.
-    pub fn name(&self) -> &'static str {
+    fn name(&self) -> &'static str {
         match self.edit().map(|edit| edit.operation) {
             None => "none",
             Some(Operation::Trim) => "trim",
@@ -59,7 +75,7 @@ fn edit_of_state(random: &mut Random) -> (State, Edit) {
     let edit = Edit { operation, curve: call.curve, x: call.x, y: call.y };
     let any = random.bits() as u32;
     let count = random.weighted(&[(8, 0), (8, 7), (4, any), (1, u32::MAX), (1, u32::MAX - 1)]);
-    (State { image: call.image, count }, edit)
+    (State { image: call.image, mark: marks::mark(random), count }, edit)
 }
 
 pub fn desk(random: &mut Random) -> Case {
@@ -67,16 +83,8 @@ pub fn desk(random: &mut Random) -> Case {
     Case { state, asked: Asked::Edit(edit) }
 }
 
-/// Mostly the next message, else an old one, one ahead or a damaged one.
 pub fn wall(random: &mut Random) -> Case {
     let (state, edit) = edit_of_state(random);
-    let next = state.count.saturating_add(1);
-    let any = random.bits() as u32;
-    let number =
-        random.weighted(&[(16, next), (1, state.count), (1, next.saturating_add(1)), (1, any)]);
-    let mut bytes = message::to_bytes(&Message { number, edit }).to_vec();
-    if random.one_in(8) {
-        messages::damage(random, &mut bytes);
-    }
+    let bytes = deliveries::bytes(random, &state, edit);
     Case { state, asked: Asked::Deliver(bytes) }
 }

@@ -2,12 +2,13 @@
 
 use super::coverage::{Coverage, OLD};
 use super::implementations::edit_of;
-use mulkefi::{Delivery, Desk, Wall, MESSAGE_SIZE};
+use mulkefi::message::{MARK_AT, NUMBER_AT};
+use mulkefi::{Delivery, Desk, Refusal, Wall, MESSAGE_SIZE};
 use oracle::drawing::{CurveKind, Drawing, Id};
 use oracle::edit::Report;
 use oracle::families::Families;
 use oracle::family_counts::FamilyCounts;
-use oracle::generate::{random::Random, rings};
+use oracle::generate::{marks, random::Random, rings};
 use oracle::{image, message};
 use std::fmt;
 
@@ -78,7 +79,7 @@ fn check_views(
 ) -> Result<(), String> {
     (0..lists).try_for_each(|number| {
         let start = rings::drawing(random);
-        let mut pair = DeskAndWall::start(&start, views)?;
+        let mut pair = DeskAndWall::start(&start, marks::mark(random), views)?;
         seen.drawings_with_circles += usize::from(pair.at_desk.counts.circles() > 0);
         let run = pair.run(random, &mut seen.outcomes);
         run.map_err(|fault| format!("list {number}, {fault}\n  {start:?}\n  {:?}", pair.asked))?;
@@ -138,12 +139,16 @@ struct DeskAndWall {
 }
 
 impl DeskAndWall {
-    fn start(drawing: &Drawing, [at_desk, at_wall]: [ReportView; 2]) -> Result<Self, String> {
+    fn start(
+        drawing: &Drawing,
+        mark: message::Mark,
+        [at_desk, at_wall]: [ReportView; 2],
+    ) -> Result<Self, String> {
         let image = image::to_bytes(drawing);
         let refused = |refusal| format!("a good image is refused: {refusal}");
         Ok(DeskAndWall {
-            desk: Desk::start(&image).map_err(refused)?,
-            wall: Wall::start(&image).map_err(refused)?,
+            desk: Desk::start(&image, mark.into()).map_err(refused)?,
+            wall: Wall::start(&image, mark.into()).map_err(refused)?,
             at_desk: DeviceFamilies::start("desk", drawing, at_desk)?,
             at_wall: DeviceFamilies::start("wall", drawing, at_wall)?,
             asked: Vec::new(),
@@ -152,11 +157,14 @@ impl DeskAndWall {
     }
 
     /// After each call up to two messages come to the wall: mostly the one that it waits for, else any
-    /// of those written, so that some come late, again, before an earlier one or never. In three of
-    /// four lists the wall gets all that it lacks at the end.
+    /// of those written, so that some come late, again, before an earlier one or never. A neighbour's may
+    /// come before them. In three of four lists the wall gets all that it lacks at the end.
     fn run(&mut self, random: &mut Random, outcomes: &mut Coverage) -> Result<(), String> {
         for _ in 0..rings::length(random) {
             self.ask(random, outcomes)?;
+            if random.one_in(8) {
+                self.deliver_foreign(random, outcomes)?;
+            }
             for _ in 0..random.below(3) {
                 let next = self.wall.count() as usize;
                 let any = random.below(self.messages.len() + 1);
@@ -188,7 +196,8 @@ impl DeskAndWall {
     /// Brings the wall the message at a place among those written, if there is one.
     fn deliver(&mut self, place: usize, outcomes: &mut Coverage) -> Result<(), String> {
         let Some(bytes) = self.messages.get(place) else { return Ok(()) };
-        let message = message::read(bytes).map_err(|refusal| format!("desk: {refusal:?}"))?;
+        let message = message::read(bytes, self.desk.mark().into());
+        let message = message.map_err(|refusal| format!("desk: {refusal:?}"))?;
         let (number, applied) = match self.wall.deliver(bytes) {
             Ok(Delivery::Applied(report)) => (0, Some((message.edit.curve, report))),
             Ok(Delivery::Old) => (OLD, None),
@@ -196,5 +205,27 @@ impl DeskAndWall {
         };
         outcomes.add("wall", number);
         self.at_wall.check((self.wall.image(), self.wall.count()), applied)
+    }
+
+    /// Brings the wall one of the messages written, under the mark of another desk.
+    fn deliver_foreign(
+        &mut self,
+        random: &mut Random,
+        outcomes: &mut Coverage,
+    ) -> Result<(), String> {
+        let place = random.below(self.messages.len() + 1);
+        let Some(mut bytes) = self.messages.get(place).copied() else { return Ok(()) };
+        let foreign = marks::foreign(random, self.wall.mark().into());
+        bytes[MARK_AT..NUMBER_AT].copy_from_slice(&foreign.to_be_bytes());
+        let (image, count) = (self.wall.image().to_vec(), self.wall.count());
+        let outcome = self.wall.deliver(&bytes);
+        let is_unaltered = (self.wall.image(), self.wall.count()) == (&image[..], count);
+        match outcome {
+            Err(refusal @ Refusal::Foreign) if is_unaltered => {
+                outcomes.add("wall", refusal.number().into());
+                Ok(())
+            }
+            _ => Err(format!("wall: {outcome:?} to a message with a foreign mark")),
+        }
     }
 }

@@ -1,6 +1,6 @@
 //! Engine and oracle as calls that take a state and give the next one.
 
-use mulkefi::{Delivery, Desk, Report, Wall, MESSAGE_SIZE};
+use mulkefi::{Delivery, Desk, Mark, Report, Wall, MESSAGE_SIZE};
 use oracle::message::{Edit, Operation};
 use oracle::steps::{State, Step};
 use std::fmt;
@@ -41,7 +41,8 @@ impl fmt::Debug for Outcome {
             f,
             "{number}, place {place}, old {old}, report {report:?}, message {message:02x?}, "
         )?;
-        write!(f, "count {}, image {:02x?}", state.count, state.image)
+        let State { image, mark, count } = state;
+        write!(f, "mark {mark:016x}, count {count}, image {image:02x?}")
     }
 }
 
@@ -92,7 +93,8 @@ pub struct Engine;
 impl Engine {
     pub fn edit_at(desk: &mut Desk, edit: &Edit) -> Outcome {
         let outcome = desk.edit(&edit_of(edit));
-        let state = State { image: desk.image().to_vec(), count: desk.count() };
+        let (mark, count) = (desk.mark().into(), desk.count());
+        let state = State { image: desk.image().to_vec(), mark, count };
         match outcome {
             Err(refusal) => Outcome::refused(refusal, &state),
             Ok(accepted) => {
@@ -104,7 +106,8 @@ impl Engine {
 
     pub fn deliver_to(wall: &mut Wall, message: &[u8]) -> Outcome {
         let outcome = wall.deliver(message);
-        let state = State { image: wall.image().to_vec(), count: wall.count() };
+        let (mark, count) = (wall.mark().into(), wall.count());
+        let state = State { image: wall.image().to_vec(), mark, count };
         let (old, report) = match outcome {
             Err(refusal) => return Outcome::refused(refusal, &state),
             Ok(Delivery::Old) => (true, [0; 3]),
@@ -116,14 +119,14 @@ impl Engine {
 
 impl Implementation for Engine {
     fn edit(state: &State, edit: &Edit) -> Outcome {
-        match Desk::resume(&state.image, state.count) {
+        match Desk::resume(&state.image, state.mark.into(), state.count) {
             Ok(mut desk) => Engine::edit_at(&mut desk, edit),
             Err(refusal) => Outcome::refused(refusal, state),
         }
     }
 
     fn deliver(state: &State, message: &[u8]) -> Outcome {
-        match Wall::resume(&state.image, state.count) {
+        match Wall::resume(&state.image, state.mark.into(), state.count) {
             Ok(mut wall) => Engine::deliver_to(&mut wall, message),
             Err(refusal) => Outcome::refused(refusal, state),
         }
@@ -166,6 +169,23 @@ impl<F: Fault> Implementation for Planted<F> {
     fn deliver(state: &State, message: &[u8]) -> Outcome {
         let mut outcome = Engine::deliver(state, message);
         F::alter(&mut outcome);
+        outcome
+    }
+}
+
+/// The crate with a wall that compares the low halves of marks alone.
+pub struct LowHalfOfMark;
+
+impl Implementation for LowHalfOfMark {
+    fn edit(state: &State, edit: &Edit) -> Outcome {
+        Engine::edit(state, edit)
+    }
+
+    fn deliver(state: &State, message: &[u8]) -> Outcome {
+        let bears = Mark::of_message(message).map_or(state.mark, u64::from);
+        let mark = if bears as u32 == state.mark as u32 { bears } else { state.mark };
+        let mut outcome = Engine::deliver(&State { mark, ..state.clone() }, message);
+        outcome.state.mark = state.mark;
         outcome
     }
 }

@@ -1,6 +1,7 @@
 //! Whole runs on one desk and one wall, whose buffers keep what earlier and longer images left.
 
 use super::coverage::Coverage;
+use super::deliveries;
 use super::implementations::{Engine, Implementation, Oracle, Outcome};
 use mulkefi::{Desk, Wall};
 use oracle::generate::{random::Random, runs::Run};
@@ -12,9 +13,9 @@ pub fn compare(random: &mut Random, count: usize, seen: &mut Coverage) -> Result
 }
 
 fn compare_run(run: &Run, seen: &mut Coverage) -> Result<(), String> {
-    let start = State { image: image::to_bytes(&run.start), count: 0 };
-    let (mut desk, mut wall) =
-        (begin(Desk::start(&start.image))?, begin(Wall::start(&start.image))?);
+    let start = State { image: image::to_bytes(&run.start), mark: run.mark, count: 0 };
+    let mut desk = begin(Desk::start(&start.image, run.mark.into()))?;
+    let mut wall = begin(Wall::start(&start.image, run.mark.into()))?;
     let mut state = start.clone();
     for (edit, _) in &run.calls {
         let expected = Oracle::edit(&state, edit);
@@ -27,6 +28,7 @@ fn compare_run(run: &Run, seen: &mut Coverage) -> Result<(), String> {
         let expected = Oracle::deliver(&state, message);
         same(&expected, &Engine::deliver_to(&mut wall, message))?;
         seen.add("wall", expected.number());
+        deliveries::add(message, &state, seen)?;
         state = expected.state;
     }
     Ok(())
