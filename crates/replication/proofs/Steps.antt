@@ -27,6 +27,7 @@ use Rattle.edit_plan.proofs.Tables.{Holds}
 use Rattle.agreement.specs.Machines as M
 use Rattle.agreement.specs.Machines.{State, Call, callOutcome, stateAfter, DeskStepValid, WallStepValid, wallTransition}
 use Rattle.agreement.proofs.Reference.{Step, called}
+use Rattle.replication.specs.declared.DeskReply.{DeskReply}
 use Rattle.replication.specs.Protocol.{Edit, place, messageFor, protocol}
 use Rattle.replication.specs.Outcomes.{CallOutcome, refused, old, updated, ifImageFits, onImage, deskOutcome, deskOn, wallOutcome, wallOn, OutcomeSound, messageAfter}
 use Rattle.replication.specs.Transitions.{Memory, imageIn, stateIn, Ready, memoryAfter, DeskCall, deskReply, deskStep, deskReplyTo, deskCallOutcome, DeskEdits, WallCall, wallReply, wallStep, wallReplyTo, wallCallOutcome, WallDelivers}
@@ -142,6 +143,13 @@ message-front mark b x = take-at (G.encode mark x) _ messageSize (length-message
 -- what a call leaves, beside the step that it is
 abbrev pub Leaves : Memory → Memory → Type 0
 Leaves m t = Ready t × (t .mark ≡ m .mark)
+
+-- a call is by its parts
+pub same-edit :
+    (m : Memory) (b a : List ℕ) (y : Memory) (t : DeskReply) (e e′ : Edit) → e .operation ≡ e′ .operation → e .curve ≡ e′ .curve → e .at .x ≡ e′ .at .x → e .at .y ≡ e′ .at .y
+    → DeskEdits m (record { edit = e; before = b; after = a; left = y; reply = t }) → DeskEdits m (record { edit = e′; before = b; after = a; left = y; reply = t })
+same-edit m b a y t e e′ o c x z =
+    subst (λ (e : Edit). DeskEdits m (record { edit = e; before = b; after = a; left = y; reply = t })) (λ i. record { operation = o i; curve = c i; at = record { x = x i; y = z i } })
 
 pub desk-step : (m : Memory) → Ready m → (c : DeskCall) → DeskEdits m c → DeskStepValid (protocol (m .mark)) (stateIn m) (deskStep c) × Leaves m (c .left)
 desk-step m h c w = go (desk-case m h (c .edit) (length (c .before)))

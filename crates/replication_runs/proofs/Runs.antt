@@ -346,13 +346,6 @@ pub desk-ran-start : (s : Memory) (entries log : List ℕ) → Ready s → s .co
 unfolding rows
 desk-ran-start s entries log v z = desk-ran-none s log v z
 
--- a call is by its parts
-pub same-edit :
-    (m : Memory) (b a : List ℕ) (y : Memory) (t : DeskReply) (e e′ : Edit) → e .operation ≡ e′ .operation → e .curve ≡ e′ .curve → e .at .x ≡ e′ .at .x → e .at .y ≡ e′ .at .y
-    → DeskEdits m (record { edit = e; before = b; after = a; left = y; reply = t }) → DeskEdits m (record { edit = e′; before = b; after = a; left = y; reply = t })
-same-edit m b a y t e e′ o c x z =
-    subst (λ (e : Edit). DeskEdits m (record { edit = e; before = b; after = a; left = y; reply = t })) (λ i. record { operation = o i; curve = c i; at = record { x = x i; y = z i } })
-
 -- ---- messages by their place in the log
 
 nth : (ms : List (List ℕ)) (rest : List ℕ) (o : ℕ) → MessageSized ms → o < length ms → take messageSize (drop (messageSize * o) (concat ms ++ rest)) ≡ getD ms o []

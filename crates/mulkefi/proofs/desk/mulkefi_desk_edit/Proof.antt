@@ -1,7 +1,7 @@
 -- `mulkefi::mulkefi_desk_edit` meets its contract.
 use Rattle.mulkefi.proofs.Calls.{desk-unknown, desk-refused, desk-size, desk-accepted}
 use Rattle.mulkefi.specs.Calls.{mkEditByNumber}
-use Rattle.replication.proofs.Runs.{same-edit}
+use Rattle.replication.proofs.Steps.{same-edit}
 use borrow.Author.Tests.{not-true, not-false}
 use mathlib.Core.Path.{refl, sym, _∙_}
 use borrow.Author.Needs.{needs}

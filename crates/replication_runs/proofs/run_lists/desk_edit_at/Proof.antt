@@ -1,5 +1,5 @@
 -- `replication::run_lists::desk_edit_at` meets its contract.
-use Rattle.replication_runs.proofs.Runs.{same-edit}
+use Rattle.replication.proofs.Steps.{same-edit}
 use Rattle.replication.specs.Transitions.{memory}
 use Rattle.message.specs.Message.{operationOf}
 use lib.Ieee.{ofBits, binary64}
