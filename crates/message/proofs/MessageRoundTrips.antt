@@ -18,7 +18,7 @@ use Rattle.message.specs.declared.Message.{Message}
 use Rattle.message.specs.declared.MessageRead.the-variants.{Accepted, Refused}
 use Rattle.message.specs.Stored.{StoredMessage, Mark}
 use Rattle.sketch.specs.Drawing.{idSize}
-use Rattle.message.specs.Message.{lengthSize, versionAt, markSize, markAt, editNumberSize, editNumberAt, operationAt, curveAt, xAt, yAt, version, messageFault, operationOf, operationByte, messageOf, resultOf, parse, encode, messageLength, messageSize}
+use Rattle.message.specs.Message.{lengthSize, versionAt, markSize, markAt, editNumberSize, editNumberAt, operationAt, curveAt, xAt, yAt, version, markOf, messageFault, operationOf, operationByte, messageOf, resultOf, parse, encode, messageLength, messageSize}
 use Rattle.sketch.proofs.Facts.{guard-number-kept}
 
 -- ---- the operation's byte
@@ -52,11 +52,11 @@ length-message mark m = simp (length-append, length-bytes)
 -- the mark stands in its field, whatever comes behind it
 mark-in :
     (mark : ℕ) → Mark mark → (s rest : List ℕ) → s ≡ bytes lengthSize messageLength ++ (bytes 1 version ++ (bytes markSize mark ++ rest))
-    → field s markAt markSize ≡ mark
+    → markOf s ≡ mark
 mark-in mark k s rest e =
     field-in s (bytes lengthSize messageLength ++ bytes 1 version) rest markAt markSize mark (e ∙ simp append-assoc) (simp (length-append, length-bytes)) k
 
-pub mark-written : (mark : ℕ) → Mark mark → (m : Message) → field (encode mark m) markAt markSize ≡ mark
+pub mark-written : (mark : ℕ) → Mark mark → (m : Message) → markOf (encode mark m) ≡ mark
 unfolding encode
 mark-written mark k m = mark-in mark k (encode mark m) _ refl
 
@@ -114,7 +114,7 @@ pub record Sound (mark : ℕ) (s : List ℕ) : Type 0 where
   pub version-is : field s versionAt 1 ≡ version
   pub long : length s ≡ messageSize
   pub length-field : field s 0 lengthSize ≡ messageLength
-  pub mark-is : field s markAt markSize ≡ mark
+  pub mark-is : markOf s ≡ mark
   pub numbered : 1 ≤ field s editNumberAt editNumberSize
   pub low : 1 ≤ field s operationAt 1
   pub high : field s operationAt 1 ≤ 3
@@ -150,7 +150,7 @@ fault-refused mark s = go (messageFault mark s)
     go (suc n) h = refl
 
 -- bytes whose mark is another have a fault, whatever else they are
-pub foreign-fault : (mark : ℕ) (s : List ℕ) → (field s markAt markSize ≡ mark → ⊥) → messageFault mark s ≡ 0 → ⊥
+pub foreign-fault : (mark : ℕ) (s : List ℕ) → (markOf s ≡ mark → ⊥) → messageFault mark s ≡ 0 → ⊥
 foreign-fault mark s ne e = ne (message-kept mark s e .mark-is)
 
 pub encode-back : (mark : ℕ) (s : List ℕ) → Bytes s → Sound mark s → encode mark (messageOf s) ≡ s

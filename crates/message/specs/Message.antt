@@ -56,6 +56,10 @@ messageSize = yAt + 8
 abbrev pub messageLength : ℕ
 messageLength = messageSize - lengthSize
 
+-- the mark that a message bears
+abbrev pub markOf : List ℕ → ℕ
+markOf s = field s markAt markSize
+
 -- trim, split and extend have the numbers 1 to 3
 abbrev pub isOperation : ℕ → Bool
 isOperation n = leb 1 n && leb n 3
@@ -66,7 +70,7 @@ messageFault mark s =
     guardNumber (leb (versionAt + 1) (length s)) 1
     (guardNumber (eqb (field s versionAt 1) version) 2
     (guardNumber (eqb (length s) messageSize && eqb (field s 0 lengthSize) messageLength) 1
-    (guardNumber (eqb (field s markAt markSize) mark) 28
+    (guardNumber (eqb (markOf s) mark) 28
     (guardNumber (leb 1 (field s editNumberAt editNumberSize) && isOperation (field s operationAt 1)) 6 0))))
 
 -- the operation by its number

@@ -3,9 +3,8 @@ use mathlib.Core.Path.{_≡_, sym, ap, _∙_, subst}
 use mathlib.Core.List.{List, [], _∷_, map, List·Memᴰ, List·Memᴰ·cases-cons, List·Memᴰ·not-nil}
 use mathlib.Core.Logic.{_⊎_, inl, inr, ⊎-elim}
 use Prim.Native.Nat.{ℕ}
-use Rattle.big_endian.specs.Fields.{field}
 use Rattle.sketch.specs.Drawing.{Drawing}
-use Rattle.message.specs.Message.{markSize, markAt, messageFault, encode}
+use Rattle.message.specs.Message.{markOf, messageFault, encode}
 use Rattle.message.specs.Stored.{Mark}
 use Rattle.message.proofs.MessageRoundTrips.{fault-refused, foreign-fault, mark-written}
 use Rattle.edit_plan.specs.declared.Removed.{Removed}
@@ -21,7 +20,7 @@ pub fault-unread : (mark : ℕ) (s : List ℕ) → (messageFault mark s ≡ 0 �
 unfolding decodedOf
 fault-unread mark s h = (messageFault mark s, ap decodedOf (fault-refused mark s h))
 
-pub foreign-unread : (mark : ℕ) (s : List ℕ) → (field s markAt markSize ≡ mark → ⊥) → Unread (protocol mark) s
+pub foreign-unread : (mark : ℕ) (s : List ℕ) → (markOf s ≡ mark → ⊥) → Unread (protocol mark) s
 foreign-unread mark s ne = fault-unread mark s (foreign-fault mark s ne)
 
 -- an entry's message at another mark
