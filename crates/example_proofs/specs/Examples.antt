@@ -14,6 +14,9 @@ use Rattle.sketch.specs.declared.Relation.{Relation}
 use Rattle.sketch.specs.declared.Relation.the-variants.{PointOnCurve, Collinear, Length, Distance}
 use Rattle.sketch.specs.Drawing.{Drawing, limits}
 use Rattle.message.specs.declared.Operation.the-variants.{Trim, Split, Extend}
+use Rattle.message.specs.declared.Message.{Message}
+use Rattle.message.specs.declared.MessageRead.the-variants.{Accepted, Refused}
+use Rattle.message.specs.Message as G
 use Rattle.image.specs.Image as I
 use Rattle.sketch_image.specs.SketchImage.{emptyDrawing}
 use Rattle.image.specs.Encode.{encode}
@@ -28,6 +31,25 @@ use Rattle.example_proofs.specs.Drawings.{mkVec, mkPoint, below, mkLine,
 -- an empty image, up to its version byte and from its next id on
 abbrev pub emptyImage : ℕ → List ℕ
 emptyImage version = 0x00 ∷ 0x00 ∷ 0x00 ∷ 0x0b ∷ version ∷ 0x00 ∷ 0x00 ∷ 0x00 ∷ 0x01 ∷ 0x00 ∷ 0x00 ∷ 0x00 ∷ 0x00 ∷ 0x00 ∷ 0x00 ∷ []
+
+-- ---- messages
+
+-- the split of L at (1, 3), the first edit
+abbrev pub firstSplit : Message
+firstSplit = record { number = 1; operation = Split; curve = 3; x = 0x3ff0_0000_0000_0000; y = 0x4008_0000_0000_0000 }
+
+-- a mark, and one whose last bit is another
+abbrev pub ownMark : ℕ
+ownMark = 0x0102_0304_0506_0708
+
+abbrev pub nearMark : ℕ
+nearMark = 0x0102_0304_0506_0709
+
+-- its message under the first mark, by the bytes of version, number and operation
+abbrev pub splitMessage : ℕ → ℕ → ℕ → List ℕ
+splitMessage version number operation =
+    0x00 ∷ 0x00 ∷ 0x00 ∷ 0x22 ∷ version ∷ 0x01 ∷ 0x02 ∷ 0x03 ∷ 0x04 ∷ 0x05 ∷ 0x06 ∷ 0x07 ∷ 0x08 ∷ 0x00 ∷ 0x00 ∷ 0x00 ∷ number ∷ operation ∷ 0x00 ∷ 0x00 ∷ 0x00 ∷ 0x03
+    ∷ 0x3f ∷ 0xf0 ∷ 0x00 ∷ 0x00 ∷ 0x00 ∷ 0x00 ∷ 0x00 ∷ 0x00 ∷ 0x40 ∷ 0x08 ∷ 0x00 ∷ 0x00 ∷ 0x00 ∷ 0x00 ∷ 0x00 ∷ 0x00 ∷ []
 
 -- ---- edits
 
@@ -70,6 +92,13 @@ pub record Examples : Type 0 where
   pub empty-read : I.parse (emptyImage 1) ≡ I.accepted emptyDrawing
   pub empty-written : encode emptyDrawing ≡ emptyImage 1
   pub version-two : I.parse (emptyImage 2) ≡ I.refused 2
+  -- 02's, of a message and its mark: written, read, foreign; foreign before its number and operation, and after its version
+  pub message-written : G.encode ownMark firstSplit ≡ splitMessage 2 1 2
+  pub message-read : G.parse ownMark (splitMessage 2 1 2) ≡ Accepted firstSplit
+  pub message-foreign : G.parse nearMark (splitMessage 2 1 2) ≡ Refused 28
+  pub message-foreign-first : G.parse nearMark (splitMessage 2 0 4) ≡ Refused 28
+  pub message-own-without-number : G.parse ownMark (splitMessage 2 0 2) ≡ Refused 6
+  pub message-version-one : G.parse nearMark (splitMessage 1 1 2) ≡ Refused 2
   pub split-inside :
       editOf Split limits (L []) 3 (mkVec 1 3)
       ≡ accepted (mkDrawing 6 (mkPoint 1 0 0 ∷ mkPoint 2 4 0 ∷ mkPoint 4 1 0 ∷ []) (mkLine 3 1 4 ∷ mkLine 5 4 2 ∷ []) (Collinear 3 5 ∷ [])) nothing
