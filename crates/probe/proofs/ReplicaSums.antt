@@ -27,7 +27,7 @@ use Rattle.replication.specs.declared.WallReply.{WallReply}
 use Rattle.replication.specs.declared.WallReply.the-variants as Wall
 use Rattle.replication.specs.Protocol.{Edit, protocol}
 use Rattle.replication.specs.Transitions.{Memory, memory, DeskCall, deskReply, deskStep, DeskEdits, WallCall, wallReply, wallStep, WallDelivers}
-use Rattle.replication_runs.specs.Program.{programOutcome, WritesOutcome}
+use Rattle.wall_program.specs.Program.{programOutcome, WritesOutcome}
 use Rattle.replication.proofs.OutcomePlaces.{within, wallPlace, reply-within}
 use Rattle.replication.proofs.StartCases.{good-size}
 use Rattle.replication.proofs.Steps.{Holding, ready-by, desk-step, wall-step}

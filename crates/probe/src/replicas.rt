@@ -17,7 +17,7 @@ ghost use mathlib.Core.Path.{_≡_};
 ghost use Prim.Native.Nat.{_≤_};
 ghost use lib.ListN.{length, take};
 ghost use Rattle.image.specs.Image.{imageFault, maxImageSize};
-ghost use Rattle.replication_runs.specs.Program.{programOutcome, WritesOutcome};
+ghost use Rattle.wall_program.specs.Program.{programOutcome, WritesOutcome};
 ghost use Rattle.probe.specs.Edits.{repeated};
 ghost use Rattle.probe.specs.Replicas.{imageState, deskAdds, desksSum, wallAdds, wallsSum};
 
@@ -30,9 +30,9 @@ pub extern "C" fn mulkefi_wall(input: &[u8], out: &mut [u8]) -> usize
     ensures { λ r. ⌜ WritesOutcome (programOutcome (take 65536 (now (input .entry)))) (now (out .entry)) (now (out .exit)) r ⌝ }
 {
     if input.len() <= INPUT {
-        return replication_runs::run_program(input, out);
+        return wall_program::run_program(input, out);
     }
-    replication_runs::run_program(&input[..INPUT], out)
+    wall_program::run_program(&input[..INPUT], out)
 }
 
 // What one edit at a desk that has an image and a count adds to a sum: a refusal's number with its place, or 256 and the count. `buffer` is for

@@ -37,7 +37,7 @@ pub(crate) fn alike(outcome: u8, input: &[u8]) -> bool {
     let end = HEAD + size;
     let read = HEAD + least(size, MOST_READ);
     let mut buf = [PATTERN; ROOM];
-    let written = replication_runs::run_program(&input[HEAD..read], &mut buf);
+    let written = wall_program::run_program(&input[HEAD..read], &mut buf);
     (written == n - end)
         & (outcome == outcome_told(&buf, written))
         & holds_just(&buf, &input[end..])

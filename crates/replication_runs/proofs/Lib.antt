@@ -1,5 +1,3 @@
--- What is proved of whole runs.
-pub mod Program
-pub mod ProgramWrites
+-- What is proved of a run of both whole lists.
 pub mod Runs
 pub mod RunBoth

@@ -27,7 +27,7 @@ use Rattle.edit_plan.specs.Outcome.{Outcome, accepted}
 use Rattle.edit_plan.specs.Outcome as O
 use Rattle.edit_plan.proofs.Tables.{Holds}
 use Rattle.agreement.specs.Machines as M
-use Rattle.agreement.specs.Machines.{State, initial, Call, callOutcome, stateAfter, DeskStep, DeskStepValid, DeskRun, deskAfter, prependMessage, messages, WallStep, WallStepValid, WallRun, wallAfter, Unread, Delivered}
+use Rattle.agreement.specs.Machines.{State, initial, Call, callOutcome, stateAfter, DeskStep, DeskStepValid, DeskRun, deskAfter, prependMessage, messages, WallStep, WallRun, wallAfter, Unread, Delivered}
 use Rattle.agreement.proofs.Reference.{Step, called}
 use Rattle.replication.specs.declared.DeskReply.{DeskReply}
 use Rattle.replication.specs.declared.DeskReply.the-variants as Desk
@@ -36,7 +36,6 @@ use Rattle.replication.specs.Outcomes.{CallOutcome, refused, updated, messageAf
 use Rattle.replication.specs.Transitions.{Memory, stateIn, Ready, memoryAfter, DeskCall, deskReply, deskStep, deskReplyTo, deskCallOutcome, DeskEdits, WallCall, wallStep, WallDelivers}
 use Rattle.replication_runs.specs.RunBoth.{editAt, callAt, callsIn, otherAt, ifUnread, deliveriesAt, concat, MessageSized, DeskRan, deliveryInLog, deliveriesInLog, WallRan, roomAt, callSize, maxRoom}
 use Rattle.modify.proofs.Planned.{guard-accepted}
-use Rattle.replication_runs.proofs.Program.{least, rest-from}
 use Rattle.replication.proofs.TwoDesks.{fault-unread}
 use Rattle.replication.proofs.Steps.{DeskCase, desk-refused, desk-updated, desk-case, desk-step, wall-step}
 
@@ -91,13 +90,10 @@ ran-on s t u ds es a b =
       ready = b .ready;
     }
 
--- other bytes, by the places that were found
+-- other bytes, by their parts
 pub other-is :
-    (others : List ℕ) (at from body k : ℕ) → from ≡ least at (length others) → let rest = take (length others - from) (drop from others) in
-    body ≡ least 2 (length rest) → k ≡ field rest 0 2 → (r : List ℕ) → r ≡ take k (take (length rest - body) (drop body rest)) → r ≡ otherAt others at
-other-is others at from body k e f g r h =
-    let rest = take (length others - from) (drop from others) in
-    h ∙ ap₂ (λ (k : ℕ) (l : List ℕ). take k l) g (rest-from rest 2 f) ∙ ap (λ (l : List ℕ). part l 2 (field l 0 2)) (rest-from others at e)
+    (others : List ℕ) (at : ℕ) {from body r : List ℕ} {k : ℕ} → from ≡ drop at others → body ≡ drop 2 from → k ≡ field from 0 2 → r ≡ take k body → r ≡ otherAt others at
+other-is others at e f g h = h ∙ ap₂ (λ (k : ℕ) (l : List ℕ). take k l) g f ∙ ap (λ (l : List ℕ). part l 2 (field l 0 2)) e
 
 -- they are passed over where they are read, else delivered
 pub ran-read : (s : Memory) → Ready s → (m : List ℕ) (x : Message) → parse (s .mark) m ≡ Accepted x → WallRan s (ifUnread (s .mark) m) s

@@ -1,3 +1,2 @@
--- What whole runs of desk and wall come to.
-pub mod Program
+-- What a run of both whole lists comes to.
 pub mod RunBoth

@@ -1,11 +1,11 @@
 // The wall over its whole list: messages of the desk's log, and other bytes between them.
-use crate::numbers::min;
 use big_endian::get2;
 use message::MESSAGE_SIZE;
 use message::MessageRead;
 use replication::Replica;
 use replication::wall_deliver;
 use rows::front;
+use rows::rest;
 ghost use mathlib.Core.Path.{_≡_};
 ghost use Prim.Native.Nat.{_*_, _≤_};
 ghost use lib.ListN.{length};
@@ -20,10 +20,8 @@ const LENGTH_SIZE: usize = 2;
 fn other_at(others: &[u8], at: usize) -> &[u8]
     ensures { λ r. ⌜ now r ≡ otherAt (now (others .entry)) at ⌝ }
 {
-    let from = min(at, others.len());
-    let rest = &others[from..];
-    let body = min(LENGTH_SIZE, rest.len());
-    front(&rest[body..], get2(rest, 0) as usize)
+    let from = rest(others, at);
+    front(rest(from, LENGTH_SIZE), get2(from, 0) as usize)
 }
 
 // Delivers bytes that the wall does not read, and passes over those that it would.

@@ -25,3 +25,4 @@ pub use tables::front;
 pub use tables::next_id;
 pub use tables::points_of;
 pub use tables::relations_of;
+pub use tables::rest;

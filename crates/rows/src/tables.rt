@@ -11,7 +11,7 @@ use image::layout::RELATION_COUNT_AT;
 use image::layout::RELATION_SIZE;
 use sketch::Id;
 ghost use mathlib.Core.Path.{_≡_};
-ghost use lib.ListN.{take};
+ghost use lib.ListN.{take, drop};
 ghost use Rattle.big_endian.specs.Fields.{part};
 ghost use Rattle.image.specs.Image.{nextAt};
 ghost use Rattle.rows.specs.Rows.{pointTable, curveTable, relationTable};
@@ -36,6 +36,13 @@ pub fn front(s: &[u8], n: usize) -> &[u8]
     ensures { λ r. ⌜ now r ≡ take n (now (s .entry)) ⌝ }
 {
     bytes_at(s, 0, n)
+}
+
+// The bytes from a place on, none where there are no more.
+pub fn rest(s: &[u8], at: usize) -> &[u8]
+    ensures { λ r. ⌜ now r ≡ drop at (now (s .entry)) ⌝ }
+{
+    bytes_at(s, at, s.len())
 }
 
 // The next id.

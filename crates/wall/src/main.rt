@@ -12,6 +12,6 @@ fn main() {
     let mut input = [0u8; INPUT];
     let mut out = [0u8; OUTPUT];
     let n = io::read_full(STDIN_FILENO, &mut input);
-    let size = replication_runs::run_program(&input[..n], &mut out);
+    let size = wall_program::run_program(&input[..n], &mut out);
     io::write_all(STDOUT_FILENO, &out[..size]);
 }

@@ -6,7 +6,7 @@ use Rattle.wall.proofs.main.Statement.{statement}
 use Rattle.wall.proofs.main.Tie as tie
 use Rattle.wall.proofs.main.Reads as reads
 use Rattle.wall.proofs.main.Lts as lts
-use Rattle.replication_runs.proofs.run_program.Reads as run-program-reads
+use Rattle.wall_program.proofs.run_program.Reads as run-program-reads
 use Rattle.io.proofs.read_full.Reads as read-full-reads
 use Rattle.io.proofs.write_all.Reads as write-all-reads
 

@@ -2,15 +2,9 @@
 use Rattle.replication_runs.proofs.Runs.{ran-other, ran-own}
 use Rattle.replication.specs.Transitions.{memory}
 use mathlib.Core.Path.{refl}
-use native.Mathlib.Omega.{arith}
 use borrow.Author.Needs.{needs}
 use Rattle.replication_runs.proofs.wall_list.deliver_at.Statement.{statement}
 use Rattle.replication_runs.proofs.wall_list.deliver_at.Tie as tie
-use Rattle.replication_runs.proofs.wall_list.deliver_at.Reads as reads
-use Rattle.replication_runs.proofs.wall_list.deliver_at.Lts as lts
-use Rattle.replication.proofs.wall_deliver.Reads as wall-deliver-reads
-use Rattle.replication_runs.proofs.wall_list.deliver_unread.Reads as deliver-unread-reads
-use Rattle.replication_runs.proofs.wall_list.other_at.Reads as other-at-reads
 
 other-at-requires : tie.Need-other-at-requires
 other-at-requires c κs = search needs

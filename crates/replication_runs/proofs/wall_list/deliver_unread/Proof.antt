@@ -2,14 +2,9 @@
 use Rattle.replication_runs.proofs.Runs.{ran-read, ran-unread}
 use Rattle.replication.specs.Transitions.{memory}
 use mathlib.Core.Path.{refl, sym, _∙_}
-use native.Mathlib.Omega.{arith}
 use borrow.Author.Needs.{needs}
 use Rattle.replication_runs.proofs.wall_list.deliver_unread.Statement.{statement}
 use Rattle.replication_runs.proofs.wall_list.deliver_unread.Tie as tie
-use Rattle.replication_runs.proofs.wall_list.deliver_unread.Reads as reads
-use Rattle.replication_runs.proofs.wall_list.deliver_unread.Lts as lts
-use Rattle.message.proofs.read_message.Reads as read-message-reads
-use Rattle.replication.proofs.wall_deliver.Reads as wall-deliver-reads
 
 read-message-requires : tie.Need-read-message-requires
 read-message-requires c κs = search needs

@@ -10,9 +10,6 @@ use borrow.Author.Needs.{needs}
 use native.Mathlib.Omega.{arith}
 use Rattle.replication_runs.proofs.wall_list.run_wall.Statement.{statement}
 use Rattle.replication_runs.proofs.wall_list.run_wall.Tie as tie
-use Rattle.replication_runs.proofs.wall_list.run_wall.Reads as reads
-use Rattle.replication_runs.proofs.wall_list.run_wall.Lts as lts
-use Rattle.replication_runs.proofs.wall_list.deliver_at.Reads as deliver-at-reads
 
 abbrev Inv-loop : tie.InvT-loop
 Inv-loop buffer₀ log others order n last₀ j₀ buffer last j = (j ≤ length order) × (length buffer ≡ length buffer₀) × WallRan (memory last₀ buffer₀) (deliveriesInLog (last₀ .mark) n log others (take j order)) (memory last buffer)

@@ -1,11 +1,11 @@
-use Rattle.replication_runs.proofs.Program.{refusal-short, refusal-written}
+use Rattle.wall_program.proofs.Program.{refusal-short, refusal-written}
 use lib.ListN.{length-set}
 use native.Mathlib.Omega.{arith}
 use borrow.Author.Needs.{needs}
-use Rattle.replication_runs.proofs.wall_program.write_refusal.Statement.{statement}
-use Rattle.replication_runs.proofs.wall_program.write_refusal.Tie as tie
-use Rattle.replication_runs.proofs.wall_program.write_refusal.Reads as reads
-use Rattle.replication_runs.proofs.wall_program.write_refusal.Lts as lts
+use Rattle.wall_program.proofs.write_refusal.Statement.{statement}
+use Rattle.wall_program.proofs.write_refusal.Tie as tie
+use Rattle.wall_program.proofs.write_refusal.Reads as reads
+use Rattle.wall_program.proofs.write_refusal.Lts as lts
 
 returns : tie.Need-returns
 returns c = refusal-short _ _ (c .if1 .taken)

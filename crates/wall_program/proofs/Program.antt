@@ -14,12 +14,13 @@ use Rattle.sketch.specs.Lists.{ite, guardNumber}
 use Rattle.sketch.specs.Drawing.{Drawing}
 use Rattle.image.specs.Image as I
 use Rattle.image.proofs.RoundTrips.{result-refused, result-none, encode-parse}
+use Rattle.image.proofs.Tables.{bytes-take}
 use Rattle.message.specs.Message.{messageSize}
 use Rattle.agreement.specs.Machines.{State, initial, wallTransition}
 use Rattle.replication.specs.declared.Started.{Started}
 use Rattle.replication.specs.Protocol.{protocol}
 use Rattle.replication.specs.Transitions.{Memory, memory, imageIn, stateIn, Ready, firstNonzero, Starts, WallCall, WallDelivers}
-use Rattle.replication_runs.specs.Program.{imageEnd, markIn, markEnd, chunksUpTo, chunks, wallAfterMessages, outcomeOn, programOutcome, WritesOutcome, DeliversAll, WritesImage}
+use Rattle.wall_program.specs.Program.{imageEnd, markIn, markEnd, chunksUpTo, chunks, wallAfterMessages, outcomeOn, programOutcome, WritesOutcome, DeliversAll, WritesImage}
 use Rattle.replication.proofs.Steps.{length-parsed, Holding, wall-step}
 use Rattle.replication.proofs.StartCases.{start-image, starts-with, held-at-start}
 
@@ -54,12 +55,6 @@ drop-least n l = go (leb n (length l)) refl
     go : (t : Bool) → leb n (length l) ≡ t → drop (ite t n (length l)) l ≡ drop n l
     go true e = refl
     go false e = let h : length l ≤ n = omega (arith, leb-false n (length l) e) in let k : length l ≤ length l = omega arith in drop-of-length-le l k ∙ sym (drop-of-length-le l h)
-
--- the rest of a slice from a place on, or nothing where it ends before
-pub rest-from : (s : List ℕ) (n : ℕ) {from : ℕ} → from ≡ least n (length s) → take (length s - from) (drop from s) ≡ drop n s
-rest-from s n {from} e =
-    let l : length (drop from s) ≡ length s - from = length-drop from s in
-    take-all (length s - from) (drop from s) (omega arith) ∙ ap (λ (k : ℕ). drop k s) e ∙ drop-least n s
 
 -- ---- pieces
 
@@ -159,51 +154,48 @@ module _ (image b : List ℕ) (are : Bytes image) where
 -- ---- the whole
 
 -- a place that is counted from the image's end, by the length that was read
-pub by-length : (f : ℕ → ℕ) {k l r : ℕ} → k ≡ l → r ≡ f k → r ≡ f l
+pub by-length : {A : Type 0} (f : ℕ → A) {k l : ℕ} {r : A} → k ≡ l → r ≡ f k → r ≡ f l
 by-length f p q = q ∙ ap f p
 
 module _
-    (s : List ℕ) (end from mark : ℕ) (e : end ≡ least (imageEnd s) (length s)) (g : from ≡ least (markEnd s) (length s)) (k : mark ≡ markIn s)
-    (b b′ : List ℕ) (r : Started) (st : Starts (take end s) mark b b′ r)
+    (s image : List ℕ) (mark : ℕ) (e : image ≡ take (imageEnd s) s) (k : mark ≡ markIn s)
+    (b b′ : List ℕ) (r : Started) (st : Starts image mark b b′ r)
   where
-    image-is : take end s ≡ take (imageEnd s) s
-    image-is = ap (λ (n : ℕ). take n s) e ∙ take-least (imageEnd s) s
-
-    rest-is : take (length s - from) (drop from s) ≡ drop (markEnd s) s
-    rest-is = rest-from s (markEnd s) g
-
     -- the buffer has room for any image, so that a refusal is the image's
     pub outcome-refused : I.maxImageSize ≤ length b → (r .refusal ≡ 0 → ⊥) → (l now : List ℕ) (n : ℕ) → WritesOutcome (I.refused (r .refusal)) l now n → WritesOutcome (programOutcome s) l now n
     unfolding guardNumber
     outcome-refused room h l now n w =
-        let own : r .refusal ≡ I.imageFault (take end s) = st .number ∙ rw (le-leb I.maxImageSize (length b) room) (go (I.imageFault (take end s))) in
-        let z : I.imageFault (take end s) ≡ 0 → ⊥ = λ y. h (own ∙ y) in
+        let own : r .refusal ≡ I.imageFault image = st .number ∙ rw (le-leb I.maxImageSize (length b) room) (go (I.imageFault image)) in
+        let z : I.imageFault image ≡ 0 → ⊥ = λ y. h (own ∙ y) in
         let q : programOutcome s ≡ I.refused (r .refusal) =
-        ap (λ (o : I.ParseResult). outcomeOn (markIn s) o (chunks (drop (markEnd s) s))) (ap I.parse (sym image-is) ∙ result-refused (I.imageFault (take end s)) _ z) ∙ ap I.refused (sym own) in
+        ap (λ (o : I.ParseResult). outcomeOn (markIn s) o (chunks (drop (markEnd s) s))) (ap I.parse (sym e) ∙ result-refused (I.imageFault image) _ z) ∙ ap I.refused (sym own) in
         subst (λ (o : I.ParseResult). WritesOutcome o l now n) (sym q) w
       where
         go : (k : ℕ) → firstNonzero k 0 ≡ k
         go zero = refl
         go (suc k) = refl
 
-    module _ (z : r .refusal ≡ 0) (are : Bytes (take end s)) where
-      start-drawing : I.parse (take end s) ≡ I.accepted (I.drawingOf (take end s))
-      start-drawing = result-none (I.imageFault (take end s)) (I.drawingOf (take end s)) (start-image (take end s) mark b b′ r st z)
+    module _ (z : r .refusal ≡ 0) (are : Bytes s) where
+      image-bytes : Bytes image
+      image-bytes = subst Bytes (sym e) (bytes-take (imageEnd s) s are)
 
-      pub program-start : Holding mark (memory (r .replica) b′) (initial (I.drawingOf (take end s)))
-      program-start = held-at-start (take end s) are mark (I.drawingOf (take end s)) start-drawing (memory (r .replica) b′) (starts-with (take end s) mark b b′ r st z)
+      start-drawing : I.parse image ≡ I.accepted (I.drawingOf image)
+      start-drawing = result-none (I.imageFault image) (I.drawingOf image) (start-image image mark b b′ r st z)
+
+      pub program-start : Holding mark (memory (r .replica) b′) (initial (I.drawingOf image))
+      program-start = held-at-start image image-bytes mark (I.drawingOf image) start-drawing (memory (r .replica) b′) (starts-with image mark b b′ r st z)
 
       pub program-outcome :
-          (last : Memory) → DeliversAll (memory (r .replica) b′) (take (length s - from) (drop from s)) last → {image : List ℕ} → image ≡ imageIn last → (l now : List ℕ) (n : ℕ)
-          → WritesImage image l now n → WritesOutcome (programOutcome s) l now n
-      program-outcome last f {image} h l now n w =
-          let d = I.drawingOf (take end s) in
+          (rest : List ℕ) → rest ≡ drop (markEnd s) s → (last : Memory) → DeliversAll (memory (r .replica) b′) rest last → (left : List ℕ) → left ≡ imageIn last → (l now : List ℕ) (n : ℕ)
+          → WritesImage left l now n → WritesOutcome (programOutcome s) l now n
+      program-outcome rest g last f left h l now n w =
+          let d = I.drawingOf image in
           let m : stateIn last ≡ wallAfterMessages (markIn s) (initial d) (chunks (drop (markEnd s) s)) =
-          f .is ∙ ap (λ (l : List ℕ). wallAfterMessages (r .replica .mark) (stateIn (memory (r .replica) b′)) (chunks l)) rest-is
+          f .is ∙ ap (λ (l : List ℕ). wallAfterMessages (r .replica .mark) (stateIn (memory (r .replica) b′)) (chunks l)) g
           ∙ ap₂ (λ (k : ℕ) (t : State Drawing). wallAfterMessages k t (chunks (drop (markEnd s) s))) (program-start .mark-is ∙ k) (program-start .state)
           in
           let q : programOutcome s ≡ I.accepted (stateIn last .drawing) =
-          ap (λ (o : I.ParseResult). outcomeOn (markIn s) o (chunks (drop (markEnd s) s))) (ap I.parse (sym image-is) ∙ start-drawing) ∙ ap (λ (t : State Drawing). I.accepted (t .drawing)) (sym m)
+          ap (λ (o : I.ParseResult). outcomeOn (markIn s) o (chunks (drop (markEnd s) s))) (ap I.parse (sym e) ∙ start-drawing) ∙ ap (λ (t : State Drawing). I.accepted (t .drawing)) (sym m)
           in
           subst (λ (o : I.ParseResult). WritesOutcome o l now n) (sym q) (w (stateIn last .drawing) (ap I.parse h ∙ f .ready .image-is))
 

@@ -1,8 +1,8 @@
--- `replication::wall_program::write_image` meets its contract.
-use Rattle.replication_runs.proofs.Program.{image-short, image-written}
+-- `wall_program::write_image` meets its contract.
+use Rattle.wall_program.proofs.Program.{image-short, image-written}
 use borrow.Author.Needs.{needs}
-use Rattle.replication_runs.proofs.wall_program.write_image.Statement.{statement}
-use Rattle.replication_runs.proofs.wall_program.write_image.Tie as tie
+use Rattle.wall_program.proofs.write_image.Statement.{statement}
+use Rattle.wall_program.proofs.write_image.Tie as tie
 
 returns : tie.Need-returns
 returns c = image-short (c .before .before .before .args .image .now) (c .before .before .before .args .out .now) (λ k. c .before .before .shared-slice-known .given k .fits) (c .if1 .taken)

@@ -1,5 +1,4 @@
 // The wall's program on slices: an image, a mark, then the messages after it.
-use crate::numbers::min;
 use big_endian::get4;
 use big_endian::get8;
 use image::MAX_IMAGE_SIZE;
@@ -10,9 +9,20 @@ use replication::start;
 use replication::wall_deliver;
 use rows::front;
 use rows::put_run;
-ghost use Rattle.image.specs.Image.{refused, parse};
+use rows::rest;
+ghost use mathlib.Core.Path.{_≡_};
+ghost use Prim.Native.Nat.{_≤_};
+ghost use lib.Dec.{leb};
+ghost use Rattle.sketch.specs.Lists.{ite};
+ghost use Rattle.image.specs.Image.{refused};
 ghost use Rattle.replication.specs.Transitions.{memory, Ready};
-ghost use Rattle.replication_runs.specs.Program.{programOutcome, WritesOutcome, DeliversAll, WritesImage};
+ghost use Rattle.wall_program.specs.Program.{programOutcome, WritesOutcome, DeliversAll, WritesImage};
+
+fn min(a: usize, b: usize) -> usize
+    ensures { λ r. ⌜ (r ≡ ite (leb a b) a b) × (r ≤ a) × (r ≤ b) ⌝ }
+{
+    if a <= b { a } else { b }
+}
 
 // The replica after the messages in some bytes, of which the last may be cut short. What is refused is passed over.
 fn deliver_all(replica: Replica, buffer: &mut [u8], bytes: &[u8]) -> Replica
@@ -62,15 +72,13 @@ fn write_image(image: &[u8], out: &mut [u8]) -> usize
 pub fn run_program(input: &[u8], out: &mut [u8]) -> usize
     ensures { λ r. ⌜ WritesOutcome (programOutcome (now (input .entry))) (now (out .entry)) (now (out .exit)) r ⌝ }
 {
-    let image_end = 4 + get4(input, 0) as usize;
-    let end = min(image_end, input.len());
-    let from = min(image_end + MARK_SIZE, input.len());
+    let end = 4 + get4(input, 0) as usize;
     let mut buffer = [0u8; MAX_IMAGE_SIZE];
-    let started = start(&input[..end], get8(input, image_end), &mut buffer);
+    let started = start(front(input, end), get8(input, end), &mut buffer);
     if started.refusal != 0 {
         return write_refusal(started.refusal, out);
     }
     let replica = started.replica;
-    let last = deliver_all(replica, &mut buffer, &input[from..]);
+    let last = deliver_all(replica, &mut buffer, rest(input, end + MARK_SIZE));
     write_image(front(&buffer, last.size), out)
 }

@@ -16,7 +16,7 @@ use Rattle.image.proofs.Sizes.{image-size}
 use Rattle.image.proofs.Tables.{bytes-take}
 use Rattle.agreement.specs.Machines.{State, initial, wallTransition}
 use Rattle.replication.specs.Protocol.{protocol}
-use Rattle.replication_runs.specs.Program.{imageEnd, markIn, markEnd, chunks, outcomeOn, programOutcome, output, outputSize, WritesOutcome, wallAfterMessages}
+use Rattle.wall_program.specs.Program.{imageEnd, markIn, markEnd, chunks, outcomeOn, programOutcome, output, outputSize, WritesOutcome, wallAfterMessages}
 use Rattle.replication.proofs.WallCases.{wall-case, delivery-valid}
 
 -- messages keep a drawing valid

@@ -1,5 +1,5 @@
--- `replication::wall_program::deliver_all` meets its contract. The invariant: what is left to deliver leads to what all leads to.
-use Rattle.replication_runs.proofs.Program.{least-above, Follows, delivers-more, delivers-all}
+-- `wall_program::deliver_all` meets its contract. The invariant: what is left to deliver leads to what all leads to.
+use Rattle.wall_program.proofs.Program.{least-above, Follows, delivers-more, delivers-all}
 use Rattle.replication.specs.Transitions.{memory}
 use Rattle.message.specs.Message.{messageSize}
 use lib.ListN.{length}
@@ -7,8 +7,8 @@ use mathlib.Core.Path.{_≡_, refl}
 use Prim.Native.Nat.{_-_}
 use borrow.Author.Needs.{needs}
 use native.Mathlib.Omega.{arith}
-use Rattle.replication_runs.proofs.wall_program.deliver_all.Statement.{statement}
-use Rattle.replication_runs.proofs.wall_program.deliver_all.Tie as tie
+use Rattle.wall_program.proofs.deliver_all.Statement.{statement}
+use Rattle.wall_program.proofs.deliver_all.Tie as tie
 
 abbrev Inv-loop : tie.InvT-loop
 Inv-loop buffer₀ bytes last₀ at₀ buffer last at = (length buffer ≡ length buffer₀) × Follows (memory last₀ buffer₀) bytes (memory last buffer) at

@@ -1,0 +1,3 @@
+-- What is proved of the wall's program.
+pub mod Program
+pub mod ProgramWrites

@@ -1,0 +1,2 @@
+-- What the wall's program writes.
+pub mod Program
