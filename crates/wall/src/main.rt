@@ -1,4 +1,4 @@
-// The wall as a program: an image and the messages after it on standard input, the last image on standard output.
+// The wall as a program: an image, a mark and the messages after it on standard input, the last image on standard output.
 use libc::STDIN_FILENO;
 use libc::STDOUT_FILENO;
 
