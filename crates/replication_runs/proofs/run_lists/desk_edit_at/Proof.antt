@@ -1,4 +1,4 @@
--- `replication::run_lists::desk_edit_at` meets its contract.
+-- `replication_runs::run_lists::desk_edit_at` meets its contract.
 use Rattle.replication.proofs.Steps.{same-edit}
 use Rattle.replication.specs.Transitions.{memory}
 use Rattle.message.specs.Message.{operationOf}

@@ -1,4 +1,4 @@
--- `replication::run_lists::run_desk` meets its contract. The invariant: the desk ran over the calls so far.
+-- `replication_runs::run_lists::run_desk` meets its contract. The invariant: the desk ran over the calls so far.
 use Rattle.replication_runs.proofs.Runs.{desk-ran-start, desk-ran-next, desk-ran-all}
 use Rattle.replication_runs.specs.RunBoth.{callAt, DeskRan, callSize}
 use Rattle.replication.specs.Transitions.{memory, stateIn}
