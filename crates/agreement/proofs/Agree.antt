@@ -1,78 +1,100 @@
--- Desk and wall agree with the reference machine, over any edit: `agreement`. Assumes `Keeping` and `Read` alone: edits keep drawings valid, and the message of one that is
--- accepted is read as what it was made of.
+-- Desk and wall agree with the reference machine, over any edit and over a wall's whole life: `agreement`. Assumes `Keeping` and `Read` alone: edits keep drawings valid, and the
+-- message of one that is accepted is read as what it was made of.
 use mathlib.Core.Path.{_≡_, refl, sym, ap, _∙_, subst}
-use mathlib.Core.List.{List, _∷_, _++_, map}
-use Prim.Native.Nat.{ℕ}
+use mathlib.Core.List.{List, _∷_, _++_, map, map-append, List·Memᴰ}
+use mathlib.Core.Logic.{_⊎_}
+use Prim.Native.Nat.{ℕ, _-_}
 use native.Mathlib.Omega.{arith}
-use lib.ListN.{take}
-use Rattle.agreement.specs.Machines.{State, initial, Protocol, Entry, callOutcome, acceptedLog, DeskStep, calls, messages, replyTo, DeskRun, WallStep, wallTransition, wallAfter, Delivered, WallRun}
-use Rattle.agreement.specs.Agreement.{appliedReplies, Subsequence, WallAt, CountStep, Agreement}
-use Rattle.agreement.proofs.Reference.{Linked, linked, reference-at}
-use Rattle.agreement.proofs.Runs.{written, desk-messages, desk-state, desk-front, desk-rest, wall-parts, delivered-parts}
-use Rattle.agreement.proofs.Wall.{appliedReply, Keeping, Read, Inv, walked, reached, rose}
+use lib.ListN.{take, drop, length-map}
+use Rattle.agreement.specs.Machines.{State, initial, Protocol, Call, Entry, callOutcome, referenceAfter, acceptedLog, DeskStep, calls, messages, replyTo, DeskRun, WallStep, wallTransition, Unread, Delivered, DeskHad, WallEvent, delivered, WallLife, FromDesk, Session, sessionAt, sessionState}
+use Rattle.agreement.specs.Agreement.{appliedReplies, Subsequence, deskLog, WallAt, CountStep, Agreement}
+use Rattle.agreement.proofs.Orders.{after-first, map-take, map-drop}
+use Rattle.agreement.proofs.Reference.{Linked, linked, reference-at, at-count}
+use Rattle.agreement.proofs.Runs.{written, desk-messages, desk-state, desk-front, desk-rest}
+use Rattle.agreement.proofs.Wall.{appliedReply, Keeping, Read, Inv, walked, reached, rose, never-falls}
+use Rattle.agreement.proofs.Sessions.{SessionValid, Goes, session-goes}
 
-module _ {D E R : Type 0} (p : Protocol D E R) (Valid : D → Type 0) (keeps : Keeping p Valid) (read : Read p Valid) where
-  pub agreement :
-      (start : D) (desk : List (DeskStep D E R)) (wall : List (WallStep D R))
-      → Valid start → DeskRun p (initial start) desk → WallRun p (initial start) wall → Delivered p (messages desk) wall
-      → Agreement p start desk wall
-  agreement start desk wall y dr wr dv =
-      record {
-        desk-state = λ before later e. desk-state p S before (desk-front p S before later (subst (DeskRun p S) e dr));
-        desk-reply = λ before later x e.
-            let run = subst (DeskRun p S) e dr in
-            desk-rest p S before (x ∷ later) run .0 .reply
-            ∙ ap (λ (s : State D). replyTo p (s .drawing) (x .call .edit) (callOutcome p s (x .call))) (desk-state p S before (desk-front p S before (x ∷ later) run));
-        desk-messages = mm;
-        always = λ before later e. at before later e;
-        wall-reply = λ before later x e.
-            run before (x ∷ later) e .1 .0 .reply
-            ∙ ap (λ (s : State D). wallTransition p s (p .decode (x .bytes)) .1) (there before (x ∷ later) e .0 .0);
-        rises = λ before later x e. up before later x e;
-      }
-    where
-      S : State D
-      S = initial start
+module _
+    {D E R : Type 0} (p : Protocol D E R) (Valid : D → Type 0) (keeps : Keeping p Valid) (read : Read p Valid)
+    (start : D) (desk : List (DeskStep D E R)) (y : Valid start) (dr : DeskRun p (initial start) desk)
+  where
+    abbrev S : State D
+    S = initial start
 
-      l : List (Entry D E R)
-      l = acceptedLog p S (calls desk)
+    abbrev l : List (Entry D E R)
+    l = deskLog p start desk
 
-      mm : messages desk ≡ map (written p) l
-      mm = desk-messages p S desk dr
+    abbrev k : Linked p S l
+    k = linked p S (calls desk)
 
-      k : Linked p S l
-      k = linked p S (calls desk)
+    mm : messages desk ≡ map (written p) l
+    mm = desk-messages p S desk dr
 
-      run : (before later : List (WallStep D R)) → wall ≡ before ++ later → WallRun p S before × WallRun p (wallAfter S before) later
-      run before later e = wall-parts p S before later (subst (WallRun p S) e wr)
+    -- a state of the reference machine, at its count
+    abbrev pub At : State D → Type 0
+    At w = Inv p Valid keeps read S l k y refl w
 
-      given : (before later : List (WallStep D R)) → wall ≡ before ++ later → Delivered p (map (written p) l) before × Delivered p (map (written p) l) later
-      given before later e = delivered-parts p (map (written p) l) before later (subst (λ (m : List (List ℕ)). Delivered p m (before ++ later)) mm (subst (Delivered p (messages desk)) e dv))
+    -- the desk had no other
+    pub had-at : (t : State D) → DeskHad S desk t → At t
+    had-at t (front, later, q, e) =
+        let u = e ∙ desk-state p S front (desk-front p S front later (subst (DeskRun p S) q dr)) in
+        let a = at-count p start (calls front) (calls later) in
+        let cs : calls desk ≡ calls front ++ calls later = ap calls q ∙ map-append (λ (x : DeskStep D E R). x .call) front later in
+        subst At (sym u)
+        (subst (λ (c : List (Call E)). Inv p Valid keeps read S (acceptedLog p S c) (linked p S c) y refl (referenceAfter p S (calls front))) (sym cs) (a .state, a .within))
 
-      there :
-          (before later : List (WallStep D R)) → wall ≡ before ++ later
-          → Inv p Valid keeps read S l k y refl (wallAfter S before) × (appliedReplies S before ≡ take (wallAfter S before .count) (map appliedReply l))
-      there before later e = walked p Valid keeps read S l k y refl S before (refl, omega arith) (run before later e .0) (given before later e .0)
+    -- ---- a session
 
-      at : (before later : List (WallStep D R)) → wall ≡ before ++ later → WallAt p S desk before
-      at before later e =
-          let (v, r) = there before later e in
+    own : (xs : List (WallStep D R)) → Delivered p (messages desk) xs → Delivered p (map (written p) l) xs
+    own xs = subst (λ (m : List (List ℕ)). Delivered p m xs) mm
+
+    module _ (g : Session D R) (v : SessionValid p S desk g) where
+      there : At (sessionState g) × (take (g .start .count) (map appliedReply l) ++ appliedReplies (g .start) (g .deliveries) ≡ take (sessionState g .count) (map appliedReply l))
+      there = walked p Valid keeps read S l k y refl (g .start) (g .deliveries) (had-at (g .start) (v .had)) (v .run) (own (g .deliveries) (v .given))
+
+      pub session-at : At (sessionState g)
+      session-at = there .0
+
+      pub wall-at : WallAt p start desk g
+      wall-at =
+          let n = g .start .count in
+          let m = sessionState g .count in
+          let up = never-falls p (g .start) (g .deliveries) (v .run) in
           record {
-            state = v .0;
-            reference =
-                let (f, g, a, b) = reference-at p S (calls desk) (wallAfter S before .count) (v .1) in
-                (f, g, a, b ∙ sym (v .0));
-            within = v .1;
-            reports = r;
+            state = there .0 .0;
+            reference = let (f, r, a, b) = reference-at p S (calls desk) m (there .0 .1) in (f, r, a, b ∙ sym (there .0 .0));
+            from = up;
+            within = there .0 .1;
+            reports =
+                after-first (map appliedReply l) (appliedReplies (g .start) (g .deliveries)) n m up (omega (arith, length-map l appliedReply, there .0 .1)) (there .1)
+                ∙ ap (take (m - n)) (sym (map-drop appliedReply l n)) ∙ sym (map-take appliedReply (drop n l) (m - n));
             all = λ o.
-                reached p Valid keeps read S l k y refl S before (refl, omega arith) (run before later e .0) (given before later e .0)
-                (subst (λ (m : List (List ℕ)). Subsequence m (map (λ (x : WallStep D R). x .bytes) before)) mm o);
+                reached p Valid keeps read S l k y refl (g .start) (g .deliveries) (had-at (g .start) (v .had)) (v .run) (own (g .deliveries) (v .given))
+                (subst (λ (ms : List (List ℕ)). Subsequence (drop n ms) (map (λ (x : WallStep D R). x .bytes) (g .deliveries))) mm o);
           }
 
-      up :
-          (before later : List (WallStep D R)) (x : WallStep D R) → wall ≡ before ++ (x ∷ later)
-          → CountStep (messages desk) (wallAfter S before .count) x
-      up before later x e =
-          let (v, r) = there before (x ∷ later) e in
-          subst (λ (m : List (List ℕ)). CountStep m (wallAfter S before .count) x) (sym mm)
-          (rose p Valid keeps read S l k y refl (wallAfter S before) x v (run before (x ∷ later) e .1 .0) (given before (x ∷ later) e .1 .0))
+    -- ---- a life
+
+    module _ (life : List (WallEvent D R)) (wl : WallLife p S life) (fd : FromDesk p S desk life) where
+      goes : (before later : List (WallEvent D R)) → life ≡ before ++ later → Goes p S desk (sessionAt start before) later
+      goes = session-goes p start desk life wl fd
+
+      pub agreement : Agreement p start desk life
+      agreement =
+          record {
+            desk-state = λ before later e. desk-state p S before (desk-front p S before later (subst (DeskRun p S) e dr));
+            desk-reply = λ before later x e.
+                let run = subst (DeskRun p S) e dr in
+                desk-rest p S before (x ∷ later) run .0 .reply
+                ∙ ap (λ (s : State D). replyTo p (s .drawing) (x .call .edit) (callOutcome p s (x .call))) (desk-state p S before (desk-front p S before (x ∷ later) run));
+            desk-messages = mm;
+            always = λ before later e. wall-at (sessionAt start before) (goes before later e .valid);
+            wall-reply = λ before later x e.
+                let w = goes before (delivered x ∷ later) e in
+                w .life .0 .reply ∙ ap (λ (s : State D). wallTransition p s (p .decode (x .bytes)) .1) (session-at (sessionAt start before) (w .valid) .0);
+            rises = λ before later x e.
+                let w = goes before (delivered x ∷ later) e in
+                subst (λ (m : List (List ℕ)). CountStep m (sessionState (sessionAt start before) .count) x) (sym mm)
+                (rose p Valid keeps read S l k y refl (sessionState (sessionAt start before)) x (session-at (sessionAt start before) (w .valid)) (w .life .0)
+                (subst (λ (m : List (List ℕ)). List·Memᴰ (x .bytes) m ⊎ Unread p (x .bytes)) mm (w .from .0)));
+          }

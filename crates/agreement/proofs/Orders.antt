@@ -1,10 +1,11 @@
 -- Lists by place: what stands at a place, what is taken up to it and what comes after. And what comes in order. Assumes nothing.
 use mathlib.Core.Path.{_≡_, refl, sym, ap, _∙_, subst}
-use mathlib.Core.List.{List, [], _∷_, _++_}
+use mathlib.Core.List.{List, [], _∷_, _++_, map, List·Memᴰ, List·Memᴰ·tail}
 use mathlib.Core.Option.{some}
-use Prim.Native.Nat.{ℕ, zero, suc, _≤_, _<_}
+use Prim.Native.Nat.{ℕ, zero, suc, _+_, _-_, _≤_, _<_}
 use native.Mathlib.Omega.{arith}
 use lib.ListN.{length, take, drop, getElem?}
+use lib.Seq.{length-take-le, take-add, drop-at}
 use Rattle.agreement.specs.Agreement.{Subsequence, subsequence-nil, subsequence-skip, subsequence-match}
 
 module _ {A : Type 0} where
@@ -75,3 +76,31 @@ module _ {A : Type 0} where
           let p : vs ≡ ys = cc in
           let r : t ≡ drop (suc k) l = cc in
           subst (λ (v : List A). Subsequence v ys) r (subst (λ (v : List A). Subsequence t v) p h)
+
+  pub subsequence-same : (xs : List A) → Subsequence xs xs
+  subsequence-same [] = subsequence-nil
+  subsequence-same (x ∷ xs) = subsequence-match refl (subsequence-same xs)
+
+  -- what comes after some place comes in the list
+  pub member-dropped : (l : List A) (k : ℕ) (x : A) → List·Memᴰ x (drop k l) → List·Memᴰ x l
+  member-dropped l zero x h = h
+  member-dropped [] (suc k) x h = h
+  member-dropped (y ∷ l) (suc k) x h = List·Memᴰ·tail (member-dropped l k x h)
+
+  -- what follows the first n elements
+  pub after-first : (l r : List A) (n k : ℕ) → n ≤ k → k ≤ length l → take n l ++ r ≡ take k l → r ≡ take (k - n) (drop n l)
+  after-first l r n k a b e =
+      let s : n + (k - n) ≡ k = omega arith in
+      let size = length-take-le n l (omega arith) in
+      sym (drop-at (take n l) r n size) ∙ ap (drop n) (e ∙ ap (λ (m : ℕ). take m l) (sym s) ∙ take-add n (k - n) l) ∙ drop-at (take n l) (take (k - n) (drop n l)) n size
+
+module _ {A B : Type 0} (f : A → B) where
+  pub map-take : (l : List A) (k : ℕ) → map f (take k l) ≡ take k (map f l)
+  map-take l zero = refl
+  map-take [] (suc k) = refl
+  map-take (x ∷ xs) (suc k) = ap (λ (r : List B). f x ∷ r) (map-take xs k)
+
+  pub map-drop : (l : List A) (k : ℕ) → map f (drop k l) ≡ drop k (map f l)
+  map-drop l zero = refl
+  map-drop [] (suc k) = refl
+  map-drop (x ∷ xs) (suc k) = map-drop xs k

@@ -1,14 +1,14 @@
 -- The reference machine's entries: each is the edit of the one before it, and each of their states the reference machine had after some of the calls. Assumes nothing.
-use mathlib.Core.Path.{_≡_, refl, ap}
+use mathlib.Core.Path.{_≡_, refl, sym, ap, ap₂, _∙_}
 use mathlib.Core.List.{List, [], _∷_, _++_}
 use Prim.Native.Nat.{ℕ, zero, suc, _+_, _≤_, _<_}
 use native.Mathlib.Omega.{arith}
-use lib.ListN.{length, take}
+use lib.ListN.{length, take, drop, length-append}
 use lib.Dec.{leb, ltb}
 use borrow.Author.Tests.{ltb-true}
 use Rattle.edit_plan.specs.Outcome.{Outcome, refused, accepted}
 use Rattle.edit_plan.proofs.Tables.{Holds, holds-guard}
-use Rattle.agreement.specs.Machines.{State, Protocol, maxEditNumber, Call, withCount, stateAfter, Entry, callOutcome, referenceAfter, appendAccepted, acceptedLog}
+use Rattle.agreement.specs.Machines.{State, initial, Protocol, maxEditNumber, Call, withCount, stateAfter, Entry, callOutcome, referenceAfter, appendAccepted, acceptedLog}
 use Rattle.agreement.specs.Agreement.{stateAt}
 
 -- where some entries end
@@ -98,3 +98,55 @@ module _ {D E R : Type 0} (p : Protocol D E R) where
   reference-at s [] zero b = ([], [], refl, refl)
   reference-at s [] (suc k) b = absurd (omega arith)
   reference-at s (c ∷ cs) k b = reference-step s c cs (acceptedLog p (stateAfter s (callOutcome p s c)) cs) (callOutcome p s c) refl (reference-at (stateAfter s (callOutcome p s c)) cs) k b
+
+  -- ---- the entries of calls one after the other
+
+  pub log-join : (s : State D) (cs ds : List (Call E)) → acceptedLog p s (cs ++ ds) ≡ acceptedLog p s cs ++ acceptedLog p (referenceAfter p s cs) ds
+  log-join s [] ds = refl
+  log-join s (c ∷ cs) ds = go (callOutcome p s c) (acceptedLog p (stateAfter s (callOutcome p s c)) cs) _ (log-join (stateAfter s (callOutcome p s c)) cs ds)
+    where
+      go : (o : Outcome (State D) R) {l : List (Entry D E R)} (m n : List (Entry D E R)) → l ≡ m ++ n → appendAccepted (c .edit) o l ≡ appendAccepted (c .edit) o m ++ n
+      go (refused k) m n e = e
+      go (accepted t r) m n e = ap (λ (l : List (Entry D E R)). record { after = t; edit = c .edit; report = r } ∷ l) e
+
+  pub state-front : (s : State D) (l m : List (Entry D E R)) (k : ℕ) → k ≤ length l → stateAt s (l ++ m) k ≡ stateAt s l k
+  state-front s l m zero h = refl
+  state-front s [] m (suc k) h = absurd (omega arith)
+  state-front s (x ∷ xs) m (suc k) h = state-front (x .after) xs m k (omega arith)
+
+  -- the reference machine after the first of some calls has its state at its own count
+  pub record AtCount (start : D) (front later : List (Call E)) : Type 0 where
+    pub state : referenceAfter p (initial start) front ≡ stateAt (initial start) (acceptedLog p (initial start) (front ++ later)) (referenceAfter p (initial start) front .count)
+    pub count : referenceAfter p (initial start) front .count ≡ length (acceptedLog p (initial start) front)
+    pub within : referenceAfter p (initial start) front .count ≤ length (acceptedLog p (initial start) (front ++ later))
+
+  pub at-count : (start : D) (front later : List (Call E)) → AtCount start front later
+  at-count start front later =
+      let s = initial start in
+      let l = acceptedLog p s front in
+      let whole = log-join s front later in
+      let e : stateAt s l (length l) ≡ referenceAfter p s front = last-entry s front in
+      let c : referenceAfter p s front .count ≡ length l = sym (ap (λ (t : State D). t .count) e) ∙ state-count s l (linked s front) (length l) (omega arith) ∙ omega arith in
+      record {
+        state = sym e ∙ sym (state-front s l (acceptedLog p (referenceAfter p s front) later) (length l) (omega arith)) ∙ ap₂ (stateAt s) (sym whole) (sym c);
+        count = c;
+        within = let n = ap length whole ∙ length-append l (acceptedLog p (referenceAfter p s front) later) in omega (arith, c, n);
+      }
+
+  -- ---- the entries after some count
+
+  pub linked-drop : (s : State D) (l : List (Entry D E R)) (n : ℕ) → Linked s l → Linked (stateAt s l n) (drop n l)
+  linked-drop s l zero h = h
+  linked-drop s [] (suc n) h = tt
+  linked-drop s (x ∷ xs) (suc n) h = linked-drop (x .after) xs n (h .1)
+
+  state-none : (s : State D) (m : ℕ) → stateAt {E = E} {R = R} s [] m ≡ s
+  state-none s zero = refl
+  state-none s (suc m) = refl
+
+  pub state-drop : (s : State D) (l : List (Entry D E R)) (n m : ℕ) → stateAt (stateAt s l n) (drop n l) m ≡ stateAt s l (n + m)
+  state-drop s l zero m = let e : m ≡ 0 + m = omega arith in ap (stateAt s l) e
+  state-drop s [] (suc n) m = state-none s m ∙ sym (state-none s (suc n + m))
+  state-drop s (x ∷ xs) (suc n) m =
+      let e : suc (n + m) ≡ suc n + m = omega arith in
+      state-drop (x .after) xs n m ∙ ap (stateAt s (x ∷ xs)) e

@@ -1,6 +1,7 @@
 -- The wall's run beside the reference machine's entries: each delivery is the next message, and gives the next entry's state, or leaves the wall, as what is not read does. Assumes that edits keep
 -- drawings valid (`Keeping`), whatever that means, and that the message of an edit accepted on a valid drawing is read as what it was made of (`Read`).
 use mathlib.Core.Path.{_≡_, refl, sym, ap, _∙_, subst}
+use mathlib.Core.Bool.{Bool, true, false}
 use mathlib.Core.List.{List, [], _∷_, _++_, map, append-nil, List·Memᴰ, List·Memᴰ·cases-cons, List·Memᴰ·not-nil}
 use mathlib.Core.Option.{some}
 use mathlib.Core.Logic.{_⊎_, inl, inr, ⊎-elim}
@@ -9,11 +10,11 @@ use native.Mathlib.Numerals.{add-one}
 use native.Mathlib.Omega.{arith}
 use native.Mathlib.Decide.{decLe, ℕ-discrete}
 use lib.ListN.{length, take, drop, getElem?, length-map}
-use lib.Dec.{ltb}
-use borrow.Author.Tests.{lt-ltb, le-ltb, le-leb, lt-leb, eq-eqb, ne-eqb}
+use lib.Dec.{leb, ltb, eqb}
+use borrow.Author.Tests.{lt-ltb, le-ltb, le-leb, lt-leb, leb-false, eq-eqb, ne-eqb}
 use Rattle.sketch.specs.Lists.{ite}
-use Rattle.edit_plan.specs.Outcome.{accepted}
-use Rattle.agreement.specs.Machines.{State, Decoded, message, Protocol, maxEditNumber, Entry, WallReply, wallRefused, wallOld, wallApplied, WallStep, wallAfter, Unread, Delivered, wallTransition, WallStepValid, WallRun}
+use Rattle.edit_plan.specs.Outcome.{Outcome, refused, accepted}
+use Rattle.agreement.specs.Machines.{State, Decoded, invalid, message, Protocol, maxEditNumber, Entry, WallReply, wallRefused, wallOld, wallApplied, WallStep, wallAfter, Unread, Delivered, wallApply, wallTransition, WallStepValid, WallRun}
 use Rattle.agreement.specs.Agreement.{stateAt, appliedReplies, Subsequence, CountStep}
 use Rattle.agreement.proofs.Orders.{some-inj, lookup-below, take-more, drop-end, order-nil, order-stay, order-next}
 use Rattle.agreement.proofs.Reference.{Linked, state-count}
@@ -263,3 +264,30 @@ module _ {D E R : Type 0} (p : Protocol D E R) (Valid : D → Type 0) (keeps : K
         step : Moved w x → CountStep (map (written p) l) (w .count) x
         step (stays e ne) = inr (ne, ap (λ (t : State D). t .count) e)
         step (moves r e u a b) = inl (b, inv-moves w (x .state) e (below w (x .bytes) b) .0 ∙ sym (add-one _))
+
+-- ---- a wall's count doesn't fall, whatever is delivered
+
+module _ {D E R : Type 0} (p : Protocol D E R) where
+  apply-rises : (s : State D) (n : ℕ) (e : E) (o : Outcome D R) → s .count ≤ n → s .count ≤ wallApply p s n e o .0 .count
+  apply-rises s n e (refused k) b = omega arith
+  apply-rises s n e (accepted d r) b = b
+
+  transition-rises : (s : State D) (u : Decoded E) → s .count ≤ wallTransition p s u .0 .count
+  transition-rises s (invalid k) = omega arith
+  transition-rises s (message n e) = go (leb n (s .count)) refl
+    where
+      next : (c : Bool) → s .count ≤ n → s .count ≤ ite c (wallApply p s n e (p .edit (s .drawing) e)) (s, wallRefused 7 0) .0 .count
+      next true b = apply-rises s n e (p .edit (s .drawing) e) b
+      next false b = omega arith
+
+      go : (c : Bool) → leb n (s .count) ≡ c → s .count ≤ ite c (s, wallOld) (ite (eqb n (s .count + 1)) (wallApply p s n e (p .edit (s .drawing) e)) (s, wallRefused 7 0)) .0 .count
+      go true q = omega arith
+      go false q = let b = leb-false n (s .count) q in next (eqb n (s .count + 1)) (omega arith)
+
+  pub never-falls : (s : State D) (xs : List (WallStep D R)) → WallRun p s xs → s .count ≤ wallAfter s xs .count
+  never-falls s [] h = omega arith
+  never-falls s (x ∷ xs) h =
+      let a = transition-rises s (p .decode (x .bytes)) in
+      let b = never-falls (x .state) xs (h .1) in
+      let c : x .state .count ≡ wallTransition p s (p .decode (x .bytes)) .0 .count = ap (λ (t : State D). t .count) (h .0 .state) in
+      omega (arith, a, b, c)

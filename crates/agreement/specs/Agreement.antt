@@ -1,13 +1,14 @@
--- How desk and wall agree with the reference machine: after each of the desk's calls, and at the wall's start and after every delivery. Definitions only.
+-- How desk and wall agree with the reference machine: after each of the desk's calls, and over the wall's whole life, at each start and after every delivery.
+-- Definitions only.
 use mathlib.Core.Path.{_≡_}
 use mathlib.Core.List.{List, [], _∷_, _++_, map}
 use mathlib.Core.Option.{some}
 use mathlib.Core.Logic.{_⊎_}
-use Prim.Native.Nat.{ℕ, zero, suc, _+_, _≤_}
-use lib.ListN.{length, take, getElem?}
+use Prim.Native.Nat.{ℕ, zero, suc, _+_, _-_, _≤_}
+use lib.ListN.{length, take, drop, getElem?}
 use lib.Dec.{ltb}
 use Rattle.sketch.specs.Lists.{ite}
-use Rattle.agreement.specs.Machines.{State, initial, Protocol, Call, Entry, callOutcome, referenceAfter, acceptedLog, DeskStep, calls, deskAfter, messages, replyTo, WallReply, wallApplied, WallStep, wallTransition, wallAfter}
+use Rattle.agreement.specs.Machines.{State, initial, Protocol, Call, Entry, callOutcome, referenceAfter, acceptedLog, DeskStep, calls, deskAfter, messages, replyTo, WallReply, wallApplied, WallStep, wallTransition, WallEvent, delivered, Session, sessionAt, sessionState}
 
 -- the reference machine's state at count k, by its log
 abbrev pub stateAt : {D E R : Type 0} → State D → List (Entry D E R) → ℕ → State D
@@ -33,20 +34,30 @@ CountStep ms k x =
     ⊎ ((getElem? ms k ≡ some (x .bytes) → ⊥) × (x .state .count ≡ k))
 
 module _ {D E R : Type 0} (p : Protocol D E R) where
-  -- the wall after the deliveries `before`, its count being k
-  pub record WallAt (s : State D) (desk : List (DeskStep D E R)) (before : List (WallStep D R)) : Type 0 where
-    -- it has the reference machine's state at count k
-    pub state : wallAfter s before ≡ stateAt s (acceptedLog p s (calls desk)) (wallAfter s before .count)
-    -- which the reference machine had after some of the desk's calls
-    pub reference : (front : List (Call E)) × (later : List (Call E)) × (calls desk ≡ front ++ later) × (referenceAfter p s front ≡ wallAfter s before)
-    -- k is at most the number of accepted calls
-    pub within : wallAfter s before .count ≤ length (acceptedLog p s (calls desk))
-    -- the deliveries that raised the count gave the reference machine's reports up to k
-    pub reports : appliedReplies s before ≡ take (wallAfter s before .count) (map (λ (x : Entry D E R). wallApplied (x .report)) (acceptedLog p s (calls desk)))
-    -- k is all of them once each message has come, in rising order
-    pub all : Subsequence (messages desk) (map (λ x. x .bytes) before) → wallAfter s before .count ≡ length (acceptedLog p s (calls desk))
+  -- the log of the reference machine that starts with a drawing and sees the desk's calls
+  abbrev pub deskLog : D → List (DeskStep D E R) → List (Entry D E R)
+  deskLog start desk = acceptedLog p (initial start) (calls desk)
 
-  pub record Agreement (start : D) (desk : List (DeskStep D E R)) (wall : List (WallStep D R)) : Type 0 where
+  -- its entries after count n, up to count k
+  abbrev pub entriesBetween : D → List (DeskStep D E R) → ℕ → ℕ → List (Entry D E R)
+  entriesBetween start desk n k = take (k - n) (drop n (deskLog start desk))
+
+  -- the wall in a session that began at count n, its count being k
+  pub record WallAt (start : D) (desk : List (DeskStep D E R)) (g : Session D R) : Type 0 where
+    -- it has the reference machine's state at count k
+    pub state : sessionState g ≡ stateAt (initial start) (deskLog start desk) (sessionState g .count)
+    -- which the reference machine had after some of the desk's calls
+    pub reference : (front : List (Call E)) × (later : List (Call E)) × (calls desk ≡ front ++ later) × (referenceAfter p (initial start) front ≡ sessionState g)
+    -- k is at least n
+    pub from : g .start .count ≤ sessionState g .count
+    -- k is at most the number of accepted calls
+    pub within : sessionState g .count ≤ length (deskLog start desk)
+    -- the deliveries that raised the count gave the reference machine's reports after count n, up to k
+    pub reports : appliedReplies (g .start) (g .deliveries) ≡ map (λ (x : Entry D E R). wallApplied (x .report)) (entriesBetween start desk (g .start .count) (sessionState g .count))
+    -- k is all of them once each message after the first n has come, in rising order
+    pub all : Subsequence (drop (g .start .count) (messages desk)) (map (λ x. x .bytes) (g .deliveries)) → sessionState g .count ≡ length (deskLog start desk)
+
+  pub record Agreement (start : D) (desk : List (DeskStep D E R)) (life : List (WallEvent D R)) : Type 0 where
     -- the desk has the reference machine's state, at the start and after each call
     pub desk-state :
         (before later : List (DeskStep D E R)) → desk ≡ before ++ later
@@ -56,14 +67,14 @@ module _ {D E R : Type 0} (p : Protocol D E R) where
         (before later : List (DeskStep D E R)) (x : DeskStep D E R) → desk ≡ before ++ (x ∷ later)
         → x .reply ≡ replyTo p (referenceAfter p (initial start) (calls before) .drawing) (x .call .edit) (callOutcome p (referenceAfter p (initial start) (calls before)) (x .call))
     -- so its messages are those of the reference machine's log, in order
-    pub desk-messages : messages desk ≡ map (λ (x : Entry D E R). p .encode (x .after .count) (x .edit)) (acceptedLog p (initial start) (calls desk))
-    -- the wall, at the start and after every delivery
-    pub always : (before later : List (WallStep D R)) → wall ≡ before ++ later → WallAt (initial start) desk before
+    pub desk-messages : messages desk ≡ map (λ (x : Entry D E R). p .encode (x .after .count) (x .edit)) (deskLog start desk)
+    -- the wall, at its first start and after every delivery and every start
+    pub always : (before later : List (WallEvent D R)) → life ≡ before ++ later → WallAt start desk (sessionAt start before)
     -- a delivery's reply is that to the reference machine's state at the wall's count: a refusal's place too is the reference machine's
     pub wall-reply :
-        (before later : List (WallStep D R)) (x : WallStep D R) → wall ≡ before ++ (x ∷ later)
-        → x .reply ≡ wallTransition p (stateAt (initial start) (acceptedLog p (initial start) (calls desk)) (wallAfter (initial start) before .count)) (p .decode (x .bytes)) .1
+        (before later : List (WallEvent D R)) (x : WallStep D R) → life ≡ before ++ (delivered x ∷ later)
+        → x .reply ≡ wallTransition p (stateAt (initial start) (deskLog start desk) (sessionState (sessionAt start before) .count)) (p .decode (x .bytes)) .1
     -- its count rises exactly when the next message is delivered
     pub rises :
-        (before later : List (WallStep D R)) (x : WallStep D R) → wall ≡ before ++ (x ∷ later)
-        → CountStep (messages desk) (wallAfter (initial start) before .count) x
+        (before later : List (WallEvent D R)) (x : WallStep D R) → life ≡ before ++ (delivered x ∷ later)
+        → CountStep (messages desk) (sessionState (sessionAt start before) .count) x

@@ -1,7 +1,7 @@
 -- State machine replication over any edit function: the desk is the primary, the wall the replica that applies the desk's messages, and the
 -- reference machine (document 01's book) applies the desk's accepted calls alone. "Desk" and "wall" are 01's terms. Definitions only.
 use mathlib.Core.Path.{_≡_}
-use mathlib.Core.List.{List, [], _∷_, map, List·Memᴰ}
+use mathlib.Core.List.{List, [], _∷_, _++_, map, List·Memᴰ}
 use mathlib.Core.Logic.{_⊎_}
 use Prim.Native.Nat.{ℕ, _+_}
 use lib.Dec.{leb, ltb, eqb}
@@ -147,6 +147,49 @@ module _ {D E R : Type 0} (p : Protocol D E R) where
   abbrev pub Delivered : List (List ℕ) → List (WallStep D R) → Type 0
   Delivered ms [] = Unit {0}
   Delivered ms (x ∷ xs) = (List·Memᴰ (x .bytes) ms ⊎ Unread (x .bytes)) × Delivered ms xs
+
+-- ---- a wall's life: it may be started again, from the desk's state of that time (02)
+
+-- a state that the desk had: at its start, or after some of its calls
+abbrev pub DeskHad : {D E R : Type 0} → State D → List (DeskStep D E R) → State D → Type 0
+DeskHad {D} {E} {R} s desk t = (front : List (DeskStep D E R)) × (later : List (DeskStep D E R)) × (desk ≡ front ++ later) × (t ≡ deskAfter s front)
+
+-- what happens to a wall: it is started with a state, whatever it had, or bytes are delivered
+pub data WallEvent (D R : Type 0) : Type 0 where
+  started : State D → WallEvent D R
+  delivered : WallStep D R → WallEvent D R
+
+module _ {D E R : Type 0} (p : Protocol D E R) where
+  -- events one after the other, each on what the last one left
+  abbrev pub WallLife : State D → List (WallEvent D R) → Type 0
+  WallLife s [] = Unit {0}
+  WallLife s (started t ∷ es) = WallLife t es
+  WallLife s (delivered x ∷ es) = WallStepValid p s x × WallLife (x .state) es
+
+  -- each start is from a state that the desk had, at its count; each delivery is one of the desk's messages, as written, or is not read
+  abbrev pub FromDesk : State D → List (DeskStep D E R) → List (WallEvent D R) → Type 0
+  FromDesk s desk [] = Unit {0}
+  FromDesk s desk (started t ∷ es) = DeskHad s desk t × FromDesk s desk es
+  FromDesk s desk (delivered x ∷ es) = (List·Memᴰ (x .bytes) (messages desk) ⊎ Unread p (x .bytes)) × FromDesk s desk es
+
+-- a session of a wall: the state that it was last started with, and the deliveries since
+pub record Session (D R : Type 0) : Type 0 where
+  pub start : State D
+  pub deliveries : List (WallStep D R)
+
+-- the session in which some events leave a wall
+abbrev pub sessionAfter : {D R : Type 0} → Session D R → List (WallEvent D R) → Session D R
+sessionAfter g [] = g
+sessionAfter g (started t ∷ es) = sessionAfter (record { start = t; deliveries = [] }) es
+sessionAfter g (delivered x ∷ es) = sessionAfter (record { start = g .start; deliveries = g .deliveries ++ (x ∷ []) }) es
+
+-- the session in which the first events of its life leave a wall that starts with a drawing, as the desk does
+abbrev pub sessionAt : {D R : Type 0} → D → List (WallEvent D R) → Session D R
+sessionAt d es = sessionAfter (record { start = initial d; deliveries = [] }) es
+
+-- the wall's state in a session
+abbrev pub sessionState : {D R : Type 0} → Session D R → State D
+sessionState g = wallAfter (g .start) (g .deliveries)
 
 -- ---- the reference machine, 01's book: it sees the desk's calls alone
 

@@ -19,7 +19,7 @@ use Rattle.edit_plan.specs.ApplyPlan.{applyPlan}
 use Rattle.edit_plan.specs.Suited.{PinHolds, Pinned, Suited}
 use Rattle.edit_plan.proofs.Tables.{holds-at, look-some}
 use Rattle.edit_plan.proofs.Every.{rising-among}
-use Rattle.agreement.specs.Machines.{Protocol, initial, DeskStep, messages, DeskRun, WallStep, Delivered, WallRun}
+use Rattle.agreement.specs.Machines.{Protocol, initial, DeskStep, DeskRun, WallEvent, WallLife, FromDesk}
 use Rattle.agreement.specs.EditEffect.{EditEffect}
 use Rattle.agreement.specs.Demand.{Demand3}
 use Rattle.agreement.proofs.Counts.{there, among-as}
@@ -87,7 +87,7 @@ module _ {E : Type 0} (target : E → ℕ) (met : Drawing → Bool) (m : Limits)
         }
 
     pub planned-demand-3 :
-        Read p (Valid m) → (start : Drawing) (desk : List (DeskStep Drawing E Removed)) (wall : List (WallStep Drawing Removed))
-        → Valid m start → DeskRun p (initial start) desk → WallRun p (initial start) wall → Delivered p (messages desk) wall
-        → Demand3 p curveView target start desk wall
+        Read p (Valid m) → (start : Drawing) (desk : List (DeskStep Drawing E Removed)) → Valid m start → DeskRun p (initial start) desk
+        → (life : List (WallEvent Drawing Removed)) → WallLife p (initial start) life → FromDesk p (initial start) desk life
+        → Demand3 p curveView target start desk life
     planned-demand-3 = demand-3 p curveView target (Valid m) planned-keeps

@@ -1,8 +1,8 @@
--- A desk and a wall with an edit and a message as plain as can be, over the tables of a drawing: all that the claim asks for can be met, and two short lists of
--- calls show what it says.
+-- A desk and a wall with an edit and a message as plain as can be, over the tables of a drawing: all that the claim asks for can be met, and a short list of
+-- calls and a short life of the wall show what it says.
 use mathlib.Core.Path.{_≡_, refl}
 use mathlib.Core.Bool.{Bool, true, false, not, _&&_}
-use mathlib.Core.List.{List, [], _∷_, List·Memᴰ, List·Memᴰ·head, List·Memᴰ·tail}
+use mathlib.Core.List.{List, [], _∷_, _++_, List·Memᴰ, List·Memᴰ·head, List·Memᴰ·tail}
 use mathlib.Core.Logic.{inl, inr}
 use Prim.Native.Nat.{ℕ}
 use native.Mathlib.Omega.{arith}
@@ -31,7 +31,8 @@ use Rattle.edit_plan.specs.Steps.{endsOf, endsAt, releaseRelation, piecesOf, ad
 use Rattle.edit_plan.specs.ApplyPlan.{removePiece, applyPlanTo, applyPlanAt, applyPlan}
 use Rattle.edit_plan.specs.Suited.{Pinned}
 use Rattle.edit_plan.proofs.Every.{differ-is}
-use Rattle.agreement.specs.Machines.{State, initial, Decoded, invalid, message, Protocol, Call, acceptedLog, deskRefused, deskAccepted, DeskStep, calls, messages, DeskRun, wallRefused, wallOld, wallApplied, WallStep, Delivered, WallRun}
+use Rattle.agreement.specs.Machines.{State, initial, Decoded, invalid, message, Protocol, Call, deskRefused, deskAccepted, DeskStep, messages, DeskRun, wallRefused, wallOld, wallApplied, WallEvent, started, delivered, WallLife, FromDesk}
+use Rattle.agreement.specs.Agreement.{deskLog, entriesBetween}
 use Rattle.agreement.specs.Families.{family}
 use Rattle.agreement.specs.Demand.{Demand3}
 use Rattle.agreement.proofs.Wall.{Read}
@@ -98,12 +99,12 @@ planned d e d′ r v q = go (eqb (e .by) 0) q
     go false q = cutting (stands d e) refl q
 
 pub model-correct :
-    (start : Drawing) (desk : List (DeskStep Drawing Order Removed)) (wall : List (WallStep Drawing Removed))
-    → Valid limits start → DeskRun rules (initial start) desk → WallRun rules (initial start) wall → Delivered rules (messages desk) wall
-    → Demand3 rules curveView target start desk wall
+    (start : Drawing) (desk : List (DeskStep Drawing Order Removed)) → Valid limits start → DeskRun rules (initial start) desk
+    → (life : List (WallEvent Drawing Removed)) → WallLife rules (initial start) life → FromDesk rules (initial start) desk life
+    → Demand3 rules curveView target start desk life
 model-correct = planned-demand-3 target met limits rules planned read
 
--- ---- two lists
+-- ---- a list of calls, and a life
 
 abbrev at : ℕ → Float → Float → Point
 at i x y = newPoint i (record { x = x; y = y })
@@ -152,21 +153,30 @@ abbrev call : Order → ℕ → Call Order
 call e room = record { edit = e; room = room }
 
 -- a trim; a division whose buffer is too short; the division
-abbrev desk : List (DeskStep Drawing Order Removed)
-desk =
-    record { call = call trim 3; state = state trimmed 1; reply = deskAccepted (record { curve = 8; from = 1; to = 7 }) (1 ∷ 3 ∷ 6 ∷ []) }
-    ∷ record { call = call divide 2; state = state trimmed 1; reply = deskRefused 25 0 }
+abbrev trims : List (DeskStep Drawing Order Removed)
+trims = record { call = call trim 3; state = state trimmed 1; reply = deskAccepted (record { curve = 8; from = 1; to = 7 }) (1 ∷ 3 ∷ 6 ∷ []) } ∷ []
+
+abbrev divides : List (DeskStep Drawing Order Removed)
+divides =
+    record { call = call divide 2; state = state trimmed 1; reply = deskRefused 25 0 }
     ∷ record { call = call divide 3; state = state divided 2; reply = deskAccepted nothing (2 ∷ 3 ∷ 0 ∷ []) }
     ∷ []
 
--- the second message, ahead; the first; a message that is not read; the first again, old; the second
-abbrev wall : List (WallStep Drawing Removed)
-wall =
-    record { bytes = 2 ∷ 3 ∷ 0 ∷ []; state = state crossed 0; reply = wallRefused 7 0 }
-    ∷ record { bytes = 1 ∷ 3 ∷ 6 ∷ []; state = state trimmed 1; reply = wallApplied (record { curve = 8; from = 1; to = 7 }) }
-    ∷ record { bytes = 2 ∷ 3 ∷ 6 ∷ 0 ∷ []; state = state trimmed 1; reply = wallRefused 1 0 }
-    ∷ record { bytes = 1 ∷ 3 ∷ 6 ∷ []; state = state trimmed 1; reply = wallOld }
-    ∷ record { bytes = 2 ∷ 3 ∷ 0 ∷ []; state = state divided 2; reply = wallApplied nothing }
+abbrev desk : List (DeskStep Drawing Order Removed)
+desk = trims ++ divides
+
+-- the second message, ahead; the first; a message that is not read; a start with what the desk had at first; the second message, ahead; a start with what the
+-- desk had after the trim; the first message, old; the second
+abbrev life : List (WallEvent Drawing Removed)
+life =
+    delivered (record { bytes = 2 ∷ 3 ∷ 0 ∷ []; state = state crossed 0; reply = wallRefused 7 0 })
+    ∷ delivered (record { bytes = 1 ∷ 3 ∷ 6 ∷ []; state = state trimmed 1; reply = wallApplied (record { curve = 8; from = 1; to = 7 }) })
+    ∷ delivered (record { bytes = 2 ∷ 3 ∷ 6 ∷ 0 ∷ []; state = state trimmed 1; reply = wallRefused 1 0 })
+    ∷ started (state crossed 0)
+    ∷ delivered (record { bytes = 2 ∷ 3 ∷ 0 ∷ []; state = state crossed 0; reply = wallRefused 7 0 })
+    ∷ started (state trimmed 1)
+    ∷ delivered (record { bytes = 1 ∷ 3 ∷ 6 ∷ []; state = state trimmed 1; reply = wallOld })
+    ∷ delivered (record { bytes = 2 ∷ 3 ∷ 0 ∷ []; state = state divided 2; reply = wallApplied nothing })
     ∷ []
 
 crossed-valid : Valid limits crossed
@@ -182,12 +192,12 @@ desk-run : DeskRun rules (initial crossed) desk
 unfolding opened
 desk-run = (record { state = refl; reply = refl }, (record { state = refl; reply = refl }, (record { state = refl; reply = refl }, tt)))
 
-wall-run : WallRun rules (initial crossed) wall
+wall-life : WallLife rules (initial crossed) life
 unfolding opened
-wall-run = (record { state = refl; reply = refl }, (record { state = refl; reply = refl }, (record { state = refl; reply = refl }, (record { state = refl; reply = refl }, (record { state = refl; reply = refl }, tt)))))
+wall-life = (record { state = refl; reply = refl }, (record { state = refl; reply = refl }, (record { state = refl; reply = refl }, (record { state = refl; reply = refl }, (record { state = refl; reply = refl }, (record { state = refl; reply = refl }, tt))))))
 
-own-or-unread : Delivered rules (messages desk) wall
-own-or-unread = (inl second, (inl first, (inr (1, refl), (inl first, (inl second, tt)))))
+from-desk : FromDesk rules (initial crossed) desk life
+from-desk = (inl second, (inl first, (inr (1, refl), (([], desk, refl, refl), (inl second, ((trims, divides, refl, refl), (inl first, (inl second, tt))))))))
   where
     first : List·Memᴰ (1 ∷ 3 ∷ 6 ∷ []) (messages desk)
     first = List·Memᴰ·head refl
@@ -195,10 +205,15 @@ own-or-unread = (inl second, (inl first, (inr (1, refl), (inl first, (inl second
     second : List·Memᴰ (2 ∷ 3 ∷ 0 ∷ []) (messages desk)
     second = List·Memᴰ·tail (List·Memᴰ·head refl)
 
-pub example-correct : Demand3 rules curveView target crossed desk wall
-example-correct = model-correct crossed desk wall crossed-valid desk-run wall-run own-or-unread
+pub example-correct : Demand3 rules curveView target crossed desk life
+example-correct = model-correct crossed desk crossed-valid desk-run life wall-life from-desk
 
 -- the line's family: itself, the piece that the trim removed, the piece that the division added
-pub example-family : family curveView target crossed (3 ∷ []) (acceptedLog rules (initial crossed) (calls desk)) ≡ 3 ∷ 8 ∷ 10 ∷ []
+pub example-family : family curveView target crossed (3 ∷ []) (deskLog rules crossed desk) ≡ 3 ∷ 8 ∷ 10 ∷ []
 unfolding opened
 example-family = refl
+
+-- and on the wall, which was started again after the trim: the line that then stood, the piece that the division added
+pub example-family-since : family curveView target trimmed (3 ∷ []) (entriesBetween rules crossed desk 1 2) ≡ 3 ∷ 10 ∷ []
+unfolding opened
+example-family-since = refl
