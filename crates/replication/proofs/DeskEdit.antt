@@ -15,6 +15,8 @@ use Rattle.sketch.specs.Valid.{okCoordinate}
 use Rattle.sketch.proofs.Bools.{and-both}
 use Rattle.image.specs.Image as I
 use Rattle.message.specs.Message.{encode, MessageWritten, messageSize}
+use Rattle.window.specs.declared.Window.{Window}
+use Rattle.window.specs.Window.{slid}
 use Rattle.edit_plan.specs.declared.Removed.{Removed}
 use Rattle.edit_plan.specs.Outcome as O
 use Rattle.edit_plan.specs.Outcome.{guard}
@@ -29,13 +31,13 @@ use Rattle.replication.specs.declared.Replica.{Replica}
 use Rattle.replication.specs.declared.DeskReply.the-variants as Desk
 use Rattle.replication.specs.declared.DeskTransition.{DeskTransition}
 use Rattle.replication.specs.Protocol.{Edit, isPick, place, messageFor}
-use Rattle.replication.specs.Outcomes.{CallOutcome, refused, deskOutcome, deskOn, OutcomeSound, messageAfter}
+use Rattle.replication.specs.Outcomes.{CallOutcome, refused, deskOutcome, deskOn, OutcomeSound, messageAfter, windowAfter}
 use Rattle.replication.specs.Transitions.{Memory, memory, imageIn, firstFault, memoryAfter, deskReplyTo, deskCallOutcome, DeskEdits}
 use Rattle.replication.specs.Contracts.{deskRefusing}
 use Rattle.replication.proofs.Picks.{is-number, decided-place}
 use Rattle.replication.proofs.CallOutcomes.{first-some, on-first, applied, on-image, EditOutcome, edit-outcome}
 
-module _ (s : Replica) (b : List ℕ) (e : Edit) (l : List ℕ) where
+module _ (s : Replica) (kept : Window) (b : List ℕ) (e : Edit) (l : List ℕ) where
   abbrev m : Memory
   m = memory s b
 
@@ -47,20 +49,21 @@ module _ (s : Replica) (b : List ℕ) (e : Edit) (l : List ℕ) where
 
   -- an answer, with what is left of buffer and message
   abbrev Answers : List ℕ → List ℕ → DeskTransition → Type 0
-  Answers b′ l′ r = DeskEdits m (record { edit = e; before = l; after = l′; left = memory (r .replica) b′; reply = r .reply })
+  Answers b′ l′ r = DeskEdits m (kept .bytes) (record { edit = e; before = l; after = l′; left = memory (r .replica) b′; window = r .window .bytes; reply = r .reply })
 
   -- a refusal leaves all
-  refusing : (n place : ℕ) → outcome ≡ refused n place → (n ≡ 0 → ⊥) → Answers b l (deskRefusing s n place)
+  refusing : (n place : ℕ) → outcome ≡ refused n place → (n ≡ 0 → ⊥) → Answers b l (deskRefusing s kept n place)
   refusing n place g z =
       record {
         reply-is = sym (ap deskReplyTo g);
         left-is = sym (ap (λ (v : CallOutcome). memoryAfter v m) g);
         message-is = sym (ap (λ (v : CallOutcome). messageAfter (s .mark) v e l) g);
+        window-is = sym (ap (λ (v : CallOutcome). windowAfter v (kept .bytes) l) g);
         sound = subst OutcomeSound (sym g) z;
       }
 
   -- refused before the edit is looked at
-  first : (k : ℕ) → (k ≡ 0 → ⊥) → deskOn (s .mark) (length b) call (record { drawing = I.drawingOf (imageIn m); count = s .count }) ≡ refused k 0 → {n : ℕ} → n ≡ firstFault (imageIn m) k → {r : DeskTransition} → r ≡ deskRefusing s n 0 → Answers b l r
+  first : (k : ℕ) → (k ≡ 0 → ⊥) → deskOn (s .mark) (length b) call (record { drawing = I.drawingOf (imageIn m); count = s .count }) ≡ refused k 0 → {n : ℕ} → n ≡ firstFault (imageIn m) k → {r : DeskTransition} → r ≡ deskRefusing s kept n 0 → Answers b l r
   first k h g {n} f q =
       subst (Answers b l) (sym q) (refusing n 0 (on-first (imageIn m) (s .count) (deskOn (s .mark) (length b) call) k n f g) (first-some (imageIn m) k n h f))
 
@@ -68,12 +71,12 @@ module _ (s : Replica) (b : List ℕ) (e : Edit) (l : List ℕ) where
   placed-none : (k : ℕ) → 20 ≤ k → refused k (place (I.drawingOf (imageIn m)) e k) ≡ refused k 0
   placed-none k h = ap (refused k) (sym (place-none (I.drawingOf (imageIn m)) _ (placeless-above h)))
 
-  pub desk-short : length l < messageSize → {n : ℕ} → n ≡ firstFault (imageIn m) 25 → {r : DeskTransition} → r ≡ deskRefusing s n 0 → Answers b l r
+  pub desk-short : length l < messageSize → {n : ℕ} → n ≡ firstFault (imageIn m) 25 → {r : DeskTransition} → r ≡ deskRefusing s kept n 0 → Answers b l r
   unfolding guard
   desk-short h = first 25 (λ z. omega arith) (rw (lt-leb messageSize (length l) h) (placed-none 25 (omega arith)))
 
   module _ (room : messageSize ≤ length l) where
-    pub desk-full : maxEditNumber ≤ s .count → {n : ℕ} → n ≡ firstFault (imageIn m) 23 → {r : DeskTransition} → r ≡ deskRefusing s n 0 → Answers b l r
+    pub desk-full : maxEditNumber ≤ s .count → {n : ℕ} → n ≡ firstFault (imageIn m) 23 → {r : DeskTransition} → r ≡ deskRefusing s kept n 0 → Answers b l r
     unfolding guard
     desk-full h = first 23 (λ z. omega arith) (rw (le-leb messageSize (length l) room, le-ltb (s .count) maxEditNumber h) (placed-none 23 (omega arith)))
 
@@ -89,11 +92,11 @@ module _ (s : Replica) (b : List ℕ) (e : Edit) (l : List ℕ) where
           (on-image (imageIn m) (s .count) (deskOn (s .mark) (length b) call) (length b) (s .count + 1) e
           (rw (le-leb messageSize (length l) room, lt-ltb (s .count) maxEditNumber low, pick) (counted (s .count + 1) (place (I.drawingOf (imageIn m)) e) (editOf (e .operation) limits (I.drawingOf (imageIn m)) (e .curve) (e .at)))))
 
-      pub desk-declined : (x .refusal ≡ 0 → ⊥) → {r : DeskTransition} → r ≡ deskRefusing s (x .refusal) (x .place) → Answers b′ l r
+      pub desk-declined : (x .refusal ≡ 0 → ⊥) → {r : DeskTransition} → r ≡ deskRefusing s kept (x .refusal) (x .place) → Answers b′ l r
       desk-declined z q =
           let (g, same) = came .when-refused z in
           let a = refusing (x .refusal) (x .place) g z in
-          subst (Answers b′ l) (sym q) (subst (λ (t : List ℕ). Answers t l (deskRefusing s (x .refusal) (x .place))) (sym same) a)
+          subst (Answers b′ l) (sym q) (subst (λ (t : List ℕ). Answers t l (deskRefusing s kept (x .refusal) (x .place))) (sym same) a)
 
       -- a pick that was accepted is one of numbers
       pub pick-numbers : x .refusal ≡ 0 → T (not (isNan (e .at .x))) × T (not (isNan (e .at .y)))
@@ -106,10 +109,10 @@ module _ (s : Replica) (b : List ℕ) (e : Edit) (l : List ℕ) where
           (is-number (e .at .x) p, is-number (e .at .y) q)
 
       pub desk-done :
-          x .refusal ≡ 0 → (l′ : List ℕ) (k : ℕ) → MessageWritten (s .mark) (messageFor (s .count + 1) e) l l′ k
-          → Answers b′ l′ (record { replica = record { size = x .size; mark = s .mark; count = s .count + 1 }; reply = Desk.Accepted (x .removed) })
+          x .refusal ≡ 0 → (l′ : List ℕ) (k : ℕ) → MessageWritten (s .mark) (messageFor (s .count + 1) e) l l′ k → (next : Window) → next .bytes ≡ slid (kept .bytes) (s .count + 1) l′
+          → Answers b′ l′ (record { replica = record { size = x .size; mark = s .mark; count = s .count + 1 }; window = next; reply = Desk.Accepted (x .removed) })
       unfolding guardNumber
-      desk-done z l′ k u =
+      desk-done z l′ k u next slides =
           let t = came .when-done z in
           let g = t .outcome in
           let sent : l′ ≡ over l 0 (encode (s .mark) (messageFor (s .count + 1) e)) = u .buffer ∙ rw (le-leb 1 (s .count + 1) (omega arith), le-leb messageSize (length l) room) in
@@ -117,5 +120,6 @@ module _ (s : Replica) (b : List ℕ) (e : Edit) (l : List ℕ) where
             reply-is = sym (ap deskReplyTo g);
             left-is = (λ i. record { buffer = t .buffer-is i; size = t .size-is i; mark = s .mark; count = s .count + 1 }) ∙ sym (ap (λ (v : CallOutcome). memoryAfter v m) g);
             message-is = sent ∙ sym (ap (λ (v : CallOutcome). messageAfter (s .mark) v e l) g);
+            window-is = slides ∙ sym (ap (λ (v : CallOutcome). windowAfter v (kept .bytes) l′) g);
             sound = subst OutcomeSound (sym g) (t .sound);
           }

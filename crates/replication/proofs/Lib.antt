@@ -9,5 +9,6 @@ pub mod WallDeliver
 pub mod WallCases
 pub mod Steps
 pub mod Demand3
+pub mod CatchUps
 pub mod StartCases
 pub mod TwoDesks

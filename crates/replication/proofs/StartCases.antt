@@ -12,11 +12,11 @@ use Rattle.big_endian.specs.Fields.{over, overIfFits}
 use Rattle.big_endian.specs.Laws.{Bytes, over-fits, length-over}
 use Rattle.sketch.specs.Lists.{guardNumber}
 use Rattle.sketch.specs.Drawing.{Drawing, limits}
+use Rattle.sketch.specs.Facts.{Valid}
 use Rattle.sketch.proofs.Facts.{fault-valid}
 use Rattle.image.specs.Image as I
 use Rattle.image.proofs.RoundTrips.{image-kept, valid}
 use Rattle.sketch_image.specs.SketchImage.{drawingIn}
-use Rattle.agreement.specs.Machines.{initial}
 use Rattle.replication.specs.declared.Replica.{Replica}
 use Rattle.replication.specs.declared.Started.{Started}
 use Rattle.replication.specs.Transitions.{Memory, memory, imageIn, StartsWith, noReplica, firstNonzero, startFault, Starts, firstFault}
@@ -44,11 +44,11 @@ pub above-first : (n m : ℕ) → (m ≡ 0 → ⊥) → firstNonzero n m ≡ 0 �
 above-first zero m h e = h e
 above-first (suc n) m h e = omega arith
 
-module _ (image : List ℕ) (mark : ℕ) (b : List ℕ) where
-  refusing : (k : ℕ) → k ≡ startFault image (length b) → (k ≡ 0 → ⊥) → Starts image mark b b (refusedStart k)
+module _ (image : List ℕ) (mark count : ℕ) (b : List ℕ) where
+  refusing : (k : ℕ) → k ≡ startFault image (length b) → (k ≡ 0 → ⊥) → Starts image mark count b b (refusedStart k)
   refusing k e z = record { number = e; when-refused = λ y. (refl, refl); when-started = λ y. absurd (z y) }
 
-  pub start-short : length b < I.maxImageSize → {k : ℕ} → k ≡ firstFault image 25 → {r : Started} → r ≡ refusedStart k → Starts image mark b b r
+  pub start-short : length b < I.maxImageSize → {k : ℕ} → k ≡ firstFault image 25 → {r : Started} → r ≡ refusedStart k → Starts image mark count b b r
   unfolding guardNumber
   start-short h {k} e q =
       let f : k ≡ startFault image (length b) = e ∙ sym (nonzero-first (I.imageFault image) 25) ∙ sym (rw (lt-leb I.maxImageSize (length b) h)) in
@@ -60,17 +60,17 @@ module _ (image : List ℕ) (mark : ℕ) (b : List ℕ) where
     unfolding guardNumber
     fault-is = e ∙ sym (nonzero-first (I.imageFault image) 0) ∙ sym (rw (le-leb I.maxImageSize (length b) room))
 
-    pub start-refused : (k ≡ 0 → ⊥) → {r : Started} → r ≡ refusedStart k → Starts image mark b b r
+    pub start-refused : (k ≡ 0 → ⊥) → {r : Started} → r ≡ refusedStart k → Starts image mark count b b r
     start-refused z q = rw q (refusing k fault-is z)
 
-    pub start-done : k ≡ 0 → {b′ : List ℕ} → b′ ≡ overIfFits b 0 image → Starts image mark b b′ (record { replica = record { size = length image; mark = mark; count = 0 }; refusal = 0 })
+    pub start-done : k ≡ 0 → {b′ : List ℕ} → b′ ≡ overIfFits b 0 image → Starts image mark count b b′ (record { replica = record { size = length image; mark = mark; count = count }; refusal = 0 })
     start-done z p =
         let l = good-size image (sym (first-fault-own image e) ∙ z) in
         record { number = sym z ∙ fault-is; when-refused = λ y. absurd (y refl); when-started = λ y. (p ∙ over-fits b 0 image (omega arith), refl) }
 
 -- ---- a start that is not refused
 
-module _ (image : List ℕ) (mark : ℕ) (b b′ : List ℕ) (r : Started) (w : Starts image mark b b′ r) (z : r .refusal ≡ 0) where
+module _ (image : List ℕ) (mark count : ℕ) (b b′ : List ℕ) (r : Started) (w : Starts image mark count b b′ r) (z : r .refusal ≡ 0) where
   pub start-image : I.imageFault image ≡ 0
   start-image = go (I.imageFault image) (guardNumber (leb I.maxImageSize (length b)) 25 0) (sym (w .number) ∙ z)
     where
@@ -86,7 +86,7 @@ module _ (image : List ℕ) (mark : ℕ) (b b′ : List ℕ) (r : Started) (w : 
       go true h e = leb-true I.maxImageSize (length b) h
       go false h e = absurd (omega arith)
 
-  pub starts-with : StartsWith image mark (memory (r .replica) b′)
+  pub starts-with : StartsWith image mark count (memory (r .replica) b′)
   unfolding over
   starts-with =
       let (put, is) = w .when-started z in
@@ -96,10 +96,16 @@ module _ (image : List ℕ) (mark : ℕ) (b b′ : List ℕ) (r : Started) (w : 
         image-is = ap₂ (λ (n : ℕ) (t : List ℕ). take n t) (ap (λ (s : Replica). s .size) is) put ∙ take-at image _ (length image) refl;
         room = subst (λ (n : ℕ). I.maxImageSize ≤ n) (sym (ap length put ∙ length-over b 0 image fits)) start-room;
         mark-is = ap (λ (s : Replica). s .mark) is;
-        zero-count = ap (λ (s : Replica). s .count) is;
+        count-is = ap (λ (s : Replica). s .count) is;
       }
 
-pub held-at-start : (image : List ℕ) → Bytes image → (mark : ℕ) (start : Drawing) → I.parse image ≡ I.accepted start → (m : Memory) → StartsWith image mark m → Holding mark m (initial start)
-held-at-start image b mark start e m h =
-    let is : I.parse (imageIn m) ≡ I.accepted start = ap I.parse (h .image-is) ∙ e in
-    record { ready = ready-by m start is (fault-valid limits start (valid image start b e)) (h .room); mark-is = h .mark-is; state = λ i. record { drawing = ap drawingIn is i; count = h .zero-count i } }
+-- of a valid drawing's image
+pub held-valid : (image : List ℕ) (mark count : ℕ) (d : Drawing) → Valid limits d → I.parse image ≡ I.accepted d → (m : Memory) → StartsWith image mark count m → Holding mark m (record { drawing = d; count = count })
+held-valid image mark count d v e m h =
+    let is : I.parse (imageIn m) ≡ I.accepted d = ap I.parse (h .image-is) ∙ e in
+    record { ready = ready-by m d is v (h .room); mark-is = h .mark-is; state = λ i. record { drawing = ap drawingIn is i; count = h .count-is i } }
+
+pub held-at-start :
+    (image : List ℕ) → Bytes image → (mark count : ℕ) (start : Drawing) → I.parse image ≡ I.accepted start → (m : Memory) → StartsWith image mark count m
+    → Holding mark m (record { drawing = start; count = count })
+held-at-start image b mark count start e = held-valid image mark count start (fault-valid limits start (valid image start b e)) e

@@ -146,13 +146,13 @@ Leaves m t = Ready t × (t .mark ≡ m .mark)
 
 -- a call is by its parts
 pub same-edit :
-    (m : Memory) (b a : List ℕ) (y : Memory) (t : DeskReply) (e e′ : Edit) → e .operation ≡ e′ .operation → e .curve ≡ e′ .curve → e .at .x ≡ e′ .at .x → e .at .y ≡ e′ .at .y
-    → DeskEdits m (record { edit = e; before = b; after = a; left = y; reply = t }) → DeskEdits m (record { edit = e′; before = b; after = a; left = y; reply = t })
-same-edit m b a y t e e′ o c x z =
-    subst (λ (e : Edit). DeskEdits m (record { edit = e; before = b; after = a; left = y; reply = t })) (λ i. record { operation = o i; curve = c i; at = record { x = x i; y = z i } })
+    (m : Memory) (w b a : List ℕ) (y : Memory) (w′ : List ℕ) (t : DeskReply) (e e′ : Edit) → e .operation ≡ e′ .operation → e .curve ≡ e′ .curve → e .at .x ≡ e′ .at .x → e .at .y ≡ e′ .at .y
+    → DeskEdits m w (record { edit = e; before = b; after = a; left = y; window = w′; reply = t }) → DeskEdits m w (record { edit = e′; before = b; after = a; left = y; window = w′; reply = t })
+same-edit m w b a y w′ t e e′ o c x z =
+    subst (λ (e : Edit). DeskEdits m w (record { edit = e; before = b; after = a; left = y; window = w′; reply = t })) (λ i. record { operation = o i; curve = c i; at = record { x = x i; y = z i } })
 
-pub desk-step : (m : Memory) → Ready m → (c : DeskCall) → DeskEdits m c → DeskStepValid (protocol (m .mark)) (stateIn m) (deskStep c) × Leaves m (c .left)
-desk-step m h c w = go (desk-case m h (c .edit) (length (c .before)))
+pub desk-step : (m : Memory) → Ready m → (kept : List ℕ) (c : DeskCall) → DeskEdits m kept c → DeskStepValid (protocol (m .mark)) (stateIn m) (deskStep c) × Leaves m (c .left)
+desk-step m h kept c w = go (desk-case m h (c .edit) (length (c .before)))
   where
     go : DeskCase m h (c .edit) (length (c .before)) → DeskStepValid (protocol (m .mark)) (stateIn m) (deskStep c) × Leaves m (c .left)
     go (desk-refused k g o) =

@@ -1,6 +1,6 @@
 -- Two desks with different marks, walls that hear both: each wall agrees with its own desk (`two-desks`). Assumes nothing.
-use mathlib.Core.Path.{_≡_, sym, ap, _∙_, subst}
-use mathlib.Core.List.{List, [], _∷_, map, List·Memᴰ, List·Memᴰ·cases-cons, List·Memᴰ·not-nil}
+use mathlib.Core.Path.{_≡_, refl, sym, ap, _∙_, subst, subst₂}
+use mathlib.Core.List.{List, [], _∷_, map, List·Memᴰ, List·Memᴰ·head, List·Memᴰ·tail, List·Memᴰ·cases-cons, List·Memᴰ·not-nil}
 use mathlib.Core.Logic.{_⊎_, inl, inr, ⊎-elim}
 use Prim.Native.Nat.{ℕ}
 use Rattle.sketch.specs.Drawing.{Drawing}
@@ -8,11 +8,14 @@ use Rattle.message.specs.Message.{markOf, messageFault, encode}
 use Rattle.message.specs.Stored.{Mark}
 use Rattle.message.proofs.MessageRoundTrips.{fault-refused, foreign-fault, mark-written}
 use Rattle.edit_plan.specs.declared.Removed.{Removed}
-use Rattle.agreement.specs.Machines.{initial, Entry, acceptedLog, calls, messages, WallStep, Unread, Delivered}
+use Rattle.window.specs.Window.{emptyWindow}
+use Rattle.agreement.specs.Machines.{State, initial, Entry, acceptedLog, calls, messages, DeskRun, Unread}
 use Rattle.agreement.proofs.Runs.{written, desk-messages}
 use Rattle.replication.specs.Protocol.{Edit, messageFor, decodedOf, protocol}
-use Rattle.replication.specs.TwoDesks.{DeskAndWall, deskSteps, wallSteps, StartedAlike, Hears, HearsBoth, AgreesWithOwn}
-use Rattle.replication.proofs.Demand3.{desk-calls-run, calls-demand-3}
+use Rattle.replication.specs.Transitions.{Memory, WallUse, starts, delivers, StartsFromDesk, UsesFromDesk}
+use Rattle.replication.specs.TwoDesks.{DeskAndWall, deskSteps, StartedAlike, Hears, HearsBoth, AgreesWithOwn}
+use Rattle.replication.proofs.StartCases.{held-at-start}
+use Rattle.replication.proofs.Demand3.{desk-run, calls-demand-3}
 
 -- ---- what is faulty at a mark is not read, and so what bears another, whatever else it is
 
@@ -39,20 +42,24 @@ log-unread mark other k ne (x ∷ l) m q =
 -- ---- a wall that hears a second desk
 
 heard :
-    (mark : ℕ) (own others : List (List ℕ)) → ((m : List ℕ) → List·Memᴰ m others → Unread (protocol mark) m) → (xs : List (WallStep Drawing Removed)) → Hears own others xs
-    → Delivered (protocol mark) own xs
-heard mark own others f [] h = tt
-heard mark own others f (x ∷ xs) h = (⊎-elim inl (λ q. inr (f (x .bytes) q)) (h .0), heard mark own others f xs (h .1))
+    (p : DeskAndWall) (others : List (List ℕ)) → ((m : List ℕ) → List·Memᴰ m others → Unread (protocol (p .desk .mark)) m)
+    → (us : List WallUse) → ((t : Memory) → List·Memᴰ (starts t) us → StartsFromDesk (p .desk) (p .desk-calls) t) → Hears (messages (deskSteps p)) others us
+    → UsesFromDesk (p .desk) (p .desk-calls) us
+heard p others f [] g h = tt
+heard p others f (starts t ∷ us) g h = (g t (List·Memᴰ·head refl), heard p others f us (λ s q. g s (List·Memᴰ·tail q)) h)
+heard p others f (delivers c ∷ us) g h = (⊎-elim inl (λ q. inr (f (c .bytes) q)) (h .0), heard p others f us (λ s q. g s (List·Memᴰ·tail q)) (h .1))
 
 pub hears-a-neighbour : (p q : DeskAndWall) → StartedAlike p → StartedAlike q → (q .mark ≡ p .mark → ⊥) → HearsBoth p q → AgreesWithOwn p
 hears-a-neighbour p q sp sq ne h =
-    let run = desk-calls-run (q .image) (sq .image-bytes) (q .mark) (q .start) (sq .image-is) (q .desk) (sq .desk-starts) (q .desk-calls) (sq .desk-called) in
+    let at = held-at-start (q .image) (sq .image-bytes) (q .mark) 0 (q .start) (sq .image-is) (q .desk) (sq .desk-starts) in
+    let run = subst₂ (λ (k : ℕ) (t : State Drawing). DeskRun (protocol k) t (deskSteps q)) (at .mark-is) (at .state) (desk-run (q .desk) emptyWindow (q .desk-calls) (at .ready) (sq .desk-called)) in
     let written-as = desk-messages (protocol (q .mark)) (initial (q .start)) (deskSteps q) run in
-    let foreign : (m : List ℕ) → List·Memᴰ m (messages (deskSteps q)) → Unread (protocol (p .mark)) m = λ m e.
-    log-unread (p .mark) (q .mark) (sq .mark-fits) ne (acceptedLog (protocol (q .mark)) (initial (q .start)) (calls (deskSteps q))) m (subst (List·Memᴰ m) written-as e) in
+    let apart : q .mark ≡ p .desk .mark → ⊥ = λ e. ne (e ∙ sp .desk-starts .mark-is) in
+    let foreign : (m : List ℕ) → List·Memᴰ m (messages (deskSteps q)) → Unread (protocol (p .desk .mark)) m = λ m e.
+    log-unread (p .desk .mark) (q .mark) (sq .mark-fits) apart (acceptedLog (protocol (q .mark)) (initial (q .start)) (calls (deskSteps q))) m (subst (List·Memᴰ m) written-as e) in
     calls-demand-3 (p .image) (sp .image-bytes) (p .mark) (sp .mark-fits) (p .start) (sp .image-is) (p .desk) (p .wall) (sp .desk-starts) (sp .wall-starts)
-    (p .desk-calls) (p .wall-calls) (sp .desk-called) (sp .wall-called)
-    (heard (p .mark) (messages (deskSteps p)) (messages (deskSteps q)) foreign (wallSteps p) h)
+    emptyWindow (p .desk-calls) (p .wall-uses) (sp .desk-called) (sp .wall-used)
+    (heard p (messages (deskSteps q)) foreign (p .wall-uses) (sp .started-from) h)
 
 pub two-desks : (p q : DeskAndWall) → StartedAlike p → StartedAlike q → (p .mark ≡ q .mark → ⊥) → HearsBoth p q → HearsBoth q p → AgreesWithOwn p × AgreesWithOwn q
 two-desks p q sp sq ne hp hq = (hears-a-neighbour p q sp sq (λ e. ne (sym e)) hp, hears-a-neighbour q p sq sp ne hq)

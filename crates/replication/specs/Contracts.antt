@@ -9,6 +9,7 @@ use Rattle.image.specs.Image as I
 use Rattle.message.specs.declared.Message.{Message}
 use Rattle.message.specs.declared.MessageRead.the-variants.{Accepted}
 use Rattle.message.specs.Message.{parse}
+use Rattle.window.specs.declared.Window.{Window}
 use Rattle.extend.specs.declared.EditedImage.{EditedImage}
 use Rattle.modify.specs.ImageEdits.{EditWritten}
 use Rattle.replication.specs.declared.Replica.{Replica}
@@ -19,9 +20,9 @@ use Rattle.replication.specs.declared.WallTransition.{WallTransition}
 use Rattle.replication.specs.Protocol.{editIn}
 use Rattle.replication.specs.Transitions.{Memory, WallDelivers, wallCall}
 
--- a refusal leaves the replica
-abbrev pub deskRefusing : Replica → ℕ → ℕ → DeskTransition
-deskRefusing s k place = record { replica = s; reply = Desk.Refused k place }
+-- a refusal leaves the replica, and the desk's leaves the window
+abbrev pub deskRefusing : Replica → Window → ℕ → ℕ → DeskTransition
+deskRefusing s w k place = record { replica = s; window = w; reply = Desk.Refused k place }
 
 abbrev pub wallRefusing : Replica → ℕ → ℕ → WallTransition
 wallRefusing s k place = record { replica = s; reply = Wall.Refused k place }

@@ -5,3 +5,4 @@ pub mod Transitions
 pub mod Contracts
 pub mod Replication
 pub mod TwoDesks
+pub mod CatchUps

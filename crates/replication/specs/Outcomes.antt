@@ -10,6 +10,7 @@ use Rattle.sketch.specs.Drawing.{Drawing}
 use Rattle.image.specs.Image as I
 use Rattle.image.specs.Encode.{encode, drawingSize}
 use Rattle.message.specs.Message as G
+use Rattle.window.specs.Window.{slid}
 use Rattle.edit_plan.specs.declared.Removed.{Removed}
 use Rattle.edit_plan.specs.Outcome as O
 use Rattle.agreement.specs.Machines as M
@@ -78,3 +79,9 @@ abbrev pub messageAfter : ℕ → CallOutcome → Edit → List ℕ → List ℕ
 messageAfter mark (refused k place) e m = m
 messageAfter mark (old s) e m = m
 messageAfter mark (updated s r) e m = over m 0 (G.encode mark (messageFor (s .count) e))
+
+-- the window slides by one with an accepted edit: its message, which stands at the front of a buffer, goes in by its number
+abbrev pub windowAfter : CallOutcome → List ℕ → List ℕ → List ℕ
+windowAfter (refused k place) w m = w
+windowAfter (old s) w m = w
+windowAfter (updated s r) w m = slid w (s .count) m

@@ -2,7 +2,8 @@
 -- Definitions only.
 use Prim.Native.Nat.{ℕ, zero, suc, _≤_}
 use mathlib.Core.Path.{_≡_}
-use mathlib.Core.List.{List, [], _∷_}
+use mathlib.Core.List.{List, [], _∷_, _++_, map, List·Memᴰ}
+use mathlib.Core.Logic.{_⊎_}
 use lib.ListN.{length, take}
 use lib.Dec.{eqb, leb}
 use lib.Ieee.{Float}
@@ -18,7 +19,7 @@ use Rattle.sketch_image.specs.SketchImage.{drawingIn}
 use Rattle.edit_plan.specs.declared.Removed.{Removed}
 use Rattle.edit_plan.specs.Steps.{nothing}
 use Rattle.agreement.specs.Machines as M
-use Rattle.agreement.specs.Machines.{State, DeskStep, WallStep}
+use Rattle.agreement.specs.Machines.{State, DeskStep, messages, WallStep, Unread, WallEvent, started, delivered}
 use Rattle.replication.specs.declared.Replica.{Replica}
 use Rattle.replication.specs.declared.Started.{Started}
 use Rattle.replication.specs.declared.DeskReply.{DeskReply}
@@ -27,8 +28,8 @@ use Rattle.replication.specs.declared.DeskTransition.{DeskTransition}
 use Rattle.replication.specs.declared.WallReply.{WallReply}
 use Rattle.replication.specs.declared.WallReply.the-variants as Wall
 use Rattle.replication.specs.declared.WallTransition.{WallTransition}
-use Rattle.replication.specs.Protocol.{Edit}
-use Rattle.replication.specs.Outcomes.{CallOutcome, refused, old, updated, onImage, deskOn, wallOn, OutcomeSound, messageAfter}
+use Rattle.replication.specs.Protocol.{Edit, protocol}
+use Rattle.replication.specs.Outcomes.{CallOutcome, refused, old, updated, onImage, deskOn, wallOn, OutcomeSound, messageAfter, windowAfter}
 
 -- ---- memory
 
@@ -56,14 +57,14 @@ pub record Ready (m : Memory) : Type 0 where
   pub valid : Valid limits (stateIn m .drawing)
   pub room : I.maxImageSize ≤ length (m .buffer)
 
--- a replica's start: the image at the buffer's front, the mark, count 0
-pub record StartsWith (image : List ℕ) (mark : ℕ) (m : Memory) : Type 0 where
+-- a replica's start: the image at the buffer's front, the mark, the count
+pub record StartsWith (image : List ℕ) (mark count : ℕ) (m : Memory) : Type 0 where
   pub image-is : imageIn m ≡ image
   pub room : I.maxImageSize ≤ length (m .buffer)
   pub mark-is : m .mark ≡ mark
-  pub zero-count : m .count ≡ 0
+  pub count-is : m .count ≡ count
 
--- ---- a start: the image at the front of a buffer that has room for any image, with the mark, at count 0; or the image's refusal, and then the room's (25)
+-- ---- a start: the image at the front of a buffer that has room for any image, with the mark, at the count; or the image's refusal, and then the room's (25)
 
 -- the first number of two that is not 0
 abbrev pub firstNonzero : ℕ → ℕ → ℕ
@@ -77,10 +78,10 @@ startFault image room = firstNonzero (I.imageFault image) (guardNumber (leb I.ma
 abbrev pub noReplica : Replica
 noReplica = record { size = 0; mark = 0; count = 0 }
 
-pub record Starts (image : List ℕ) (mark : ℕ) (before after : List ℕ) (r : Started) : Type 0 where
+pub record Starts (image : List ℕ) (mark count : ℕ) (before after : List ℕ) (r : Started) : Type 0 where
   pub number : r .refusal ≡ startFault image (length before)
   pub when-refused : (r .refusal ≡ 0 → ⊥) → (after ≡ before) × (r .replica ≡ noReplica)
-  pub when-started : r .refusal ≡ 0 → (after ≡ over before 0 image) × (r .replica ≡ record { size = length image; mark = mark; count = 0 })
+  pub when-started : r .refusal ≡ 0 → (after ≡ over before 0 image) × (r .replica ≡ record { size = length image; mark = mark; count = count })
 
 -- ---- what desk and wall answer and leave alike
 
@@ -96,17 +97,18 @@ memoryAfter (updated s r) m = record { buffer = over (m .buffer) 0 (encode (s .d
 
 -- ---- the desk
 
--- a call as it happened: the edit, the buffer lent for the message before and after it, the memory after it, the reply
+-- a call as it happened: the edit, the buffer lent for the message before and after it, the memory and the window after it, the reply
 pub record DeskCall : Type 0 where
   pub edit : Edit
   pub before : List ℕ
   pub after : List ℕ
   pub left : Memory
+  pub window : List ℕ
   pub reply : DeskReply
 
 abbrev pub deskCall : Operation → ℕ → Float → Float → List ℕ → List ℕ → List ℕ → DeskTransition → DeskCall
 deskCall op t x y b a buffer r =
-    record { edit = record { operation = op; curve = t; at = record { x = x; y = y } }; before = b; after = a; left = memory (r .replica) buffer; reply = r .reply }
+    record { edit = record { operation = op; curve = t; at = record { x = x; y = y } }; before = b; after = a; left = memory (r .replica) buffer; window = r .window .bytes; reply = r .reply }
 
 abbrev pub deskReply : DeskReply → List ℕ → M.DeskReply Removed
 deskReply (Desk.Refused k place) m = M.deskRefused k place
@@ -129,17 +131,27 @@ deskReplyTo (refused k place) = Desk.Refused k place
 deskReplyTo (old s) = Desk.Accepted nothing
 deskReplyTo (updated s r) = Desk.Accepted r
 
--- the outcome's reply, the memory, the message
-pub record DeskEdits (m : Memory) (c : DeskCall) : Type 0 where
+-- the outcome's reply, the memory, the message, the window
+pub record DeskEdits (m : Memory) (w : List ℕ) (c : DeskCall) : Type 0 where
   pub reply-is : c .reply ≡ deskReplyTo (deskCallOutcome m (c .edit) (length (c .before)))
   pub left-is : c .left ≡ memoryAfter (deskCallOutcome m (c .edit) (length (c .before))) m
   pub message-is : c .after ≡ messageAfter (m .mark) (deskCallOutcome m (c .edit) (length (c .before))) (c .edit) (c .before)
+  pub window-is : c .window ≡ windowAfter (deskCallOutcome m (c .edit) (length (c .before))) w (c .after)
   pub sound : OutcomeSound (deskCallOutcome m (c .edit) (length (c .before)))
 
 -- one call after the other, each on what the last one left
-abbrev pub DeskCalls : Memory → List DeskCall → Type 0
-DeskCalls m [] = Unit {0}
-DeskCalls m (c ∷ cs) = DeskEdits m c × DeskCalls (c .left) cs
+abbrev pub DeskCalls : Memory → List ℕ → List DeskCall → Type 0
+DeskCalls m w [] = Unit {0}
+DeskCalls m w (c ∷ cs) = DeskEdits m w c × DeskCalls (c .left) (c .window) cs
+
+-- the memory and the window that some calls left
+abbrev pub memoryLeft : Memory → List DeskCall → Memory
+memoryLeft m [] = m
+memoryLeft m (c ∷ cs) = memoryLeft (c .left) cs
+
+abbrev pub windowLeft : List ℕ → List DeskCall → List ℕ
+windowLeft w [] = w
+windowLeft w (c ∷ cs) = windowLeft (c .window) cs
 
 -- ---- the wall
 
@@ -175,3 +187,36 @@ pub record WallDelivers (m : Memory) (c : WallCall) : Type 0 where
 abbrev pub WallCalls : Memory → List WallCall → Type 0
 WallCalls m [] = Unit {0}
 WallCalls m (c ∷ cs) = WallDelivers m c × WallCalls (c .left) cs
+
+-- ---- a wall's life
+
+-- what happens to a wall: it is started, with the memory that this leaves, or a message is delivered
+pub data WallUse : Type 0 where
+  starts : Memory → WallUse
+  delivers : WallCall → WallUse
+
+-- one after the other, each on what the last one left
+abbrev pub WallUses : Memory → List WallUse → Type 0
+WallUses m [] = Unit {0}
+WallUses m (starts t ∷ us) = WallUses t us
+WallUses m (delivers c ∷ us) = WallDelivers m c × WallUses (c .left) us
+
+-- the memory that is left of them
+abbrev pub usesLeft : Memory → List WallUse → Memory
+usesLeft m [] = m
+usesLeft m (starts t ∷ us) = usesLeft t us
+usesLeft m (delivers c ∷ us) = usesLeft (c .left) us
+
+-- a start from the image and the count that the desk, whose first memory is d, had at its start or after some of its calls, with its mark
+abbrev pub StartsFromDesk : Memory → List DeskCall → Memory → Type 0
+StartsFromDesk d desk t = (front : List DeskCall) × (later : List DeskCall) × (desk ≡ front ++ later) × StartsWith (imageIn (memoryLeft d front)) (d .mark) (memoryLeft d front .count) t
+
+-- each start is such a one; each delivery is one of the desk's messages, as written, or is not read
+abbrev pub UsesFromDesk : Memory → List DeskCall → List WallUse → Type 0
+UsesFromDesk d desk [] = Unit {0}
+UsesFromDesk d desk (starts t ∷ us) = StartsFromDesk d desk t × UsesFromDesk d desk us
+UsesFromDesk d desk (delivers c ∷ us) = (List·Memᴰ (c .bytes) (messages (map deskStep desk)) ⊎ Unread (protocol (d .mark)) (c .bytes)) × UsesFromDesk d desk us
+
+abbrev pub wallEvent : WallUse → WallEvent Drawing Removed
+wallEvent (starts t) = started (stateIn t)
+wallEvent (delivers c) = delivered (wallStep c)

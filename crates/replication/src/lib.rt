@@ -1,5 +1,6 @@
 // State machine replication: the desk (01's term) is the primary, at which a person edits a sketch; the wall (01's term) is the replica, which
-// applies the desk's messages in the order of their numbers. Each keeps its sketch as an image at the front of a buffer that is lent for a call.
+// applies the desk's messages in the order of their numbers. Each keeps its sketch as an image at the front of a buffer that is lent for a call; the desk keeps its
+// last messages too, in a window.
 mod desk;
 mod refusals;
 mod starting;
@@ -13,6 +14,7 @@ pub use refusals::first_fault;
 pub use starting::start;
 pub use wall::is_number;
 pub use wall::wall_deliver;
+use window::Window;
 
 // A replica's state, beside the buffer at whose front its image stands: the image's size, the mark of its start, and how many edits were applied
 // to it (01's count).
@@ -22,7 +24,7 @@ pub struct Replica {
     pub count: EditNumber,
 }
 
-// What desk and wall start with: a replica at count 0, or the number that the image or the buffer is refused by.
+// What desk and wall start with: a replica, or the number that the image or the buffer is refused by.
 pub struct Started {
     pub replica: Replica,
     pub refusal: u8,
@@ -34,8 +36,10 @@ pub enum DeskReply {
     Accepted(Removed),
 }
 
+// What a call leaves of the desk, and its reply.
 pub struct DeskTransition {
     pub replica: Replica,
+    pub window: Window,
     pub reply: DeskReply,
 }
 

@@ -3,6 +3,7 @@ use crate::Replica;
 use crate::Started;
 use crate::refusals::first_fault;
 use image::MAX_IMAGE_SIZE;
+use message::EditNumber;
 use message::Mark;
 ghost use mathlib.Core.Path.{_≡_};
 ghost use Rattle.replication.specs.Transitions.{noReplica, Starts};
@@ -19,10 +20,10 @@ fn not_started(refusal: u8) -> Started
     Started { replica, refusal }
 }
 
-// Puts an image at the front of a buffer, for a replica with a mark at count 0; or refuses the image, or a buffer without room for any image (25), and leaves
-// the buffer.
-pub fn start(image: &[u8], mark: Mark, buffer: &mut [u8]) -> Started
-    ensures { λ r. ⌜ Starts (now (image .entry)) mark (now (buffer .entry)) (now (buffer .exit)) r ⌝ }
+// Puts an image at the front of a buffer, for a replica with a mark at a count: 0, or that of the desk whose image a wall is started from; or refuses the image, or a
+// buffer without room for any image (25), and leaves the buffer.
+pub fn start(image: &[u8], mark: Mark, count: EditNumber, buffer: &mut [u8]) -> Started
+    ensures { λ r. ⌜ Starts (now (image .entry)) mark count (now (buffer .entry)) (now (buffer .exit)) r ⌝ }
 {
     if buffer.len() < MAX_IMAGE_SIZE {
         return not_started(first_fault(image, 25));
@@ -35,7 +36,7 @@ pub fn start(image: &[u8], mark: Mark, buffer: &mut [u8]) -> Started
     let replica = Replica {
         size: image.len(),
         mark,
-        count: 0,
+        count,
     };
     Started {
         replica,

@@ -159,7 +159,7 @@ by-length f p q = q ∙ ap f p
 
 module _
     (s image : List ℕ) (mark : ℕ) (e : image ≡ take (imageEnd s) s) (k : mark ≡ markIn s)
-    (b b′ : List ℕ) (r : Started) (st : Starts image mark b b′ r)
+    (b b′ : List ℕ) (r : Started) (st : Starts image mark 0 b b′ r)
   where
     -- the buffer has room for any image, so that a refusal is the image's
     pub outcome-refused : I.maxImageSize ≤ length b → (r .refusal ≡ 0 → ⊥) → (l now : List ℕ) (n : ℕ) → WritesOutcome (I.refused (r .refusal)) l now n → WritesOutcome (programOutcome s) l now n
@@ -180,10 +180,10 @@ module _
       image-bytes = subst Bytes (sym e) (bytes-take (imageEnd s) s are)
 
       start-drawing : I.parse image ≡ I.accepted (I.drawingOf image)
-      start-drawing = result-none (I.imageFault image) (I.drawingOf image) (start-image image mark b b′ r st z)
+      start-drawing = result-none (I.imageFault image) (I.drawingOf image) (start-image image mark 0 b b′ r st z)
 
       pub program-start : Holding mark (memory (r .replica) b′) (initial (I.drawingOf image))
-      program-start = held-at-start image image-bytes mark (I.drawingOf image) start-drawing (memory (r .replica) b′) (starts-with image mark b b′ r st z)
+      program-start = held-at-start image image-bytes mark 0 (I.drawingOf image) start-drawing (memory (r .replica) b′) (starts-with image mark 0 b b′ r st z)
 
       pub program-outcome :
           (rest : List ℕ) → rest ≡ drop (markEnd s) s → (last : Memory) → DeliversAll (memory (r .replica) b′) rest last → (left : List ℕ) → left ≡ imageIn last → (l now : List ℕ) (n : ℕ)

@@ -74,7 +74,7 @@ pub fn run_program(input: &[u8], out: &mut [u8]) -> usize
 {
     let end = 4 + get4(input, 0) as usize;
     let mut buffer = [0u8; MAX_IMAGE_SIZE];
-    let started = start(front(input, end), get8(input, end), &mut buffer);
+    let started = start(front(input, end), get8(input, end), 0, &mut buffer);
     if started.refusal != 0 {
         return write_refusal(started.refusal, out);
     }

@@ -11,7 +11,7 @@ not-started-requires : tie.Need-not-started-requires
 not-started-requires c κs = search needs
 
 returns : tie.Need-returns
-returns c = start-short (c .before .before .before .before .before .args .image .now) (c .before .before .before .before .before .args .mark) (c .before .before .before .before .before .args .buffer .now) (c .before .before .if1 .taken) (c .before .first-fault .ensures) (c .not-started .ensures)
+returns c = start-short (c .before .before .before .before .before .args .image .now) (c .before .before .before .before .before .args .mark) (c .before .before .before .before .before .args .count) (c .before .before .before .before .before .args .buffer .now) (c .before .before .if1 .taken) (c .before .first-fault .ensures) (c .not-started .ensures)
 
 first-fault-requires-2 : tie.Need-first-fault-requires-2
 first-fault-requires-2 c κs = search needs
@@ -20,7 +20,7 @@ not-started-requires-2 : tie.Need-not-started-requires-2
 not-started-requires-2 c κs = search needs
 
 returns-2 : tie.Need-returns-2
-returns-2 c = start-refused (c .before .before .before .before .before .before .args .image .now) (c .before .before .before .before .before .before .args .mark) (c .before .before .before .before .before .before .args .buffer .now) (c .before .before .before .if1 .left) (c .before .before .first-fault2 .ensures) (c .before .if2 .taken) (c .not-started2 .ensures)
+returns-2 c = start-refused (c .before .before .before .before .before .before .args .image .now) (c .before .before .before .before .before .before .args .mark) (c .before .before .before .before .before .before .args .count) (c .before .before .before .before .before .before .args .buffer .now) (c .before .before .before .if1 .left) (c .before .before .first-fault2 .ensures) (c .before .if2 .taken) (c .not-started2 .ensures)
 
 put-run-requires : tie.Need-put-run-requires
 put-run-requires c κs = search needs
@@ -29,7 +29,7 @@ same-length : tie.Need-same-length
 same-length c = search needs
 
 returns-3 : tie.Need-returns-3
-returns-3 c = start-done (c .before .before .before .before .before .before .before .before .before .args .image .now) (c .before .before .before .before .before .before .before .before .before .args .mark) (c .before .before .before .before .before .before .before .before .before .args .buffer .now) (c .before .before .before .before .before .before .if1 .left) (c .before .before .before .before .before .first-fault2 .ensures) (c .before .before .before .before .if2 .left) (c .before .before .put-run .ensures)
+returns-3 c = start-done (c .before .before .before .before .before .before .before .before .before .args .image .now) (c .before .before .before .before .before .before .before .before .before .args .mark) (c .before .before .before .before .before .before .before .before .before .args .count) (c .before .before .before .before .before .before .before .before .before .args .buffer .now) (c .before .before .before .before .before .before .if1 .left) (c .before .before .before .before .before .first-fault2 .ensures) (c .before .before .before .before .if2 .left) (c .before .before .put-run .ensures)
 
 pub start-spec : {M : Type 1} → statement M
 start-spec =
