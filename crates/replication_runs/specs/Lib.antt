@@ -1,2 +1,3 @@
--- What a run of both whole lists comes to.
+-- What a run of desk and wall comes to.
 pub mod RunBoth
+pub mod Contracts

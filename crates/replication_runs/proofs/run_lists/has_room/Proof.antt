@@ -1,8 +1,6 @@
 use Rattle.replication_runs.proofs.RunBoth.{room-short, room-enough}
 use Rattle.replication_runs.proofs.run_lists.has_room.Statement.{statement}
 use Rattle.replication_runs.proofs.run_lists.has_room.Tie as tie
-use Rattle.replication_runs.proofs.run_lists.has_room.Reads as reads
-use Rattle.replication_runs.proofs.run_lists.has_room.Lts as lts
 
 returns : tie.Need-returns
 returns c = room-short _ _ (c .if1 .taken)

@@ -3,11 +3,8 @@ use lib.Dec.{T}
 use borrow.Author.Tests.{not-true, not-false}
 use mathlib.Core.Path.{sym, _∙_, subst}
 use borrow.Author.Needs.{needs}
-use Rattle.replication_runs.proofs.run_lists.coordinate.Statement.{statement}
-use Rattle.replication_runs.proofs.run_lists.coordinate.Tie as tie
-use Rattle.replication_runs.proofs.run_lists.coordinate.Reads as reads
-use Rattle.replication_runs.proofs.run_lists.coordinate.Lts as lts
-use Rattle.replication.proofs.is_number.Reads as is-number-reads
+use Rattle.replication_runs.proofs.desk_calls.coordinate.Statement.{statement}
+use Rattle.replication_runs.proofs.desk_calls.coordinate.Tie as tie
 
 is-number-requires : tie.Need-is-number-requires
 is-number-requires c κs = search needs

@@ -1,8 +1,8 @@
--- `replication_runs::wall_list::other_at` meets its contract.
-use Rattle.replication_runs.proofs.Runs.{other-is}
+-- `replication_runs::wall_inputs::other_at` meets its contract.
+use Rattle.replication_runs.proofs.WallInputs.{other-is}
 use borrow.Author.Needs.{needs}
-use Rattle.replication_runs.proofs.wall_list.other_at.Statement.{statement}
-use Rattle.replication_runs.proofs.wall_list.other_at.Tie as tie
+use Rattle.replication_runs.proofs.wall_inputs.other_at.Statement.{statement}
+use Rattle.replication_runs.proofs.wall_inputs.other_at.Tie as tie
 
 rest-requires : tie.Need-rest-requires
 rest-requires c κs = search needs

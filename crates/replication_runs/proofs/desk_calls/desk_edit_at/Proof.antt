@@ -1,12 +1,12 @@
--- `replication_runs::run_lists::desk_edit_at` meets its contract.
+-- `replication_runs::desk_calls::desk_edit_at` meets its contract.
 use Rattle.replication.proofs.Steps.{same-edit}
 use Rattle.replication.specs.Transitions.{memory}
 use Rattle.message.specs.Message.{operationOf}
 use lib.Ieee.{ofBits, binary64}
 use mathlib.Core.Path.{ap, _∙_}
 use borrow.Author.Needs.{needs}
-use Rattle.replication_runs.proofs.run_lists.desk_edit_at.Statement.{statement}
-use Rattle.replication_runs.proofs.run_lists.desk_edit_at.Tie as tie
+use Rattle.replication_runs.proofs.desk_calls.desk_edit_at.Statement.{statement}
+use Rattle.replication_runs.proofs.desk_calls.desk_edit_at.Tie as tie
 
 get1-requires : tie.Need-get1-requires
 get1-requires c κs = search needs
@@ -52,7 +52,7 @@ same-length-2 c = search needs
 
 returns : tie.Need-returns
 returns c =
-    same-edit (memory (c .before .before .before .before .before .before .before .before .before .before .before .before .before .before .before .before .before .args .replica) (c .before .before .before .before .before .before .before .before .before .before .before .before .before .before .before .before .before .args .buffer .now)) _ _ _ _ _ _
+    same-edit (memory (c .before .before .before .before .before .before .before .before .before .before .before .before .before .before .before .before .before .args .replica) (c .before .before .before .before .before .before .before .before .before .before .before .before .before .before .before .before .before .args .buffer .now)) _ _ _ _ _ _ _ _
     (c .before .before .before .before .before .before .before .before .before .before .before .before .operation-of .ensures ∙ ap operationOf (c .before .before .before .before .before .before .before .before .before .before .before .before .before .get1 .ensures))
     (c .before .before .before .before .before .before .get4 .ensures)
     (c .before .before .before .before .before .before .before .before .before .before .coordinate .ensures ∙ ap (ofBits binary64) (c .before .before .before .before .before .before .before .before .before .before .before .get8 .ensures))
