@@ -25,7 +25,7 @@ use Rattle.replication.specs.declared.DeskReply.the-variants as Desk
 use Rattle.replication.specs.declared.WallReply.{WallReply}
 use Rattle.replication.specs.declared.WallReply.the-variants as Wall
 use Rattle.replication.specs.Protocol.{Edit, place, protocol}
-use Rattle.replication.specs.Outcomes.{CallOutcome, refused, old, updated, onImage, deskOutcome, deskOn, wallOutcome, wallOn, numberOf, placeOf, OutcomeSound, messageAfter}
+use Rattle.replication.specs.Outcomes.{CallOutcome, refused, old, updated, onImage, deskOutcome, deskOn, wallOutcome, wallOn, numberOf, placeOf, OutcomeSound, messageAfter, windowAfter}
 use Rattle.replication.specs.Transitions as R
 use Rattle.replication.specs.Transitions.{Memory, imageIn, firstFault, memoryAfter, deskReplyTo, DeskEdits, wallReplyTo, WallDelivers}
 use Rattle.replication.proofs.CallOutcomes.{first-of, first-some, on-first}
@@ -136,7 +136,25 @@ first-low s {n} e = go (I.imageFault s) (image-fault-low s) e
     go zero h e = omega (arith, e)
     go (suc k) h e = let q : n ≡ suc k = e ∙ rw (ne-eqb (suc k) 0 (λ z. omega arith)) in omega arith
 
-module _ (b : List ℕ) (len count mark operation : ℕ) (e : Edit) (l a : List ℕ) where
+-- the outcome by the operation's number
+module _ (b : List ℕ) (len count mark operation : ℕ) (e : Edit) (room : ℕ) where
+  pub known-outcome : isOperation operation ≡ true → deskOutcomeByNumber b len count mark operation e room ≡ R.deskCallOutcome (record { buffer = b; size = len; mark = mark; count = count }) e room
+  known-outcome k = on (I.parse (take len b))
+    where
+      on :
+          (p : I.ParseResult)
+          → onImage p count (deskByNumber mark (length b) operation (record { edit = e; room = room })) ≡ onImage p count (deskOn mark (length b) (record { edit = e; room = room }))
+      on (I.refused k) = refl
+      on (I.accepted d) = rw k
+
+  pub unknown-outcome : isOperation operation ≡ false → (n : ℕ) × (deskOutcomeByNumber b len count mark operation e room ≡ refused n 0)
+  unknown-outcome k = on (I.parse (take len b))
+    where
+      on : (p : I.ParseResult) → (n : ℕ) × (onImage p count (deskByNumber mark (length b) operation (record { edit = e; room = room })) ≡ refused n 0)
+      on (I.refused n) = (n, refl)
+      on (I.accepted d) = (6, rw k)
+
+module _ (b : List ℕ) (len count mark operation : ℕ) (e : Edit) (l kept a : List ℕ) where
   abbrev m : Memory
   m = record { buffer = b; size = len; mark = mark; count = count }
 
@@ -146,7 +164,7 @@ module _ (b : List ℕ) (len count mark operation : ℕ) (e : Edit) (l a : List 
   abbrev outcome : CallOutcome
   outcome = deskOutcomeByNumber b len count mark operation e (length l)
 
-  pub desk-unknown : isOperation operation ≡ false → {image : List ℕ} {n : ℕ} → image ≡ take len b → n ≡ firstFault image 6 → DeskCallWritten len count mark operation e b b l l a a n
+  pub desk-unknown : isOperation operation ≡ false → {image : List ℕ} {n : ℕ} → image ≡ take len b → n ≡ firstFault image 6 → DeskCallWritten len count mark operation e b b l l kept kept a a n
   desk-unknown k {image} {n} is f =
       let own : n ≡ firstFault (take len b) 6 = first-of (take len b) 6 is f in
       let g : outcome ≡ refused n 0 = on-first (take len b) count (deskByNumber mark (length b) operation call) 6 n own (rw k) in
@@ -154,44 +172,48 @@ module _ (b : List ℕ) (len count mark operation : ℕ) (e : Edit) (l a : List 
       record {
         served = refused-written outcome n 0 n g (first-some (take len b) 6 n (λ z. omega arith) own) (omega arith) (omega arith) b a;
         written = sym (ap (λ (v : CallOutcome). messageAfter mark v e l) g);
+        kept = sym (ap (λ (v : CallOutcome). windowAfter v kept l) g);
       }
 
-  module _ (known : isOperation operation ≡ true) (left : Memory) (reply : DeskReply) (l′ : List ℕ) (w : DeskEdits m (record { edit = e; before = l; after = l′; left = left; reply = reply })) where
-    abbrev desks : CallOutcome
-    desks = R.deskCallOutcome m e (length l)
+  module _ (known : isOperation operation ≡ true) (left : Memory) (reply : DeskReply) (l′ kept′ : List ℕ)
+      (w : DeskEdits m kept (record { edit = e; before = l; after = l′; left = left; window = kept′; reply = reply }))
+    where
+      abbrev desks : CallOutcome
+      desks = R.deskCallOutcome m e (length l)
 
-    same : outcome ≡ desks
-    same = on (I.parse (take len b))
-      where
-        on : (p : I.ParseResult) → onImage p count (deskByNumber mark (length b) operation call) ≡ onImage p count (deskOn mark (length b) call)
-        on (I.refused k) = refl
-        on (I.accepted d) = rw known
+      same : outcome ≡ desks
+      same = known-outcome b len count mark operation e (length l) known
 
-    message-is : l′ ≡ messageAfter mark outcome e l
-    message-is = w .message-is ∙ sym (ap (λ (v : CallOutcome). messageAfter mark v e l) same)
+      message-is : l′ ≡ messageAfter mark outcome e l
+      message-is = w .message-is ∙ sym (ap (λ (v : CallOutcome). messageAfter mark v e l) same)
 
-    pub desk-refused : (n place : ℕ) → reply ≡ Desk.Refused n place → Bytes b → (r : ℕ) → r % 65536 ≡ n → r / 65536 ≡ place % 65536 → DeskCallWritten len count mark operation e b (left .buffer) l l′ a a r
-    desk-refused n place q are r low high =
-        let g = desk-reply-refused desks n place (desk-not-old m e (length l)) (sym q ∙ w .reply-is) in
-        let c = refused-written outcome n place r (same ∙ g) (subst OutcomeSound g (w .sound)) low (whole-place desks n place r g (desk-place-within m are e (length l)) high) b a in
-        record {
-          served = subst (λ (t : List ℕ). CallWritten outcome b t a a r) (sym (ap (λ (t : Memory). t .buffer) (refused-buffer m desks (w .sound) left (w .left-is) n place g))) c;
-          written = message-is;
-        }
+      window-is : kept′ ≡ windowAfter outcome kept l′
+      window-is = w .window-is ∙ sym (ap (λ (v : CallOutcome). windowAfter v kept l′) same)
 
-    module _ (q : Removed) (is : reply ≡ Desk.Accepted q) where
-      done : (s : State Drawing) × (desks ≡ updated s q)
-      done = desk-reply-accepted desks q (desk-not-old m e (length l)) (sym is ∙ w .reply-is)
-
-      pub desk-size : left .size ≤ I.maxImageSize
-      desk-size = updated-size m desks (w .sound) left (w .left-is) (done .0) q (done .1)
-
-      pub desk-accepted : (a′ : List ℕ) (r : ℕ) → (r ≡ 0) × (a′ ≡ answerWith a (left .count) (left .size) q) → DeskCallWritten len count mark operation e b (left .buffer) l l′ a a′ r
-      desk-accepted a′ r (z, n) =
+      pub desk-refused : (n place : ℕ) → reply ≡ Desk.Refused n place → Bytes b → (r : ℕ) → r % 65536 ≡ n → r / 65536 ≡ place % 65536 → DeskCallWritten len count mark operation e b (left .buffer) l l′ kept kept a a r
+      desk-refused n place q are r low high =
+          let g = desk-reply-refused desks n place (desk-not-old m e (length l)) (sym q ∙ w .reply-is) in
+          let c = refused-written outcome n place r (same ∙ g) (subst OutcomeSound g (w .sound)) low (whole-place desks n place r g (desk-place-within m are e (length l)) high) b a in
           record {
-            served = subst (λ (v : CallOutcome). CallWritten v b (left .buffer) a a′ r) (sym same) (updated-written m desks (w .sound) left (w .left-is) (done .0) q (done .1) a a′ r z n);
+            served = subst (λ (t : List ℕ). CallWritten outcome b t a a r) (sym (ap (λ (t : Memory). t .buffer) (refused-buffer m desks (w .sound) left (w .left-is) n place g))) c;
             written = message-is;
+            kept = sym (ap (λ (v : CallOutcome). windowAfter v kept l′) (same ∙ g));
           }
+
+      module _ (q : Removed) (is : reply ≡ Desk.Accepted q) where
+        done : (s : State Drawing) × (desks ≡ updated s q)
+        done = desk-reply-accepted desks q (desk-not-old m e (length l)) (sym is ∙ w .reply-is)
+
+        pub desk-size : left .size ≤ I.maxImageSize
+        desk-size = updated-size m desks (w .sound) left (w .left-is) (done .0) q (done .1)
+
+        pub desk-accepted : (a′ : List ℕ) (r : ℕ) → (r ≡ 0) × (a′ ≡ answerWith a (left .count) (left .size) q) → DeskCallWritten len count mark operation e b (left .buffer) l l′ kept kept′ a a′ r
+        desk-accepted a′ r (z, n) =
+            record {
+              served = subst (λ (v : CallOutcome). CallWritten v b (left .buffer) a a′ r) (sym same) (updated-written m desks (w .sound) left (w .left-is) (done .0) q (done .1) a a′ r z n);
+              written = message-is;
+              kept = window-is;
+            }
 
 -- ---- the wall
 

@@ -15,8 +15,12 @@ use Rattle.edit_plan.specs.declared.Removed.{Removed}
 use Rattle.edit_plan.specs.Steps.{nothing}
 use Rattle.agreement.specs.Machines.{State, Call}
 use Rattle.replication.specs.Protocol.{Edit}
-use Rattle.replication.specs.Outcomes.{CallOutcome, refused, old, updated, onImage, deskOn, numberOf, placeOf, OutcomeSound, messageAfter}
+use Rattle.replication.specs.Outcomes.{CallOutcome, refused, old, updated, onImage, deskOn, numberOf, placeOf, OutcomeSound, messageAfter, windowAfter}
 use Rattle.replication.specs.Transitions.{wallCallOutcome}
+
+-- the number of the interface that C header and Rust binding compare: a call that is added, or takes other arguments, gives it the next one
+abbrev pub interface : ℕ
+interface = 2
 
 -- the new image at the buffer's front, the rest as it was
 abbrev pub bufferAfter : CallOutcome → List ℕ → List ℕ
@@ -61,10 +65,11 @@ abbrev pub deskOutcomeByNumber : List ℕ → ℕ → ℕ → ℕ → ℕ → Ed
 deskOutcomeByNumber buffer len count mark operation e room =
     onImage (I.parse (take len buffer)) count (deskByNumber mark (length buffer) operation (record { edit = e; room = room }))
 
--- the outcome's answer, and the message
-pub record DeskCallWritten (len count mark operation : ℕ) (e : Edit) (buffer buffer′ message message′ answer answer′ : List ℕ) (r : ℕ) : Type 0 where
+-- the outcome's answer, the message, and the window, which slides by an accepted edit's message and which a refusal leaves
+pub record DeskCallWritten (len count mark operation : ℕ) (e : Edit) (buffer buffer′ message message′ window window′ answer answer′ : List ℕ) (r : ℕ) : Type 0 where
   pub served : CallWritten (deskOutcomeByNumber buffer len count mark operation e (length message)) buffer buffer′ answer answer′ r
   pub written : message′ ≡ messageAfter mark (deskOutcomeByNumber buffer len count mark operation e (length message)) e message
+  pub kept : window′ ≡ windowAfter (deskOutcomeByNumber buffer len count mark operation e (length message)) window message′
 
 -- ---- the wall
 
