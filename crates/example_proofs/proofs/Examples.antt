@@ -1,11 +1,12 @@
 -- The examples hold by computation.
 use mathlib.Core.Path.{refl}
-use Rattle.big_endian.specs.Fields.{field, bytes}
+use Rattle.big_endian.specs.Fields.{field, bytes, over}
 use Rattle.sketch.specs.Lists.{guardNumber}
 use Rattle.sketch.specs.Drawing.{curveIn, usesOf, pointsOf}
 use Rattle.sketch.specs.Valid.{okCoordinate, sortOf}
 use Rattle.message.specs.Message.{messageFault, operationOf, operationByte}
 use Rattle.message.specs.Message as G
+use Rattle.window.specs.Window.{allHeld, dueBytes}
 use Rattle.image.specs.Image.{headFault, rowsAt, resultOf}
 use Rattle.image.specs.Encode.{header, encode}
 use Rattle.float.specs.Magnitude.{allFinite, largestOf, finiteFront, magnitudeOf}
@@ -32,7 +33,7 @@ use Rattle.extend.specs.ExtendAnswer.{applyPlanned, firstUnmetIn, reportedPlace
 use Rattle.modify.specs.Edits.{planOnCurve, planOnFound}
 use Rattle.example_proofs.specs.Examples.{Examples}
 
--- to name one of these under `unfolding` opens the definitions of images, of messages, of roots, or of edits
+-- to name one of these under `unfolding` opens the definitions of images, of messages, of windows, of roots, or of edits
 unfoldable opened-images : Unit {0}
 unfolding field bytes guardNumber headFault rowsAt resultOf header encode
 opened-images = tt
@@ -40,6 +41,10 @@ opened-images = tt
 unfoldable opened-messages : Unit {0}
 unfolding field bytes guardNumber messageFault operationOf operationByte G.resultOf G.encode
 opened-messages = tt
+
+unfoldable opened-windows : Unit {0}
+unfolding over allHeld dueBytes
+opened-windows = tt
 
 unfoldable opened-roots : Unit {0}
 unfolding casteljauStep casteljauSteps evaluateOf middle narrow sameSign bisectOf allFinite largestOf finiteFront magnitudeOf tiny toleranceOf slopes derivativeOf insert sortOnto dedupAfter dedupOf knotsOf isZero zerosOf noSignChange withRoot andThen bisectFrom bisectBetween gathered sortedDedup levelOf onLevel rootsAt rootsOf
@@ -50,7 +55,7 @@ unfolding curveIn usesOf pointsOf okCoordinate sortOf positionOf shapeOf shapeFr
 opened-edits = tt
 
 pub examples-hold : Examples
-unfolding opened opened-images opened-messages opened-roots opened-edits
+unfolding opened opened-images opened-messages opened-windows opened-roots opened-edits
 examples-hold =
     record {
       empty-read = refl;
@@ -62,6 +67,14 @@ examples-hold =
       message-foreign-first = refl;
       message-own-without-number = refl;
       message-version-one = refl;
+      catch-up-of-none = refl;
+      catch-up-above = refl;
+      catch-up-left = refl;
+      catch-up-short = refl;
+      catch-up-of-one = (refl, refl);
+      catch-up-foreign = refl;
+      slot-again = (refl, refl);
+      catch-up-of-last = (refl, refl);
       split-inside = refl;
       split-measured = refl;
       split-at-the-end = refl;

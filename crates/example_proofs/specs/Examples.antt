@@ -17,6 +17,7 @@ use Rattle.message.specs.declared.Operation.the-variants.{Trim, Split, Extend}
 use Rattle.message.specs.declared.Message.{Message}
 use Rattle.message.specs.declared.MessageRead.the-variants.{Accepted, Refused}
 use Rattle.message.specs.Message as G
+use Rattle.window.specs.Window.{windowSize, emptyWindow, slot, slid, dueBytes, catchUpFault}
 use Rattle.image.specs.Image as I
 use Rattle.sketch_image.specs.SketchImage.{emptyDrawing}
 use Rattle.image.specs.Encode.{encode}
@@ -50,6 +51,15 @@ abbrev pub splitMessage : ℕ → ℕ → ℕ → List ℕ
 splitMessage version number operation =
     0x00 ∷ 0x00 ∷ 0x00 ∷ 0x22 ∷ version ∷ 0x01 ∷ 0x02 ∷ 0x03 ∷ 0x04 ∷ 0x05 ∷ 0x06 ∷ 0x07 ∷ 0x08 ∷ 0x00 ∷ 0x00 ∷ 0x00 ∷ number ∷ operation ∷ 0x00 ∷ 0x00 ∷ 0x00 ∷ 0x03
     ∷ 0x3f ∷ 0xf0 ∷ 0x00 ∷ 0x00 ∷ 0x00 ∷ 0x00 ∷ 0x00 ∷ 0x00 ∷ 0x40 ∷ 0x08 ∷ 0x00 ∷ 0x00 ∷ 0x00 ∷ 0x00 ∷ 0x00 ∷ 0x00 ∷ []
+
+-- ---- the desk's window
+
+-- the window of a desk whose first message is the split's, and that after 64 more, of which the last stands where the first stood
+abbrev pub oneKept : List ℕ
+oneKept = slid emptyWindow 1 (splitMessage 2 1 2)
+
+abbrev pub oneReplaced : List ℕ
+oneReplaced = slid oneKept 65 (splitMessage 2 65 2)
 
 -- ---- edits
 
@@ -99,6 +109,17 @@ pub record Examples : Type 0 where
   pub message-foreign-first : G.parse nearMark (splitMessage 2 0 4) ≡ Refused 28
   pub message-own-without-number : G.parse ownMark (splitMessage 2 0 2) ≡ Refused 6
   pub message-version-one : G.parse nearMark (splitMessage 1 1 2) ≡ Refused 2
+  -- 02's, of a catch-up: by an empty window none is due, the wall's count is above the desk's, a message is not there; by one with a message there
+  -- is no room for it, or it is written; at another mark it is not there
+  pub catch-up-of-none : catchUpFault ownMark emptyWindow 0 0 0 ≡ 0
+  pub catch-up-above : catchUpFault ownMark emptyWindow 0 1 0 ≡ 27
+  pub catch-up-left : catchUpFault ownMark emptyWindow 1 0 windowSize ≡ 26
+  pub catch-up-short : catchUpFault ownMark oneKept 1 0 37 ≡ 25
+  pub catch-up-of-one : (catchUpFault ownMark oneKept 1 0 38 ≡ 0) × (dueBytes oneKept 0 1 ≡ splitMessage 2 1 2)
+  pub catch-up-foreign : catchUpFault nearMark oneKept 1 0 38 ≡ 26
+  -- message 65 in the slot of message 1: it is due to a wall at 64, and one at 0 is too far back
+  pub slot-again : (slot oneReplaced 65 ≡ splitMessage 2 65 2) × (slot oneReplaced 1 ≡ splitMessage 2 65 2)
+  pub catch-up-of-last : (catchUpFault ownMark oneReplaced 65 64 38 ≡ 0) × (catchUpFault ownMark oneReplaced 65 0 windowSize ≡ 26)
   pub split-inside :
       editOf Split limits (L []) 3 (mkVec 1 3)
       ≡ accepted (mkDrawing 6 (mkPoint 1 0 0 ∷ mkPoint 2 4 0 ∷ mkPoint 4 1 0 ∷ []) (mkLine 3 1 4 ∷ mkLine 5 4 2 ∷ []) (Collinear 3 5 ∷ [])) nothing

@@ -135,8 +135,8 @@ module _ (image : List ℕ) (are : Bytes image) (good : imageFault image ≡ 0) 
   pub place-low : (message : List ℕ) → wallPlace (M.wallTransition (protocol mark) (imageState image count) (protocol mark .decode message) .1) ≤ limits .relations
   place-low message = reply-within mark (imageState image count) drawing-valid (protocol mark .decode message)
 
-  pub desk-valid : (c : DeskCall) → DeskEdits found c → DeskStepValid (protocol mark) (imageState image count) (deskStep c)
-  desk-valid c w = subst (λ (s : State Drawing). DeskStepValid (protocol mark) s (deskStep c)) (held .state) (desk-step found (held .ready) c w .0)
+  pub desk-valid : (kept : List ℕ) (c : DeskCall) → DeskEdits found kept c → DeskStepValid (protocol mark) (imageState image count) (deskStep c)
+  desk-valid kept c w = subst (λ (s : State Drawing). DeskStepValid (protocol mark) s (deskStep c)) (held .state) (desk-step found (held .ready) kept c w .0)
 
   pub wall-valid : (c : WallCall) → WallDelivers found c → WallStepValid (protocol mark) (imageState image count) (wallStep c)
   wall-valid c w = subst (λ (s : State Drawing). WallStepValid (protocol mark) s (wallStep c)) (held .state) (wall-step found (held .ready) c w .0)

@@ -1,4 +1,5 @@
 // Entry points in C's convention, through which the comparison and the benchmarks reach the engine.
+mod catching_up;
 mod edits;
 mod numbers;
 mod polynomials;

@@ -13,6 +13,7 @@ use replication::WallReply;
 use replication::first_fault;
 use rows::put_run;
 use sketch::Id;
+use window::Window;
 ghost use mathlib.Core.Path.{_≡_};
 ghost use Prim.Native.Nat.{_≤_};
 ghost use lib.ListN.{length, take};
@@ -56,7 +57,17 @@ fn desk_adds(
         count,
     };
     let mut message = [0u8; MESSAGE_SIZE];
-    let answer = replication::desk_edit(replica, buffer, operation, curve, x, y, &mut message);
+    let window = Window::empty();
+    let answer = replication::desk_edit(
+        replica,
+        window,
+        buffer,
+        operation,
+        curve,
+        x,
+        y,
+        &mut message,
+    );
     let after = answer.replica;
     let reply = answer.reply;
     match reply {

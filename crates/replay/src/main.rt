@@ -1,4 +1,5 @@
 // Replays the oracle's recorded answers on the engine and writes how many came out alike.
+mod catch_ups;
 mod edits;
 mod entries;
 mod images;
@@ -41,6 +42,7 @@ fn replay_file(name: &[u8], path: &[u8], subject: Subject) {
 fn main() {
     replay_file(b"images", b"images.bin", Subject::Images);
     replay_file(b"messages", b"messages.bin", Subject::Messages);
+    replay_file(b"catch-ups", b"catch_ups.bin", Subject::CatchUps);
     replay_file(b"square roots", b"square_roots.bin", Subject::SquareRoots);
     replay_file(b"magnitudes", b"magnitudes.bin", Subject::Magnitudes);
     replay_file(b"roots", b"roots.bin", Subject::Roots);

@@ -1,4 +1,5 @@
 // The walk over a list: each entry replayed as its subject has it, and counted.
+use crate::catch_ups;
 use crate::edits;
 use crate::entries::Entry;
 use crate::entries::entry_at;
@@ -19,6 +20,7 @@ ghost use Rattle.replay.specs.Tally.{Kept};
 pub(crate) enum Subject {
     Images,
     Messages,
+    CatchUps,
     SquareRoots,
     Magnitudes,
     Roots,
@@ -30,6 +32,7 @@ fn alike(subject: Subject, outcome: u8, input: &[u8]) -> bool {
     match subject {
         Subject::Images => images::alike(outcome, input),
         Subject::Messages => messages::alike(outcome, input),
+        Subject::CatchUps => catch_ups::alike(outcome, input),
         Subject::SquareRoots => square_roots::alike(outcome, input),
         Subject::Magnitudes => magnitudes::alike(outcome, input),
         Subject::Roots => roots::alike(outcome, input),
