@@ -54,6 +54,10 @@ pub enum Refusal {
     Coordinate = 24,
     /// The lent buffer is too short.
     Buffer = 25,
+    /// The message after a wall's count has left the desk's window.
+    LeftWindow = 26,
+    /// A wall's count is above its desk's.
+    CountAbove = 27,
     /// A message bears another mark than the wall's.
     Foreign = 28,
 }

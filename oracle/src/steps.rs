@@ -1,10 +1,12 @@
-//! A desk or wall whose state the caller holds: an image, a mark and a count in, the next ones out.
+//! A desk or wall whose state the caller holds: an image, a mark and a count in, the next ones out. The
+//! desk's window is lent to its call.
 
 use crate::call::answer;
 use crate::edit::{Refused, Report};
 use crate::image;
 use crate::message::{Edit, Mark};
-use crate::replication::{Delivery, Replica};
+use crate::replication::{Delivery, Desk, Replica};
+use crate::window::Window;
 
 /// What is handed to a call and comes back from it.
 #[derive(Clone, Debug, PartialEq, Eq)]
@@ -28,7 +30,7 @@ pub struct Step {
 
 impl State {
     fn replica(&self) -> Result<Replica, Refused> {
-        Ok(Replica { drawing: image::read(&self.image)?, mark: self.mark, count: self.count })
+        Ok(Replica::start_at(&self.image, self.mark, self.count)?)
     }
 
     fn after(&self, outcome: Result<(Replica, Option<Report>), Refused>) -> Step {
@@ -42,11 +44,19 @@ impl State {
         Step { answer, old: report.is_none(), report: report.unwrap_or_default(), state }
     }
 
-    /// The desk's call; an accepted one writes its message to the front of the buffer.
+    /// The desk's call, of a caller who has no use for the window.
     pub fn edit(&self, edit: &Edit, out: &mut [u8]) -> Step {
-        let outcome = self.replica().and_then(|mut desk| {
+        self.edit_and_keep(edit, out, &mut Window::empty())
+    }
+
+    /// The desk's call; an accepted one writes its message to the front of the buffer and into the
+    /// window.
+    pub fn edit_and_keep(&self, edit: &Edit, out: &mut [u8], window: &mut Window) -> Step {
+        let outcome = self.replica().and_then(|replica| {
+            let mut desk = Desk { replica, window: window.clone() };
             let report = desk.edit(edit, out)?;
-            Ok((desk, Some(report)))
+            *window = desk.window;
+            Ok((desk.replica, Some(report)))
         });
         self.after(outcome)
     }

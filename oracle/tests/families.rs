@@ -6,7 +6,7 @@ use oracle::families::Families;
 use oracle::family_counts::FamilyCounts;
 use oracle::generate::{random::Random, rings};
 use oracle::message::{self, Edit};
-use oracle::replication::Replica;
+use oracle::replication::Desk;
 
 const LISTS: usize = 100_000;
 
@@ -47,19 +47,20 @@ fn families_stay_joined_over_generated_lists() {
 fn follow_list(random: &mut Random, seen: &mut ListCoverage) -> Result<(), String> {
     let start = rings::drawing(random);
     let mut families = Families::new(&start);
-    let mut desk = Replica::new(start.clone(), 0);
+    let mut desk = Desk::new(start.clone(), 0);
     let (mut asked, mut out): (Vec<Edit>, _) = (Vec::new(), [0; message::SIZE]);
     let mut counts = families.check(&start)?;
     seen.drawings_with_circles += usize::from(counts.circles() > 0);
     for _ in 0..rings::length(random) {
-        let edit = rings::edit(random, &desk.drawing, &families);
+        let edit = rings::edit(random, &desk.replica.drawing, &families);
         asked.push(edit);
         seen.asked_of_circles += usize::from(families.members_of_circles().contains(&edit.curve));
-        let before = desk.drawing.clone();
+        let before = desk.replica.drawing.clone();
         let Ok(report) = desk.edit(&edit, &mut out) else { continue };
         seen.accepted += 1;
-        families.follow(&before, &desk.drawing, edit.curve, &report);
-        let checked = families.check(&desk.drawing);
+        let after = &desk.replica.drawing;
+        families.follow(&before, after, edit.curve, &report);
+        let checked = families.check(after);
         counts = checked.map_err(|fault| format!("{fault}\n  {start:?}\n  {asked:?}"))?;
         seen.checked.add(&counts);
     }

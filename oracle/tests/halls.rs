@@ -1,13 +1,16 @@
 //! Two desks in one hall: each wall hears both desks and follows its own.
 #![cfg(upstream)]
 
+mod hall;
+
+use hall::{is_refusal_of_other_desk, stray};
 use oracle::drawing::Drawing;
 use oracle::edit::{Refused, Report};
 use oracle::generate::marks::{self, Difference};
 use oracle::generate::{bridges, edits, random::Random};
 use oracle::message::*;
 use oracle::refusal::Refusal;
-use oracle::replication::{Delivery, Replica};
+use oracle::replication::{Delivery, Desk, Replica};
 use oracle::{bytes, image, message, program};
 
 const HALLS: usize = 2_000;
@@ -36,7 +39,7 @@ struct Seen {
 
 /// A desk, the wall that follows it, and all that the desk wrote.
 struct Bridge {
-    desk: Replica,
+    desk: Desk,
     wall: Replica,
     /// The images at the start and after each accepted edit.
     images: Vec<Vec<u8>>,
@@ -47,18 +50,18 @@ struct Bridge {
 
 impl Bridge {
     fn new(drawing: &Drawing, mark: Mark) -> Bridge {
-        let desk = Replica::new(drawing.clone(), mark);
-        let image = image::to_bytes(&desk.drawing);
+        let desk = Desk::new(drawing.clone(), mark);
+        let image = image::to_bytes(drawing);
         let input = [&image[..], &mark.to_be_bytes()].concat();
-        Bridge { wall: desk.clone(), desk, images: vec![image], written: vec![], input }
+        Bridge { wall: desk.replica.clone(), desk, images: vec![image], written: vec![], input }
     }
 
     fn edit(&mut self, random: &mut Random) {
-        let edit = edits::edit(random, &self.desk.drawing);
+        let edit = edits::edit(random, &self.desk.replica.drawing);
         let mut out = [0; SIZE];
         if let Ok(report) = self.desk.edit(&edit, &mut out) {
             self.written.push((out.to_vec(), report));
-            self.images.push(image::to_bytes(&self.desk.drawing));
+            self.images.push(image::to_bytes(&self.desk.replica.drawing));
         }
     }
 
@@ -87,11 +90,6 @@ impl Bridge {
         }
         Ok(())
     }
-}
-
-fn is_refusal_of_other_desk(outcome: &Result<Delivery, Refused>) -> bool {
-    let refusals = [Refusal::Length, Refusal::Version, Refusal::Foreign];
-    matches!(outcome, Err(Refused { refusal, place: None }) if refusals.contains(refusal))
 }
 
 impl Seen {
@@ -123,31 +121,10 @@ fn on_air(random: &mut Random, bridges: &[Bridge; 2]) -> Vec<u8> {
     let message = bridge.written.get(place).map(|(message, _)| message.clone());
     match message {
         Some(message) if !random.one_in(4) => message,
-        message => stray(random, bridges.each_ref().map(|bridge| bridge.desk.mark), message),
+        message => {
+            stray(random, bridges.each_ref().map(|bridge| bridge.desk.replica.mark), message)
+        }
     }
-}
-
-/// A desk's message, or any bytes, under a mark that neither desk has.
-fn stray(random: &mut Random, desks: [Mark; 2], message: Option<Vec<u8>>) -> Vec<u8> {
-    let near = random.pick(&desks);
-    let mut mark = marks::foreign(random, near);
-    while desks.contains(&mark) {
-        mark = marks::foreign(random, near);
-    }
-    let mut stray = message.unwrap_or_else(|| any_bytes(random));
-    bytes::put(&mut stray, MARK_AT, mark.to_be_bytes());
-    stray
-}
-
-/// Long enough for a mark; mostly as long as a message, and mostly with its length and version.
-fn any_bytes(random: &mut Random) -> Vec<u8> {
-    let size = if random.one_in(4) { NUMBER_AT + random.below(SIZE) } else { SIZE };
-    let mut any: Vec<u8> = (0..size).map(|_| random.bits() as u8).collect();
-    if !random.one_in(4) {
-        bytes::put(&mut any, 0, LENGTH.to_be_bytes());
-        any[VERSION_AT] = VERSION;
-    }
-    any
 }
 
 /// A hall in which edits and deliveries come in any order and a wall does not hear everything; at last
@@ -177,7 +154,7 @@ fn follow_hall(random: &mut Random, deliver: Deliver, seen: &mut Seen) -> Result
         }
     }
     for Bridge { desk, wall, images, input, .. } in &bridges {
-        assert_eq!(wall.count, desk.count);
+        assert_eq!(wall.count, desk.replica.count);
         assert_eq!(Some(&program::run(input)), images.last());
     }
     Ok(())

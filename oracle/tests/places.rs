@@ -9,7 +9,7 @@ use oracle::generate::{calls, random::Random};
 use oracle::image;
 use oracle::message::{self, Edit, Mark, Message, Operation, MARK_AT, OPERATION_AT, VERSION_AT};
 use oracle::refusal::Refusal;
-use oracle::replication::Replica;
+use oracle::replication::Desk;
 use oracle::steps::State;
 use oracle::unmet::Unmet;
 use std::collections::BTreeMap;
@@ -42,12 +42,12 @@ fn distance(p: Id, q: Id, value: f64) -> Relation {
 fn assert_refused(drawing: &Drawing, edit: Edit, refusal: Refusal, place: Option<usize>) {
     let refused = Refused { refusal, place };
     assert_eq!(apply(drawing, &edit), Err(refused), "{edit:?} of {drawing:?}");
-    let start = Replica::new(drawing.clone(), MARK);
-    let (mut desk, mut wall) = (start.clone(), start.clone());
+    let start = Desk::new(drawing.clone(), MARK);
+    let (mut desk, mut wall) = (start.clone(), start.replica.clone());
     let message = message::to_bytes(&Message { number: 1, edit }, MARK);
     assert_eq!(desk.edit(&edit, &mut [0; message::SIZE]), Err(refused));
     assert_eq!(wall.deliver(&message), Err(refused));
-    assert_eq!((&desk, &wall), (&start, &start));
+    assert_eq!((&desk, &wall), (&start, &start.replica));
     let state = State { image: image::to_bytes(drawing), mark: MARK, count: 0 };
     let answer = u32::from(refusal.number()) + 65_536 * place.unwrap_or(0) as u32;
     assert_eq!(state.edit(&edit, &mut [0; message::SIZE]).answer, answer);
@@ -178,11 +178,11 @@ fn no_other_refusal_of_an_edit_has_a_place() {
 fn no_refusal_of_memory_numbers_or_messages_has_a_place() {
     let unmet = upright(1.0, &[length(6, 2.0), length(6, 3.0)]);
     let refused = |refusal| Some(Refused { refusal, place: None });
-    let mut desk = Replica::new(unmet.clone(), MARK);
+    let mut desk = Desk::new(unmet, MARK);
+    let mut wall = desk.replica.clone();
     assert_eq!(desk.edit(&BY_END, &mut [0; message::SIZE - 1]).err(), refused(Refusal::Buffer));
-    desk.count = u32::MAX;
+    desk.replica.count = u32::MAX;
     assert_eq!(desk.edit(&BY_END, &mut [0; message::SIZE]).err(), refused(Refusal::Numbers));
-    let mut wall = Replica::new(unmet, MARK);
     let bytes = message::to_bytes(&Message { number: 2, edit: BY_END }, MARK);
     let with = |at: usize, value: u8| {
         let mut changed = bytes;

@@ -10,7 +10,7 @@ use oracle::examples::{curve, l, line, point, t};
 use oracle::image;
 use oracle::message::{self, Edit};
 use oracle::refusal::Refusal;
-use oracle::replication::Replica;
+use oracle::replication::Desk;
 use oracle::roots::{roots, Search, BUFFER};
 
 /// A search with a full budget and buffer.
@@ -60,7 +60,8 @@ fn refusal_23_numbers() {
     drawing.next_id = Id::MAX - 2;
     assert!(apply(&drawing, &Edit { operation: SPLIT, curve: 3, x: 2.0, y: 0.0 }).is_ok());
     // The edit number, before anything of the edit itself.
-    let mut desk = Replica { drawing: l(), mark: 0, count: u32::MAX };
+    let mut desk = Desk::new(l(), 0);
+    desk.replica.count = u32::MAX;
     let edit = Edit { operation: SPLIT, curve: 99, x: f64::NAN, y: 0.0 };
     assert_eq!(desk.edit(&edit, &mut [0; message::SIZE]), Err(Refusal::Numbers.into()));
 }
@@ -81,7 +82,7 @@ fn refusal_24_coordinate() {
 
 #[test]
 fn refusal_25_buffer() {
-    let mut desk = Replica::new(l(), 0);
+    let mut desk = Desk::new(l(), 0);
     let edit = Edit { operation: SPLIT, curve: 3, x: 2.0, y: 0.0 };
     assert_eq!(desk.edit(&edit, &mut [0; 37]), Err(Refusal::Buffer.into()));
     let size = image::size(&l());

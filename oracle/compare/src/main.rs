@@ -2,9 +2,12 @@
 //! answer, every byte written and every byte left alone.
 //!
 //! `compare [images] [messages] [seed] [figures] [square roots] [polynomials] [relations] [edits] [runs]
-//! [lists]`: how many of each, and where the generator starts. So many edits are trims and splits, as many
+//! [lists] [catch-ups]`: how many of each, and where the generator starts. So many edits are trims and splits, as many
 //! again extends and twice as many sums of both.
 
+#[cfg(test)]
+mod catch_up_faults;
+mod catch_ups;
 mod copies;
 mod counts;
 mod crossings;
@@ -46,6 +49,7 @@ const POLYNOMIALS: u64 = 320_000;
 const EDITS: u64 = 300_000;
 const RUNS: u64 = 50_000;
 const LISTS: u64 = 400_000;
+const CATCH_UPS: u64 = 400_000;
 
 fn versions() -> Result<(), String> {
     let (oracle, engine) =
@@ -72,6 +76,7 @@ fn compare_all() -> Result<(), String> {
     subject::run::<sketches::Sketches>(image_cases, seed)?;
     subject::run::<relations::Relations>(relation_cases, seed)?;
     subject::run::<messages::Messages<messages::Engine>>(message_cases, seed)?;
+    subject::run::<catch_ups::CatchUps<catch_ups::Engine>>(cases(11, CATCH_UPS), seed)?;
     subject::run::<magnitudes::Magnitudes<magnitudes::Engine>>(cases(10, LISTS), seed)?;
     if !upstream::PRESENT {
         println!("roots and edits: the upstream source is absent, skipped");

@@ -16,8 +16,9 @@ use oracle::generate::messages::damage;
 use oracle::generate::{calls, marks as generated, random::Random};
 use oracle::message::{self, Edit, Mark, Message, Operation, OPERATION_AT};
 use oracle::refusal::Refusal;
-use oracle::replication::{Delivery, Replica};
+use oracle::replication::{Delivery, Desk, Replica};
 use oracle::unmet::Unmet;
+use oracle::window::Window;
 use oracle::{edit, image};
 use std::marker::PhantomData;
 
@@ -136,9 +137,10 @@ impl Case {
     }
 }
 
-fn desk_reply(mut desk: Replica, edit: &Edit) -> Result<u32, Refused> {
+fn desk_reply(replica: Replica, edit: &Edit) -> Result<u32, Refused> {
+    let mut desk = Desk { replica, window: Window::empty() };
     desk.edit(edit, &mut [0; message::SIZE])?;
-    Ok(ACCEPTED.wrapping_add(desk.count))
+    Ok(ACCEPTED.wrapping_add(desk.replica.count))
 }
 
 fn wall_reply(mut wall: Replica, bytes: &[u8], deliver: Deliver) -> Result<u32, Refused> {

@@ -1,5 +1,6 @@
-//! Desk and wall: the wall's program as a call, its whole input in, its whole output out; a desk's
-//! edit and a delivery many times over, for timing.
+//! Desk and wall: the wall's program as a call, its whole input in, its whole output out; what a wall
+//! that fell behind is sent, once and many times over; a desk's edit and a delivery many times over, for
+//! timing.
 
 mod interface {
     extern "C" {
@@ -21,6 +22,23 @@ mod interface {
             mark: u64,
             message: *const u8,
             message_len: usize,
+            times: u32,
+        ) -> u32;
+        pub fn mulkefi_catch_up(
+            window: *const u8,
+            window_len: usize,
+            count: u32,
+            mark: u64,
+            wall_count: u32,
+            messages: *mut u8,
+            room: usize,
+        ) -> u32;
+        pub fn mulkefi_catch_up_repeated(
+            window: *const u8,
+            window_len: usize,
+            count: u32,
+            mark: u64,
+            wall_count: u32,
             times: u32,
         ) -> u32;
     }
@@ -63,4 +81,23 @@ pub fn deliver_repeated(image: &[u8], count: u32, mark: u64, message: &[u8], tim
     let (message, size) = (message.as_ptr(), message.len());
     // SAFETY: both slices are lent for the call, and the engine stays within their lengths.
     unsafe { interface::mulkefi_deliver_repeated(bytes, len, count, mark, message, size, times) }
+}
+
+/// Writes every message of a desk's window after a wall's count, up to the desk's, to the front of
+/// `out`. Answers 0 or a refusal's number.
+#[inline]
+pub fn catch_up(window: &[u8], count: u32, mark: u64, wall_count: u32, out: &mut [u8]) -> u32 {
+    let (bytes, len) = (window.as_ptr(), window.len());
+    let (to, room) = (out.as_mut_ptr(), out.len());
+    // SAFETY: both slices are lent for the call, and the engine stays within their lengths.
+    unsafe { interface::mulkefi_catch_up(bytes, len, count, mark, wall_count, to, room) }
+}
+
+/// So many catch-ups into a buffer of the engine's own that has room for all messages of a window. Each
+/// adds what it answers to the sum.
+#[inline]
+pub fn catch_up_repeated(window: &[u8], count: u32, mark: u64, wall_count: u32, times: u32) -> u32 {
+    let (bytes, len) = (window.as_ptr(), window.len());
+    // SAFETY: the slice is lent for the call, and the engine stays within its length.
+    unsafe { interface::mulkefi_catch_up_repeated(bytes, len, count, mark, wall_count, times) }
 }

@@ -16,6 +16,7 @@ fn main() -> std::io::Result<()> {
     write(folder, "messages.bin", &recording::messages(SEED))?;
     write(folder, "square_roots.bin", &recording::square_roots(SEED))?;
     write(folder, "magnitudes.bin", &recording::magnitudes(SEED))?;
+    write(folder, "catch_ups.bin", &recording::catch_ups(SEED))?;
     if !upstream::PRESENT {
         println!("roots.bin, edits.bin, runs.bin: the upstream source is absent, skipped");
         return Ok(());

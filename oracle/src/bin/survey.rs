@@ -9,7 +9,7 @@ use oracle::generate::coverage::Coverage;
 use oracle::generate::{bridges, edits, marks, polynomials, random::Random};
 use oracle::message;
 use oracle::refusal::number_of;
-use oracle::replication::{Delivery, Replica};
+use oracle::replication::{Delivery, Desk};
 use oracle::roots::{roots, BUFFER};
 use oracle::{image, upstream, validity};
 use std::time::Instant;
@@ -36,15 +36,16 @@ fn report(name: &str, rounds: u64, round: fn(&mut Random, &mut Coverage), seed: 
 /// A desk makes some edits; a wall gets each message twice and must end with the same image.
 fn survey_edits(random: &mut Random, coverage: &mut Coverage) {
     let (drawing, mark) = (bridges::any_drawing(random), marks::mark(random));
-    let (mut desk, mut wall) = (Replica::new(drawing.clone(), mark), Replica::new(drawing, mark));
+    let mut desk = Desk::new(drawing, mark);
+    let mut wall = desk.replica.clone();
     let mut out = [0; message::SIZE];
     for _ in 0..EDITS {
-        let edit = edits::edit(random, &desk.drawing);
-        coverage.drawing(&desk.drawing);
+        let edit = edits::edit(random, &desk.replica.drawing);
+        coverage.drawing(&desk.replica.drawing);
         match desk.edit(&edit, &mut out) {
             Ok(report) => {
                 coverage.edit_outcome(edit.operation, 0);
-                assert_eq!(validity::check(&desk.drawing), Ok(()));
+                assert_eq!(validity::check(&desk.replica.drawing), Ok(()));
                 assert_eq!(wall.deliver(&out), Ok(Delivery::Applied(report)));
                 assert_eq!(wall.deliver(&out), Ok(Delivery::Old));
             }
@@ -54,7 +55,7 @@ fn survey_edits(random: &mut Random, coverage: &mut Coverage) {
             }
         }
     }
-    assert_eq!(image::to_bytes(&wall.drawing), image::to_bytes(&desk.drawing));
+    assert_eq!(image::to_bytes(&wall.drawing), image::to_bytes(&desk.replica.drawing));
 }
 
 fn survey_roots(random: &mut Random, coverage: &mut Coverage) {

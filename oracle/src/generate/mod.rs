@@ -1,8 +1,10 @@
-//! Seeded inputs: drawings, images good and damaged, messages, lists of edits and of numbers, figures and patterns.
+//! Seeded inputs: drawings, images good and damaged, messages, windows, lists of edits and of numbers,
+//! figures and patterns.
 
 pub mod arches;
 pub mod bridges;
 pub mod calls;
+pub mod catch_ups;
 pub mod coverage;
 pub mod crowd;
 pub mod cuts;
@@ -13,6 +15,7 @@ pub mod extensions;
 pub mod fields;
 pub mod figures;
 pub mod frame;
+pub mod lasting;
 pub mod lists;
 pub mod marks;
 pub mod messages;
@@ -29,6 +32,7 @@ pub mod runs;
 pub mod scene;
 pub mod several_unmet;
 pub mod targets;
+pub mod windows;
 
 use crate::image;
 use random::Random;

@@ -8,7 +8,7 @@ use crate::drawing::{Drawing, Id};
 use crate::image;
 use crate::message::{self, Edit, Mark, Message, MARK_AT, MARK_SIZE, NUMBER_AT};
 use crate::program::{Parts, MAX_INPUT};
-use crate::replication::Replica;
+use crate::replication::Desk;
 
 /// The most edits in a run.
 pub const MOST_EDITS: usize = 40;
@@ -27,13 +27,13 @@ impl Run {
     pub fn any(random: &mut Random) -> Run {
         let (start, first) = start(random);
         let mark = marks::mark(random);
-        let mut desk = Replica::new(start.clone(), mark);
+        let mut desk = Desk::new(start.clone(), mark);
         let (mut calls, mut written) = (Vec::new(), Vec::new());
         let count = random.pick(&[0, 1, 2, 4, 8, 15, MOST_EDITS]);
         for at in 0..count {
             let edit = match first {
                 Some(edit) if at == 0 => edit,
-                _ => edits::edit(random, &desk.drawing),
+                _ => edits::edit(random, &desk.replica.drawing),
             };
             let (size, short) = (message::SIZE, message::SIZE - 1);
             let room = random.weighted(&[(40, size), (4, size + 10), (1, short), (1, 0)]);
@@ -42,7 +42,7 @@ impl Run {
                 written.push(out[..message::SIZE].to_vec());
             } else if random.one_in(4) {
                 // The wall is asked too, and refuses it.
-                let number = desk.count.saturating_add(1);
+                let number = desk.replica.count.saturating_add(1);
                 written.push(message::to_bytes(&Message { number, edit }, mark).to_vec());
             }
             calls.push((edit, room));

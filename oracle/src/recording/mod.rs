@@ -3,6 +3,7 @@
 //! A list is a run of entries, each an outcome byte (a refusal's number, 0 for acceptance), the
 //! input's length in four big-endian bytes, and the input.
 
+mod catch_ups;
 mod edit_sorts;
 mod edits;
 mod faults;
@@ -17,6 +18,7 @@ use crate::bytes::u32_at;
 use crate::refusal::{number_of, Refusal};
 use std::collections::BTreeSet;
 
+pub use catch_ups::{catch_ups, Entry as CatchUpEntry, MOST_ROOM};
 pub use edits::{edit_coverage, edits};
 pub use images::images;
 pub use magnitudes::magnitudes;
