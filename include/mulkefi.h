@@ -8,9 +8,13 @@
  * may write overlaps nothing else that is lent to it. All other things about the arguments are tested: whatever the bytes, lengths,
  * counts, ids and numbers are, a call ends and answers as described here.
  *
- * Answers, but for mulkefi_versions and mulkefi_largest_magnitude, which refuse nothing. 0 is accepted. Otherwise the low 16 bits are a
- * refusal's number (enum mulkefi_refusal, MULKEFI_NUMBER), and the bits above a place (MULKEFI_PLACE). After a refusal not one byte of
- * the caller's memory has changed.
+ * Interface. MULKEFI_INTERFACE is the number of what this header declares. A host compares it with mulkefi_interface() before its other
+ * calls, beside the formats' versions, which do not tell: since interface 2 mulkefi_desk_edit takes a window, under the name that it had. A
+ * library of interface 1 has no mulkefi_interface, and a host that calls it does not link with one.
+ *
+ * Answers, but for mulkefi_interface, mulkefi_versions and mulkefi_largest_magnitude, which refuse nothing. 0 is accepted. Otherwise the low
+ * 16 bits are a refusal's number (enum mulkefi_refusal, MULKEFI_NUMBER), and the bits above a place (MULKEFI_PLACE). After a refusal not one
+ * byte of the caller's memory has changed.
  *
  * Places. With MULKEFI_RELATIONS_UNMET and MULKEFI_RELATIONS_BROKEN the place is that of the first relation, in table order and counted
  * from 0, that is not met; with every other number it is 0. MULKEFI_RELATIONS_UNMET counts in the image's table of relations.
@@ -22,12 +26,37 @@
  * mark, 0 too, and none is refused. The host owes three things.
  *   - Each start of a desk gets a mark that no start of a desk had before. Otherwise messages of the earlier start, which may still be on
  *     their way, are read as this one's.
- *   - A wall gets its desk's mark, and starts from the same image.
+ *   - A wall gets its desk's mark. It starts from the image that its desk started from, at count 0, or from its desk's present image and
+ *     count.
  *   - Desk and wall keep the mark beside image and count, and hand it to every call until the next start, also when they resume from
  *     what they kept.
  * A host comes by a mark as 8 random bytes from the system, or as a counter of starts that it keeps on disk, with the desk's own number in
  * the upper half. In a message the mark stands in bytes 5 to 12, the highest first, for a host that routes messages; a wall may as well
- * be handed them all. */
+ * be handed them all.
+ *
+ * Windows. A desk's window is its last 64 messages as they were written, in MULKEFI_WINDOW_SIZE bytes of the host's: message n stands at byte
+ * 38 * (n % 64). It is zeros for a new desk; keep it with image and count, and lend it to every edit. An accepted edit puts its message into
+ * it and leaves its other bytes; a refused one leaves it whole. Any bytes may be lent: a window holds message n where the 38 bytes of its
+ * place are a message of the desk's mark with number n, and all else there counts as none. So zeros will do where the window alone was lost:
+ * walls that are behind are then started again.
+ *
+ * Catching up. A wall that was out of reach, or that refuses by MULKEFI_AHEAD, tells the desk's host its count. mulkefi_catch_up writes the
+ * messages after that count, up to the desk's; the host sends them, and they are delivered like all others. A wall to which they have come
+ * in order has the desk's image and count. It may ask at any time, and again: what it has by then is old to it.
+ *
+ * Starting a wall again. Where mulkefi_catch_up refuses by MULKEFI_LEFT_WINDOW, the wall is too far back. The desk's host then sends its
+ * present image, count and mark, which belong to one moment. The wall's host asks mulkefi_test for the image and, where that answers 0,
+ * keeps the three in place of its own; no other call is needed. Desk and other walls go on as they were, messages up to that count are old to
+ * the wall, and those after it come as ever. What the wall reports, and its chains and rings, count from this start: curves that were
+ * removed before it are none of its own. A wall may be started again at any time, also one that is not too far back.
+ *
+ * A desk that is set back. The host owes a fourth thing.
+ *   - A desk goes on from its last state alone: image, count and mark as its last accepted edit left them. So keep them, and the window,
+ *     before the message is sent. A desk that is resumed from anything else, an earlier copy say, is a new start: it gets a new mark, count 0
+ *     and a window of zeros, and its walls are started again from it.
+ * Otherwise it writes a second message n + 1 under the same mark: some walls have the one and some the other, the rest is next or old to
+ * both, and they part unseen. MULKEFI_COUNT_ABOVE tells of it where it shows: a wall has applied messages of which its desk knows nothing.
+ * Do just that, then: a new mark for the desk, and a new start for its walls. */
 #ifndef MULKEFI_H
 #define MULKEFI_H
 
@@ -38,9 +67,16 @@
 extern "C" {
 #endif
 
+/* The number of this interface. */
+#define MULKEFI_INTERFACE 2
+
 /* An edit message's size, and the largest image's, in bytes. A buffer of the largest image's size is never too short. */
 #define MULKEFI_MESSAGE_SIZE 38
 #define MULKEFI_IMAGE_SIZE 21135
+
+/* How many messages a desk's window holds, and its size in bytes. A buffer of this size is never too short for a catch-up. */
+#define MULKEFI_WINDOW_MESSAGES 64
+#define MULKEFI_WINDOW_SIZE 2432
 
 /* What a drawing holds at most. Ids run from 1 to 4294967294. */
 #define MULKEFI_MOST_POINTS 512
@@ -57,7 +93,8 @@ extern "C" {
 /* How many numbers an edit or a delivery answers, and what stands where. A circle that was removed whole has no ends, and two zeros.
  *
  * Curves that stand and curves that were reported join by the ids of their ends: the pieces of a line or an arc with which the drawing
- * started make one chain from its old start to its old end, those of a circle that was cut one ring. */
+ * started make one chain from its old start to its old end, those of a circle that was cut one ring. At a wall the drawing is that of its
+ * last start, and the reports are those since. */
 #define MULKEFI_ANSWER_SIZE 5
 
 enum mulkefi_answer {
@@ -89,6 +126,9 @@ enum mulkefi_refusal {
     MULKEFI_BAD_OPERATION = 6,     /* an unknown operation, or a message with number 0 */
     MULKEFI_AHEAD = 7,             /* an earlier message has not arrived yet */
     MULKEFI_FOREIGN = 28,          /* a message with another mark: another desk's, or of another start */
+    /* of a catch-up */
+    MULKEFI_LEFT_WINDOW = 26,      /* a message after the wall's count is not in the window: the wall is to be started again */
+    MULKEFI_COUNT_ABOVE = 27,      /* the wall's count is above the desk's: the desk was set back */
     /* of an edit */
     MULKEFI_NO_CURVE = 8,          /* no such curve */
     MULKEFI_BAD_PICK = 9,          /* a pick that is not finite or beyond 1,000,000 */
@@ -111,6 +151,9 @@ enum mulkefi_refusal {
     MULKEFI_SHORT_BUFFER = 25      /* lent memory is too short */
 };
 
+/* The number of the library's interface: 2. */
+uint32_t mulkefi_interface(void);
+
 /* The version of images times 256, plus that of messages. */
 uint32_t mulkefi_versions(void);
 
@@ -120,14 +163,25 @@ uint32_t mulkefi_test(const uint8_t *image, size_t len);
 /* The desk: an edit of a drawing.
  *
  * The drawing is the image in the first `len` bytes of `buffer`, in all `room` bytes where `len` is larger, after `count` edits since
- * the start with this `mark`. Accepted: the new image stands at the buffer's front, the edit's message, which bears the mark, in the first
- * 38 bytes of `message`, and `answer` holds the new count, the new image's size, the removed curve and its two ends. What lies beyond is
- * left as it was.
+ * the start with this `mark`; `window` is the desk's. Accepted: the new image stands at the buffer's front, the edit's message, which bears
+ * the mark, in the first 38 bytes of `message` and in the window at the place of its number, the new count, and `answer` holds that count, the
+ * new image's size, the removed curve and its two ends. What lies beyond is left as it was.
  *
  * Refused, in this order: the image's numbers; 6 for an unknown operation; 25 where `message_room` is below 38; 23 where `count` is
- * 4294967295; the edit's numbers, 8 to 24, as it meets them; 25 where `room` is too short for the new image. */
+ * 4294967295; the edit's numbers, 8 to 24, as it meets them; 25 where `room` is too short for the new image. The window refuses nothing,
+ * whatever its bytes are, and a refusal leaves it too. */
 uint32_t mulkefi_desk_edit(uint8_t *buffer, size_t room, size_t len, uint32_t count, uint64_t mark, uint32_t operation, uint32_t curve,
-                           double x, double y, uint8_t *message, size_t message_room, uint32_t answer[5]);
+                           double x, double y, uint8_t *message, size_t message_room, uint8_t window[2432], uint32_t answer[5]);
+
+/* The desk: what is due to a wall that has applied `wall_count` edits since the start with this `mark`; `window` and `count` are the desk's.
+ *
+ * Accepted: the messages with the numbers `wall_count` + 1 to `count`, at most 64, stand one behind the other at the front of `messages`, 38
+ * bytes each and as they were written. They are `count` - `wall_count`, and none where the two are the same, with any `room`. What lies beyond
+ * is left as it was.
+ *
+ * Refused, in this order: 27 where `wall_count` is above `count`; 26 where more than 64 messages are due, or the window does not hold one of
+ * them; 25 where `room` is below 38 bytes for each message due. */
+uint32_t mulkefi_catch_up(const uint8_t window[2432], uint32_t count, uint64_t mark, uint32_t wall_count, uint8_t *messages, size_t room);
 
 /* The wall: a message as it came, whosever it is, to a drawing given as at the desk; `mark` is that of the wall's own desk.
  *

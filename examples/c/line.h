@@ -1,4 +1,4 @@
-/* The drawing of split.c and neighbours.c: points 1 (0, 0) and 2 (4, 0), line 3 between them, next id 4. */
+/* The drawing of split.c, neighbours.c and catch_up.c: points 1 (0, 0) and 2 (4, 0), line 3 between them, next id 4. */
 #include <stdint.h>
 
 static const uint8_t line[] = {

@@ -14,11 +14,12 @@ static uint64_t mark_of(uint32_t desk, uint32_t start)
 /* Starts a desk with the line, and splits it at x. */
 static uint32_t split(uint64_t mark, double x, uint8_t message[MULKEFI_MESSAGE_SIZE])
 {
-    static uint8_t desk[MULKEFI_IMAGE_SIZE];
+    static uint8_t desk[MULKEFI_IMAGE_SIZE], window[MULKEFI_WINDOW_SIZE];
     uint32_t answer[MULKEFI_ANSWER_SIZE];
 
     memcpy(desk, line, sizeof line);
-    return mulkefi_desk_edit(desk, sizeof desk, sizeof line, 0, mark, MULKEFI_SPLIT, 3, x, 0.0, message, MULKEFI_MESSAGE_SIZE, answer);
+    memset(window, 0, sizeof window);
+    return mulkefi_desk_edit(desk, sizeof desk, sizeof line, 0, mark, MULKEFI_SPLIT, 3, x, 0.0, message, MULKEFI_MESSAGE_SIZE, window, answer);
 }
 
 int main(void)

@@ -29,9 +29,10 @@ static const char *const kinds[] = {"", "Coincident", "PointOnCurve", "Collinear
 /* Extends line 3 to line 6, and tells which relation forbids it. */
 static int extend(uint8_t *image, size_t room, size_t len)
 {
+    static uint8_t window[MULKEFI_WINDOW_SIZE];
     uint8_t message[MULKEFI_MESSAGE_SIZE];
     uint32_t answer[MULKEFI_ANSWER_SIZE];
-    uint32_t refusal = mulkefi_desk_edit(image, room, len, 0, mark, MULKEFI_EXTEND, 3, 2.0, 0.0, message, sizeof message, answer);
+    uint32_t refusal = mulkefi_desk_edit(image, room, len, 0, mark, MULKEFI_EXTEND, 3, 2.0, 0.0, message, sizeof message, window, answer);
     uint32_t number = MULKEFI_NUMBER(refusal), place = MULKEFI_PLACE(refusal);
     const uint8_t *relation = image + RELATION_0 + RELATION_SIZE * place;
 

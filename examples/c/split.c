@@ -10,14 +10,15 @@ static const uint64_t mark = 1;
 
 int main(void)
 {
-    static uint8_t desk[MULKEFI_IMAGE_SIZE], wall[MULKEFI_IMAGE_SIZE];
+    static uint8_t desk[MULKEFI_IMAGE_SIZE], wall[MULKEFI_IMAGE_SIZE], window[MULKEFI_WINDOW_SIZE];
     uint8_t message[MULKEFI_MESSAGE_SIZE];
     uint32_t desk_answer[MULKEFI_ANSWER_SIZE], wall_answer[MULKEFI_ANSWER_SIZE], refusal;
     int same;
 
     memcpy(desk, line, sizeof line);
     memcpy(wall, line, sizeof line);
-    refusal = mulkefi_desk_edit(desk, sizeof desk, sizeof line, 0, mark, MULKEFI_SPLIT, 3, 1.0, 3.0, message, sizeof message, desk_answer);
+    refusal = mulkefi_desk_edit(desk, sizeof desk, sizeof line, 0, mark, MULKEFI_SPLIT, 3, 1.0, 3.0, message, sizeof message, window,
+                                desk_answer);
     if (refusal == MULKEFI_ACCEPTED)
         refusal = mulkefi_wall_deliver(wall, sizeof wall, sizeof line, 0, mark, message, sizeof message, wall_answer);
     if (refusal != MULKEFI_ACCEPTED) {

@@ -35,7 +35,8 @@ pub struct Edit {
 ///
 /// Curves that stand and curves that were reported join by the ids of their ends: the pieces of a line
 /// or an arc with which the drawing started make one chain from its old start to its old end, those of
-/// a circle that was cut one ring.
+/// a circle that was cut one ring. At a wall the drawing is that of its last start, and the reports are
+/// those since.
 ///
 /// ```
 /// use mulkefi::{read, Desk, Drawing, Edit, Kind, Mark, Operation};

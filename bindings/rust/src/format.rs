@@ -4,6 +4,20 @@ use std::ops::RangeInclusive;
 
 /// The size of a message.
 pub const MESSAGE_SIZE: usize = 38;
+/// How many messages a desk's window holds: its last ones.
+///
+/// ```
+/// use mulkefi::{MESSAGE_SIZE, WINDOW_MESSAGES, WINDOW_SIZE};
+///
+/// assert_eq!((WINDOW_MESSAGES, WINDOW_SIZE), (64, 64 * MESSAGE_SIZE));
+/// ```
+pub const WINDOW_MESSAGES: usize = 64;
+/// The size of a desk's window. [`Desk::window`](crate::Desk::window) says what stands where.
+///
+/// ```
+/// assert_eq!(mulkefi::WINDOW_SIZE, 2432);
+/// ```
+pub const WINDOW_SIZE: usize = WINDOW_MESSAGES * MESSAGE_SIZE;
 /// The size of the image whose tables are full.
 pub const LARGEST_IMAGE: usize = image_size([MOST_POINTS, MOST_CURVES, MOST_RELATIONS]);
 

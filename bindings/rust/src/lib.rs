@@ -3,7 +3,9 @@
 //! A [`Desk`] and a [`Wall`] start from one image, with one [`Mark`]. Each accepted edit at the desk gives
 //! a message of 38 bytes; the wall that gets it applies the same edit. Messages may be lost, come twice or
 //! out of order: the wall then waits, and asks for nothing but the message after its count. Messages of
-//! other desks may come between: the wall refuses them by their mark.
+//! other desks may come between: the wall refuses them by their mark. The desk keeps its last 64 messages,
+//! from which a wall catches up ([`Desk::catch_up`]); one that is too far back is started again from the
+//! desk's present image and count ([`Wall::start_at`]).
 //!
 //! ```
 //! use mulkefi::{Delivery, Desk, Drawing, Edit, Kind, Mark, Operation, Wall};
@@ -60,7 +62,7 @@ pub use desk::{Accepted, Desk};
 pub use drawing::{Curve, Drawing, Id, Kind, Point, Relation};
 pub use edit::{Edit, Operation, Report};
 pub use fault::{Fault, Table};
-pub use format::{message, LARGEST_IMAGE, MESSAGE_SIZE};
+pub use format::{message, LARGEST_IMAGE, MESSAGE_SIZE, WINDOW_MESSAGES, WINDOW_SIZE};
 pub use magnitude::{largest_magnitude, Magnitude};
 pub use mark::Mark;
 pub use position::{Bounds, Position};
@@ -94,6 +96,38 @@ pub fn versions() -> Versions {
     // SAFETY: the call takes nothing and only answers a number.
     let [.., image, message] = unsafe { raw::mulkefi_versions() }.to_be_bytes();
     Versions { image, message }
+}
+
+/// The number of the engine's interface that this crate is written for: its calls and what they take, which
+/// may be others while the formats' versions stay.
+///
+/// ```
+/// assert_eq!(mulkefi::INTERFACE, 2);
+/// ```
+pub const INTERFACE: u32 = 2;
+
+/// Asks the engine for the number of its interface.
+///
+/// ```
+/// assert_eq!(mulkefi::interface(), mulkefi::INTERFACE);
+/// ```
+pub fn interface() -> u32 {
+    // SAFETY: the call takes nothing and only answers a number.
+    unsafe { raw::mulkefi_interface() }
+}
+
+/// # Panics
+///
+/// If the library has another interface than [`raw`] declares, or other versions than this crate's buffers
+/// are made for.
+fn check_library() {
+    let found = interface();
+    assert_eq!(
+        found, INTERFACE,
+        "the library mulkefi has interface {found}, and this crate calls interface {INTERFACE}"
+    );
+    let found = versions();
+    assert_eq!(found, VERSIONS, "the library mulkefi has other formats' versions than this crate");
 }
 
 /// Asks the engine whether bytes are an image.

@@ -1,11 +1,14 @@
 //! The calls of the static library as its header declares them.
 //!
-//! All but the first and the last answer 0, or a refusal's number, to which 13 and 19 add the place of
-//! the first relation that is not met, times 65,536. A refusal alters nothing of the caller's. Slices
+//! All but the first two and the last answer 0, or a refusal's number, to which 13 and 19 add the place
+//! of the first relation that is not met, times 65,536. A refusal alters nothing of the caller's. Slices
 //! go over as pointer and length; a length of 0 still wants a pointer that is not null. Lent memory
 //! must not overlap.
 
 extern "C" {
+    /// The number of the interface, which is that of these declarations.
+    pub fn mulkefi_interface() -> u32;
+
     /// The image's version, times 256, and the message's.
     pub fn mulkefi_versions() -> u32;
 
@@ -14,7 +17,8 @@ extern "C" {
 
     /// The desk's call on the image in the first `len` of `room` bytes. Accepted, it writes the new
     /// image and the message, which bears the mark, to the buffers' fronts and gives count, image's
-    /// length, removed curve, its start and its end.
+    /// length, removed curve, its start and its end. The message is put into the window of 2,432 bytes
+    /// too, at the place of its number.
     pub fn mulkefi_desk_edit(
         buffer: *mut u8,
         room: usize,
@@ -27,7 +31,20 @@ extern "C" {
         y: f64,
         message: *mut u8,
         message_room: usize,
+        window: *mut u8,
         answer: *mut u32,
+    ) -> u32;
+
+    /// Writes the messages after the wall's count, up to the desk's, to the front of `messages`, from the
+    /// desk's window of 2,432 bytes. Refused by 27 where the wall's count is above the desk's, by 26
+    /// where one of them is not in the window, by 25 where `room` is short of 38 bytes for each.
+    pub fn mulkefi_catch_up(
+        window: *const u8,
+        count: u32,
+        mark: u64,
+        wall_count: u32,
+        messages: *mut u8,
+        room: usize,
     ) -> u32;
 
     /// The wall's call on the image in the first `len` of `room` bytes. Accepted, it writes the new

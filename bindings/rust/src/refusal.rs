@@ -40,6 +40,12 @@ pub enum Refusal {
     Numbers,
     Coordinate,
     Buffer,
+    /// Of [`Desk::catch_up`](crate::Desk::catch_up): the wall is started again from the desk's present image
+    /// and count ([`Wall::start_at`](crate::Wall::start_at)).
+    LeftWindow,
+    /// Of [`Desk::catch_up`](crate::Desk::catch_up): the desk was set back, and needs a new mark, its walls a
+    /// new start.
+    CountAbove,
     Foreign,
     /// A number that this crate does not know: the library is a later one.
     Other {
@@ -84,6 +90,8 @@ impl Refusal {
             23 => Refusal::Numbers,
             24 => Refusal::Coordinate,
             25 => Refusal::Buffer,
+            26 => Refusal::LeftWindow,
+            27 => Refusal::CountAbove,
             28 => Refusal::Foreign,
             number => Refusal::Other { number },
         }
@@ -96,6 +104,8 @@ impl Refusal {
     ///
     /// assert_eq!(Refusal::Tie.number(), 17);
     /// assert_eq!(Refusal::Unmet { place: 4 }.number(), 13);
+    /// assert_eq!(Refusal::LeftWindow.number(), 26);
+    /// assert_eq!(Refusal::CountAbove.number(), 27);
     /// ```
     pub fn number(self) -> u16 {
         match self {
@@ -124,6 +134,8 @@ impl Refusal {
             Refusal::Numbers => 23,
             Refusal::Coordinate => 24,
             Refusal::Buffer => 25,
+            Refusal::LeftWindow => 26,
+            Refusal::CountAbove => 27,
             Refusal::Foreign => 28,
             Refusal::Other { number } => number,
         }
@@ -166,6 +178,8 @@ impl Refusal {
             Refusal::Numbers => "The ids, or the edits' numbers, are used up.",
             Refusal::Coordinate => "A new point would lie out of bounds.",
             Refusal::Buffer => "The buffer is too short.",
+            Refusal::LeftWindow => "The message after the wall's count has left the window.",
+            Refusal::CountAbove => "The wall's count is above the desk's.",
             Refusal::Foreign => "The message is another desk's, by its mark.",
             Refusal::Other { .. } => "The engine gave a number that this crate doesn't know.",
         }
@@ -196,7 +210,7 @@ mod tests {
 
     /// The numbers in use.
     fn numbers() -> impl Iterator<Item = u16> {
-        (1..=25).chain([28])
+        1..=28
     }
 
     #[test]

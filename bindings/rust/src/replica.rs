@@ -21,9 +21,9 @@ pub type Answer = [u32; 5];
 impl Replica {
     /// # Panics
     ///
-    /// If the library is of other versions than the sizes of this crate's buffers.
+    /// If the library is of another interface or other versions than this crate.
     pub fn new(image: &[u8], mark: Mark, count: u32) -> Result<Replica, Refusal> {
-        assert_eq!(crate::versions(), crate::VERSIONS, "the library is of the crate's versions");
+        crate::check_library();
         crate::test(image)?;
         let mut buffer = Box::new([0; LARGEST_IMAGE]);
         // The engine accepts nothing longer; were it otherwise, that is a refusal too.

@@ -9,7 +9,7 @@ use crate::refusal::Refusal;
 use crate::replica::{Answer, Replica};
 use std::fmt;
 
-/// A drawing's image, the mark of its desk, and how many edits were applied since the start.
+/// A drawing's image, the mark of its desk, and how many edits its desk had applied when it showed this.
 #[derive(Clone)]
 pub struct Wall(Replica);
 
@@ -27,12 +27,52 @@ impl Wall {
     ///
     /// # Panics
     ///
-    /// If the library is of other versions than this crate, as in [`Wall::resume`].
+    /// If the library is of another interface or other versions than this crate, as in [`Wall::resume`].
     pub fn start(image: &[u8], mark: Mark) -> Result<Wall, Refusal> {
-        Wall::resume(image, mark, 0)
+        Wall::start_at(image, mark, 0)
+    }
+
+    /// A wall that is started, or started again, from its desk's present image and count, or the refusal of
+    /// the image. Mark, image and count are the desk's at one moment.
+    ///
+    /// Messages up to that count are old to it. Its reports, chains and rings count from this start.
+    ///
+    /// ```
+    /// use mulkefi::{Delivery, Desk, Drawing, Edit, Kind, Mark, Operation, Refusal, Wall};
+    ///
+    /// let mut drawing = Drawing::new();
+    /// let (a, b) = (drawing.add_point(0.0, 0.0), drawing.add_point(100.0, 0.0));
+    /// let curve = drawing.add_curve(Kind::Line { a, b });
+    /// let image = drawing.to_image();
+    /// let mut desk = Desk::start(&image, Mark::from(7))?;
+    /// let mut wall = Wall::start(&image, desk.mark())?;
+    /// let mut split = |x| desk.edit(&Edit { operation: Operation::Split, curve, x, y: 0.0 });
+    ///
+    /// // While the wall is behind a closed door, 65 edits are made.
+    /// for x in 1..=65 {
+    ///     split(100.0 - f64::from(x))?;
+    /// }
+    /// let last = split(1.0)?;
+    /// assert_eq!(desk.catch_up(wall.count()), Err(Refusal::LeftWindow));
+    ///
+    /// wall = Wall::start_at(desk.image(), desk.mark(), desk.count())?;
+    /// assert_eq!((wall.image(), wall.count()), (desk.image(), 66));
+    /// assert_eq!(wall.deliver(&last.message)?, Delivery::Old);
+    /// # Ok::<(), Refusal>(())
+    /// ```
+    ///
+    /// # Panics
+    ///
+    /// If the library is of another interface or other versions than this crate, as in [`Wall::resume`].
+    pub fn start_at(image: &[u8], mark: Mark, count: u32) -> Result<Wall, Refusal> {
+        Replica::new(image, mark, count).map(Wall)
     }
 
     /// A wall as it was left: its image, mark and count.
+    ///
+    /// # Panics
+    ///
+    /// If the library is of another interface or other versions than this crate.
     pub fn resume(image: &[u8], mark: Mark, count: u32) -> Result<Wall, Refusal> {
         Replica::new(image, mark, count).map(Wall)
     }
@@ -46,7 +86,8 @@ impl Wall {
         self.0.mark
     }
 
-    /// The number of the last edit applied. The wall waits for the message with the number after it.
+    /// The number of the last edit that its image has. The wall waits for the message with the number
+    /// after it; where that does not come, [`Desk::catch_up`](crate::Desk::catch_up) has it.
     pub fn count(&self) -> u32 {
         self.0.count
     }

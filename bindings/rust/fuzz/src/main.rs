@@ -4,17 +4,21 @@
 //! lent for reading may not be written. The calls run on a thread with the stack that the header asks
 //! for. After each call: nothing outside of what an accepted call may write has changed, a refused one
 //! has changed nothing, a place comes with 13 and 19 alone and is one of its table's, a delivery is refused
-//! by the numbers of images and messages, 28 among them, just where plain readers in Rust refuse it, and
-//! the call has ended in time. A planted fault stands in for the engine's call, to show that it is seen.
+//! by the numbers of images and messages, 28 among them, just where plain readers in Rust refuse it, an
+//! accepted edit has put its message into the slot of the window that its number has, a catch-up answers and
+//! writes what a plain reading of the window does, and the call has ended in time. A planted fault stands in
+//! for the engine's call, to show that it is seen.
 
 mod answers;
 mod buffers;
 mod calls;
+mod catch_up;
 mod desk;
 mod guard;
 mod inputs;
 mod magnitude;
 mod planted;
+mod planted_catch_ups;
 mod roots;
 mod tally;
 mod test;
@@ -46,7 +50,7 @@ struct Options {
 fn main() -> ExitCode {
     let Some(options) = options() else {
         eprintln!("fuzz [SECONDS [SEED]] [--planted FAULT]");
-        planted::ALL.iter().for_each(|(name, what)| eprintln!("  {name:<20} {what}"));
+        planted::all().for_each(|(name, what)| eprintln!("  {name:<21} {what}"));
         return ExitCode::from(2);
     };
     watchdog::begin(options.seed, options.time_limit);
@@ -94,6 +98,7 @@ fn run(options: &Options, tally: &mut Tally) -> Result<(), String> {
     let end = Instant::now() + Duration::from_secs(options.seconds);
     let mut random = Random::new(options.seed);
     let mut desk = desk::Subject::new();
+    let mut catch_up = catch_up::Subject::new();
     let mut wall = wall::Subject::new();
     let mut test = test::Subject::new();
     let mut roots = roots::Subject::new();
@@ -103,13 +108,17 @@ fn run(options: &Options, tally: &mut Tally) -> Result<(), String> {
         if mulkefi::versions() != mulkefi::VERSIONS {
             return Err("mulkefi_versions: other versions".into());
         }
+        if mulkefi::interface() != mulkefi::INTERFACE {
+            return Err("mulkefi_interface: another interface".into());
+        }
         for _ in 0..64 {
             watchdog::next_case();
-            let (name, outcome) = match random.below(9) {
+            let (name, outcome) = match random.below(11) {
                 0..=2 => ("desk_edit", desk.try_one(calls, &mut random)),
                 3..=5 => ("wall_deliver", wall.try_one(calls, &mut random)),
-                6 => ("test", test.try_one(calls, &mut random)),
-                7 => ("roots", roots.try_one(calls, &mut random)),
+                6 | 7 => ("catch_up", catch_up.try_one(calls, &mut random)),
+                8 => ("test", test.try_one(calls, &mut random)),
+                9 => ("roots", roots.try_one(calls, &mut random)),
                 _ => ("largest_magnitude", magnitude.try_one(calls, &mut random)),
             };
             tally.add(name, outcome.map_err(|fault| format!("mulkefi_{name}: {fault}"))?);

@@ -1,11 +1,18 @@
 //! Wrong callees, each the engine's call with one fault.
 
 use crate::calls::{Calls, ENGINE};
+use crate::planted_catch_ups;
 use mulkefi::message::{MARK_AT, NUMBER_AT, OPERATION_AT};
-use mulkefi::{raw, Mark};
+use mulkefi::{raw, Mark, MESSAGE_SIZE, WINDOW_SIZE};
+use window_cases::plain::{slot, Window};
 
 /// Names, and what each does.
-pub const ALL: [(&str, &str); 19] = [
+pub fn all() -> impl Iterator<Item = (&'static str, &'static str)> {
+    let catch_ups = planted_catch_ups::ALL.into_iter().map(|(name, what, _)| (name, what));
+    OTHERS.into_iter().chain(catch_ups)
+}
+
+const OTHERS: [(&str, &str); 23] = [
     ("writes-behind", "an accepted edit writes the byte behind its buffer"),
     ("writes-before", "an accepted edit writes the byte before its buffer"),
     ("writes-rest", "an accepted edit writes the byte behind the new image"),
@@ -14,6 +21,10 @@ pub const ALL: [(&str, &str); 19] = [
     ("broken-place", "an edit's 19 has the place behind the pin"),
     ("other-place", "a refused edit's 18 has a place"),
     ("swapped-mark", "an accepted edit writes the mark with its lowest byte first"),
+    ("slid-63", "an accepted edit puts message n into slot n % 63"),
+    ("slid-twice", "an accepted edit empties the slot behind that of its message"),
+    ("slid-refused", "a refused edit puts something into the window"),
+    ("writes-window-behind", "an accepted edit writes the byte behind the window"),
     ("refused-answer", "a refused delivery writes to the answer"),
     ("reads-behind", "a delivery reads the byte behind the message"),
     ("operation-first", "a foreign message with number 0 or an unknown operation is refused by 6"),
@@ -28,6 +39,10 @@ pub const ALL: [(&str, &str); 19] = [
 ];
 
 pub fn by_name(name: &str) -> Option<Calls> {
+    let mut catch_ups = planted_catch_ups::ALL.into_iter();
+    if let Some((.., catch_up)) = catch_ups.find(|(planted, ..)| *planted == name) {
+        return Some(Calls { catch_up, ..ENGINE });
+    }
     Some(match name {
         "writes-behind" => Calls { desk_edit: edit_with::<WRITES_BEHIND>, ..ENGINE },
         "writes-before" => Calls { desk_edit: edit_with::<WRITES_BEFORE>, ..ENGINE },
@@ -37,6 +52,10 @@ pub fn by_name(name: &str) -> Option<Calls> {
         "broken-place" => Calls { desk_edit: edit_with::<BROKEN_PLACE>, ..ENGINE },
         "other-place" => Calls { desk_edit: edit_with::<OTHER_PLACE>, ..ENGINE },
         "swapped-mark" => Calls { desk_edit: edit_with::<SWAPPED_MARK>, ..ENGINE },
+        "slid-63" => Calls { desk_edit: edit_with::<SLID_63>, ..ENGINE },
+        "slid-twice" => Calls { desk_edit: edit_with::<SLID_TWICE>, ..ENGINE },
+        "slid-refused" => Calls { desk_edit: edit_with::<SLID_REFUSED>, ..ENGINE },
+        "writes-window-behind" => Calls { desk_edit: edit_with::<WINDOW_BEHIND>, ..ENGINE },
         "refused-answer" => Calls { wall_deliver: deliver_with::<REFUSED_ANSWER>, ..ENGINE },
         "reads-behind" => Calls { wall_deliver: deliver_with::<READS_BEHIND>, ..ENGINE },
         "operation-first" => Calls { wall_deliver: deliver_with::<OPERATION_FIRST>, ..ENGINE },
@@ -60,6 +79,10 @@ const UNMET_PLACE: u8 = 4;
 const BROKEN_PLACE: u8 = 5;
 const OTHER_PLACE: u8 = 6;
 const SWAPPED_MARK: u8 = 7;
+const SLID_63: u8 = 8;
+const SLID_TWICE: u8 = 9;
+const SLID_REFUSED: u8 = 10;
+const WINDOW_BEHIND: u8 = 11;
 
 unsafe extern "C" fn edit_with<const FAULT: u8>(
     buffer: *mut u8,
@@ -73,8 +96,10 @@ unsafe extern "C" fn edit_with<const FAULT: u8>(
     y: f64,
     message: *mut u8,
     message_room: usize,
+    window: *mut u8,
     answer: *mut u32,
 ) -> u32 {
+    let kept: Window = window.cast::<Window>().read();
     let result = raw::mulkefi_desk_edit(
         buffer,
         room,
@@ -87,6 +112,7 @@ unsafe extern "C" fn edit_with<const FAULT: u8>(
         y,
         message,
         message_room,
+        window,
         answer,
     );
     let number = result & 0xffff;
@@ -101,7 +127,22 @@ unsafe extern "C" fn edit_with<const FAULT: u8>(
         (UNMET_PLACE, _) if number == 13 => return at_place(number, relations(buffer)),
         (BROKEN_PLACE, _) if number == 19 => return at_place(number, relations(buffer) + 1),
         (OTHER_PLACE, 18) => return at_place(number, 1),
-        (SWAPPED_MARK, 0) => message.add(MARK_AT).cast::<u64>().write_unaligned(mark.to_le()),
+        (SWAPPED_MARK, 0) => {
+            message.add(MARK_AT).cast::<u64>().write_unaligned(mark.to_le());
+            window.add(slot(*answer).start).copy_from(message, MESSAGE_SIZE);
+        }
+        (SLID_63, 0) => {
+            window.copy_from(kept.as_ptr(), WINDOW_SIZE);
+            window.add(MESSAGE_SIZE * (*answer % 63) as usize).copy_from(message, MESSAGE_SIZE);
+        }
+        (SLID_TWICE, 0) => {
+            window.add(slot((*answer).wrapping_add(1)).start).write_bytes(0, MESSAGE_SIZE);
+        }
+        (SLID_REFUSED, 1..) => {
+            let next = window.add(slot(count.wrapping_add(1)).start);
+            next.write_volatile(!next.read());
+        }
+        (WINDOW_BEHIND, 0) => window.add(WINDOW_SIZE).write_volatile(0),
         _ => {}
     }
     result

@@ -7,11 +7,14 @@
 
 use crate::footbridge::footbridge;
 use mulkefi::{Drawing, Edit, Id, Kind, Operation, Relation};
+use std::ops::Range;
 
 pub struct Bridge {
     pub name: &'static str,
     pub drawing: Drawing,
     pub script: Vec<Edit>,
+    /// The wall's door is shut while the desk's count is one of these. The script comes to their end.
+    pub shut: Range<u32>,
 }
 
 pub fn all() -> [Bridge; 3] {
@@ -26,7 +29,7 @@ pub const EAST: f64 = 140.0;
 impl Bridge {
     /// Water and a deck's underside.
     pub fn new(name: &'static str) -> Bridge {
-        let mut bridge = Bridge { name, drawing: Drawing::new(), script: Vec::new() };
+        let mut bridge = Bridge { name, drawing: Drawing::new(), script: Vec::new(), shut: 0..0 };
         let water = bridge.line((WEST - 4.0, 0.0), (EAST + 4.0, 0.0));
         bridge.set_construction(water);
         bridge.line((WEST, UNDERSIDE), (EAST, UNDERSIDE));
@@ -42,7 +45,7 @@ impl Bridge {
         self.drawing.add_curve(Kind::Line { a, b })
     }
 
-    fn circle(&mut self, centre: (f64, f64), radius: f64) -> Id {
+    pub fn circle(&mut self, centre: (f64, f64), radius: f64) -> Id {
         let c = self.point(centre);
         self.drawing.add_curve(Kind::Circle { c, radius })
     }
@@ -113,6 +116,8 @@ fn round_arch() -> Bridge {
     bridge.then(Operation::Split, rib, (60.0, 40.0));
     bridge.relate(Relation::Length { line: deck, value: EAST - WEST });
     water_gauge(&mut bridge, 65.0);
+    // While most of the hangers and the first of the bank arches are cut.
+    bridge.shut = 4..14;
     bridge
 }
 

@@ -18,12 +18,15 @@ pub fn of(simulations: &[Simulation]) -> String {
     for (row, simulation) in simulations.iter().enumerate() {
         let top = GAP + row as f64 * row_height;
         let desk = format!("{}, desk, {} edits", simulation.name(), simulation.desk_count());
+        let started = simulation.tally.started_again.last();
+        let started = started.map_or(String::new(), |count| format!(", started again at {count}"));
         let wall = format!("{}, wall, {} edits", simulation.name(), simulation.wall_count());
+        let wall = wall + &started;
         panel(&mut sheet, (GAP, top), &desk, &simulation.desk_snapshot());
         panel(&mut sheet, (2.0 * GAP + WIDTH, top), &wall, &simulation.wall_snapshot());
     }
-    let foot = "Red and dashed: pieces cut away. Brown: arcs and circles. Blue: freeform curves. \
-                Wide and pink: the relation that the desk's last refusal by 13 or 19 names, as it was then.";
+    let foot = "Red and dashed: cut away, on a wall since its last start. Brown: arcs and circles. Blue: freeform \
+                curves. Wide and pink: the relation that the desk's last 13 or 19 names, as it was then.";
     sheet.text(Position::new(GAP, rows * row_height + CAPTION), foot);
     sheet.finish()
 }
@@ -65,5 +68,14 @@ mod tests {
             let (_, after) = picture.split_once(", wall, ").expect("the wall's caption");
             assert!(!after.contains("class=\"highlight"), "{words}");
         }
+    }
+
+    #[test]
+    fn a_wall_that_was_started_again_says_so() {
+        let mut hall = Hall::new(bridges::all(), 1).expect("bridges are good images");
+        hall.run_scripts().expect("the walls are refused nothing but what is ahead or foreign");
+        let picture = of(&hall.simulations);
+        assert_eq!(picture.matches(", started again at 69<").count(), 1);
+        assert_eq!(picture.matches("started again").count(), 1);
     }
 }

@@ -10,8 +10,11 @@ use oracle::message::{self, Edit, Operation, OPERATION_AT};
 use oracle::refusal::{number_of, Refusal};
 use oracle::steps::{State, Step};
 use oracle::unmet::Unmet;
+use window_cases::plain::{slide, Window};
+use window_cases::WindowState;
 
-const COUNT: u32 = 41;
+/// Counts before a call, the messages after which stand in the first, in the last and in other slots.
+const COUNTS: [u32; 6] = [0, 41, 62, 63, 64, 1 << 20];
 /// What buffers hold before a call.
 const FILL: u8 = 0xa5;
 
@@ -28,20 +31,22 @@ struct Case {
 struct Memory {
     buffer: Vec<u8>,
     message: Vec<u8>,
+    /// The desk's, which a wall's call is not lent.
+    window: Box<Window>,
     answer: [u32; 5],
 }
 
 pub fn compare(random: &mut Random, count: usize, seen: &mut Coverage) -> Result<(), String> {
     for _ in 0..count {
         let case = case(random);
-        let memory = memory(random, &case.call);
+        let memory = memory(random, &case);
         let expected = by_oracle(&case, &memory);
         let found = by_engine(&case, memory.clone());
         if expected != found {
             return Err(format!("{case:?}, {memory:?}\n  oracle {expected:?}\n  engine {found:?}"));
         }
         let number = match expected {
-            (0, Memory { answer: [COUNT, ..], .. }) => OLD,
+            (0, Memory { answer: [count, ..], .. }) if count == case.state.count => OLD,
             (answered, _) => answered & 0xffff,
         };
         seen.add(if case.delivered.is_none() { "desk" } else { "wall" }, number);
@@ -57,7 +62,8 @@ pub fn compare(random: &mut Random, count: usize, seen: &mut Coverage) -> Result
 
 fn case(random: &mut Random) -> Case {
     let call = if random.one_in(2) { calls::cut(random) } else { calls::extension(random) };
-    let state = State { image: call.image.clone(), mark: marks::mark(random), count: COUNT };
+    let (mark, count) = (marks::mark(random), random.pick(&COUNTS));
+    let state = State { image: call.image.clone(), mark, count };
     let delivered = random.one_in(2).then(|| delivered(random, &call, &state));
     Case { call, state, delivered }
 }
@@ -73,8 +79,9 @@ fn delivered(random: &mut Random, call: &Call, state: &State) -> Vec<u8> {
     bytes
 }
 
-/// Room for the image that will be there, one byte less or more, or just the image that is there.
-fn memory(random: &mut Random, call: &Call) -> Memory {
+/// Room for the image that will be there, one byte less or more, or just the image that is there; any
+/// window.
+fn memory(random: &mut Random, Case { call, state, .. }: &Case) -> Memory {
     let held = call.image.len();
     let after = call.outcome().map_or(held, |(drawing, _)| image::size(&drawing));
     let exact = after.max(held);
@@ -84,7 +91,9 @@ fn memory(random: &mut Random, call: &Call) -> Memory {
     buffer[..held].copy_from_slice(&call.image);
     let size = message::SIZE;
     let lent = random.weighted(&[(12, size), (2, size + 1), (2, 64), (1, size - 1), (1, 0)]);
-    Memory { buffer, message: vec![FILL; lent], answer: [7; 5] }
+    let State { mark, count, .. } = *state;
+    let window = random.pick(&WindowState::ALL).window(random, count, mark, count);
+    Memory { buffer, message: vec![FILL; lent], window, answer: [7; 5] }
 }
 
 /// What the oracle expects, in the order that the interface has: image, operation, edit, then room.
@@ -107,6 +116,9 @@ fn by_oracle(case: &Case, before: &Memory) -> (u32, Memory) {
         return (Refusal::Buffer.number().into(), before.clone());
     };
     front.copy_from_slice(&state.image);
+    if delivered.is_none() {
+        slide(&mut after.window, state.count, &after.message[..message::SIZE]);
+    }
     let [start, end] = report.ends;
     after.answer = [state.count, state.image.len() as u32, report.removed, start, end];
     (0, after)
@@ -116,15 +128,17 @@ fn by_engine(case: &Case, mut memory: Memory) -> (u32, Memory) {
     let Case { call, state: State { image, mark, count }, delivered } = case;
     let Call { operation, curve, x, y, .. } = *call;
     let (len, mark, count) = (image.len(), *mark, *count);
-    let Memory { buffer, message, answer } = &mut memory;
+    let Memory { buffer, message, window, answer } = &mut memory;
     let (bytes, room, answer) = (buffer.as_mut_ptr(), buffer.len(), answer.as_mut_ptr());
-    // SAFETY: all that is lent is apart, and its lengths are its own.
+    // SAFETY: all that is lent is apart, and its lengths are its own; the window has the bytes of one.
     let number = unsafe {
         match delivered {
             None => {
-                let (out, lent) = (message.as_mut_ptr(), message.len());
+                let (out, lent, window) =
+                    (message.as_mut_ptr(), message.len(), window.as_mut_ptr());
                 raw::mulkefi_desk_edit(
-                    bytes, room, len, count, mark, operation, curve, x, y, out, lent, answer,
+                    bytes, room, len, count, mark, operation, curve, x, y, out, lent, window,
+                    answer,
                 )
             }
             Some(came) => {

@@ -9,10 +9,13 @@ use oracle::image;
 use oracle::message::{self, Edit, Operation};
 use oracle::steps::State;
 use oracle::unmet::Unmet;
+use window_cases::plain::Window;
+use window_cases::WindowState;
 
 #[derive(Debug)]
 pub enum Asked {
-    Edit(Edit),
+    /// At a desk with this window.
+    Edit(Edit, Box<Window>),
     Deliver(Vec<u8>),
 }
 
@@ -25,7 +28,7 @@ pub struct Case {
 impl Case {
     pub fn outcome_of<I: Implementation>(&self) -> Outcome {
         match &self.asked {
-            Asked::Edit(edit) => I::edit(&self.state, edit),
+            Asked::Edit(edit, window) => I::edit(&self.state, window, edit),
             Asked::Deliver(message) => I::deliver(&self.state, message),
         }
     }
@@ -33,7 +36,7 @@ impl Case {
     /// The edit that is asked for; of a message, if it can be read.
     fn edit(&self) -> Option<Edit> {
         match &self.asked {
-            Asked::Edit(edit) => Some(*edit),
+            Asked::Edit(edit, _) => Some(*edit),
             Asked::Deliver(bytes) => {
                 message::read(bytes, self.state.mark).ok().map(|read| read.edit)
             }
@@ -47,7 +50,7 @@ impl Case {
             seen.add_place(&unmet);
         }
         match &self.asked {
-            Asked::Edit(_) => Ok(()),
+            Asked::Edit(..) => Ok(()),
             Asked::Deliver(bytes) => deliveries::add(bytes, &self.state, seen),
         }
     }
@@ -80,7 +83,9 @@ fn edit_of_state(random: &mut Random) -> (State, Edit) {
 
 pub fn desk(random: &mut Random) -> Case {
     let (state, edit) = edit_of_state(random);
-    Case { state, asked: Asked::Edit(edit) }
+    let window = random.pick(&WindowState::ALL);
+    let window = window.window(random, state.count, state.mark, state.count);
+    Case { state, asked: Asked::Edit(edit, window) }
 }
 
 pub fn wall(random: &mut Random) -> Case {

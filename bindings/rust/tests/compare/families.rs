@@ -13,7 +13,7 @@ use oracle::{image, message};
 use std::fmt;
 
 /// How a device's report is taken, by the drawing before the edit.
-type ReportView = fn(&Drawing, mulkefi::Report) -> Report;
+pub type ReportView = fn(&Drawing, mulkefi::Report) -> Report;
 
 /// What came up: outcomes, and the families at the ends of the lists.
 #[derive(Default)]
@@ -53,7 +53,7 @@ pub fn planted_faults_are_seen() -> Result<(), String> {
     Ok(())
 }
 
-fn as_reported(_: &Drawing, report: mulkefi::Report) -> Report {
+pub fn as_reported(_: &Drawing, report: mulkefi::Report) -> Report {
     Report { removed: report.removed, ends: [report.start, report.end] }
 }
 
@@ -89,25 +89,33 @@ fn check_views(
     })
 }
 
-/// The families of a device's drawing, by the edits that it applied and its own reports of them.
-struct DeviceFamilies {
+/// The families of a device's drawing since its start, by the edits that it applied and its own reports of
+/// them.
+pub struct DeviceFamilies {
     name: &'static str,
-    drawing: Drawing,
-    families: Families,
-    applied: u32,
+    pub drawing: Drawing,
+    pub families: Families,
+    /// The device's count.
+    count: u32,
     view: ReportView,
-    counts: FamilyCounts,
+    pub counts: FamilyCounts,
 }
 
 impl DeviceFamilies {
-    fn start(name: &'static str, drawing: &Drawing, view: ReportView) -> Result<Self, String> {
+    /// Of a device that starts with a drawing and a count.
+    pub fn start(
+        name: &'static str,
+        drawing: &Drawing,
+        count: u32,
+        view: ReportView,
+    ) -> Result<Self, String> {
         let families = Families::new(drawing);
         let counts = families.check(drawing)?;
-        Ok(DeviceFamilies { name, drawing: drawing.clone(), families, applied: 0, view, counts })
+        Ok(DeviceFamilies { name, drawing: drawing.clone(), families, count, view, counts })
     }
 
     /// Takes the image and the count after a call, with target and report if it applied an edit.
-    fn check(
+    pub fn check(
         &mut self,
         (image, count): (&[u8], u32),
         applied: Option<(Id, mulkefi::Report)>,
@@ -117,10 +125,10 @@ impl DeviceFamilies {
         if let Some((target, report)) = applied {
             let report = (self.view)(&self.drawing, report);
             self.families.follow(&self.drawing, &after, target, &report);
-            self.applied += 1;
+            self.count += 1;
         }
-        if count != self.applied {
-            return Err(named(format!("the count is {count} after {} edits", self.applied)));
+        if count != self.count {
+            return Err(named(format!("the count is {count} after {} edits", self.count)));
         }
         self.counts = self.families.check(&after).map_err(named)?;
         self.drawing = after;
@@ -149,8 +157,8 @@ impl DeskAndWall {
         Ok(DeskAndWall {
             desk: Desk::start(&image, mark.into()).map_err(refused)?,
             wall: Wall::start(&image, mark.into()).map_err(refused)?,
-            at_desk: DeviceFamilies::start("desk", drawing, at_desk)?,
-            at_wall: DeviceFamilies::start("wall", drawing, at_wall)?,
+            at_desk: DeviceFamilies::start("desk", drawing, 0, at_desk)?,
+            at_wall: DeviceFamilies::start("wall", drawing, 0, at_wall)?,
             asked: Vec::new(),
             messages: Vec::new(),
         })

@@ -5,6 +5,7 @@ use oracle::message::{Edit, Operation};
 use oracle::steps::{State, Step};
 use std::fmt;
 use std::marker::PhantomData;
+use window_cases::plain::{slide, slot, Window};
 
 /// All that a call answers and leaves.
 #[derive(Clone, PartialEq)]
@@ -15,6 +16,8 @@ pub struct Outcome {
     pub report: [u32; 3],
     pub message: Vec<u8>,
     pub state: State,
+    /// The desk's; a wall has none.
+    pub window: Option<Box<Window>>,
 }
 
 impl Outcome {
@@ -25,52 +28,56 @@ impl Outcome {
         }
     }
 
-    fn refused(refusal: mulkefi::Refusal, state: &State) -> Outcome {
+    fn refused(refusal: mulkefi::Refusal, state: State, window: Option<Box<Window>>) -> Outcome {
         let place = refusal.place().unwrap_or(0) as u32;
         let answer = u32::from(refusal.number()) + (place << 16);
-        let (report, message) = ([0; 3], Vec::new());
-        Outcome { answer, old: false, report, message, state: state.clone() }
+        Outcome { answer, old: false, report: [0; 3], message: Vec::new(), state, window }
     }
 }
 
 impl fmt::Debug for Outcome {
     fn fmt(&self, f: &mut fmt::Formatter<'_>) -> fmt::Result {
-        let Outcome { answer, old, report, message, state } = self;
+        let Outcome { answer, old, report, message, state, window } = self;
         let (number, place) = (answer & 0xffff, answer >> 16);
         write!(
             f,
             "{number}, place {place}, old {old}, report {report:?}, message {message:02x?}, "
         )?;
         let State { image, mark, count } = state;
-        write!(f, "mark {mark:016x}, count {count}, image {image:02x?}")
+        write!(f, "mark {mark:016x}, count {count}, image {image:02x?}, window {window:02x?}")
     }
 }
 
 pub trait Implementation {
-    fn edit(state: &State, edit: &Edit) -> Outcome;
+    fn edit(state: &State, window: &Window, edit: &Edit) -> Outcome;
     fn deliver(state: &State, message: &[u8]) -> Outcome;
 }
 
+/// The oracle, beside which the window is slid by the plain reading.
 pub struct Oracle;
 
 impl Oracle {
-    fn outcome(step: Step, message: Vec<u8>) -> Outcome {
+    fn outcome(step: Step, message: Vec<u8>, window: Option<Box<Window>>) -> Outcome {
         let Step { answer, old, report, state } = step;
         let [start, end] = report.ends;
-        Outcome { answer, old, report: [report.removed, start, end], message, state }
+        Outcome { answer, old, report: [report.removed, start, end], message, state, window }
     }
 }
 
 impl Implementation for Oracle {
-    fn edit(state: &State, edit: &Edit) -> Outcome {
+    fn edit(state: &State, window: &Window, edit: &Edit) -> Outcome {
         let mut message = vec![0; MESSAGE_SIZE];
+        let mut window = Box::new(*window);
         let step = state.edit(edit, &mut message);
-        let message = if step.answer == 0 { message } else { Vec::new() };
-        Oracle::outcome(step, message)
+        match step.answer {
+            0 => slide(&mut window, step.state.count, &message),
+            _ => message.clear(),
+        }
+        Oracle::outcome(step, message, Some(window))
     }
 
     fn deliver(state: &State, message: &[u8]) -> Outcome {
-        Oracle::outcome(state.deliver(message), Vec::new())
+        Oracle::outcome(state.deliver(message), Vec::new(), None)
     }
 }
 
@@ -95,11 +102,12 @@ impl Engine {
         let outcome = desk.edit(&edit_of(edit));
         let (mark, count) = (desk.mark().into(), desk.count());
         let state = State { image: desk.image().to_vec(), mark, count };
+        let window = Some(Box::new(*desk.window()));
         match outcome {
-            Err(refusal) => Outcome::refused(refusal, &state),
+            Err(refusal) => Outcome::refused(refusal, state, window),
             Ok(accepted) => {
                 let (report, message) = (numbers(accepted.report), accepted.message.to_vec());
-                Outcome { answer: 0, old: false, report, message, state }
+                Outcome { answer: 0, old: false, report, message, state, window }
             }
         }
     }
@@ -109,26 +117,26 @@ impl Engine {
         let (mark, count) = (wall.mark().into(), wall.count());
         let state = State { image: wall.image().to_vec(), mark, count };
         let (old, report) = match outcome {
-            Err(refusal) => return Outcome::refused(refusal, &state),
+            Err(refusal) => return Outcome::refused(refusal, state, None),
             Ok(Delivery::Old) => (true, [0; 3]),
             Ok(Delivery::Applied(report)) => (false, numbers(report)),
         };
-        Outcome { answer: 0, old, report, message: Vec::new(), state }
+        Outcome { answer: 0, old, report, message: Vec::new(), state, window: None }
     }
 }
 
 impl Implementation for Engine {
-    fn edit(state: &State, edit: &Edit) -> Outcome {
-        match Desk::resume(&state.image, state.mark.into(), state.count) {
+    fn edit(state: &State, window: &Window, edit: &Edit) -> Outcome {
+        match Desk::resume(&state.image, state.mark.into(), state.count, window) {
             Ok(mut desk) => Engine::edit_at(&mut desk, edit),
-            Err(refusal) => Outcome::refused(refusal, state),
+            Err(refusal) => Outcome::refused(refusal, state.clone(), Some(Box::new(*window))),
         }
     }
 
     fn deliver(state: &State, message: &[u8]) -> Outcome {
         match Wall::resume(&state.image, state.mark.into(), state.count) {
             Ok(mut wall) => Engine::deliver_to(&mut wall, message),
-            Err(refusal) => Outcome::refused(refusal, state),
+            Err(refusal) => Outcome::refused(refusal, state.clone(), None),
         }
     }
 }
@@ -156,12 +164,35 @@ impl Fault for WithoutPlace {
     }
 }
 
+/// An accepted edit's message put into the slot behind its own.
+pub struct SlotBehind;
+
+impl Fault for SlotBehind {
+    fn alter(outcome: &mut Outcome) {
+        if let (0, Some(window)) = (outcome.answer, &mut outcome.window) {
+            slide(window, outcome.state.count.wrapping_add(1), &outcome.message);
+        }
+    }
+}
+
+/// The message that a refused edit would have had put into the window.
+pub struct SlidesRefused;
+
+impl Fault for SlidesRefused {
+    fn alter(outcome: &mut Outcome) {
+        if let (1.., Some(window)) = (outcome.answer, &mut outcome.window) {
+            let number = outcome.state.count.wrapping_add(1);
+            window[slot(number)][0] ^= 1;
+        }
+    }
+}
+
 /// The crate with a fault.
 pub struct Planted<F>(PhantomData<F>);
 
 impl<F: Fault> Implementation for Planted<F> {
-    fn edit(state: &State, edit: &Edit) -> Outcome {
-        let mut outcome = Engine::edit(state, edit);
+    fn edit(state: &State, window: &Window, edit: &Edit) -> Outcome {
+        let mut outcome = Engine::edit(state, window, edit);
         F::alter(&mut outcome);
         outcome
     }
@@ -177,8 +208,8 @@ impl<F: Fault> Implementation for Planted<F> {
 pub struct LowHalfOfMark;
 
 impl Implementation for LowHalfOfMark {
-    fn edit(state: &State, edit: &Edit) -> Outcome {
-        Engine::edit(state, edit)
+    fn edit(state: &State, window: &Window, edit: &Edit) -> Outcome {
+        Engine::edit(state, window, edit)
     }
 
     fn deliver(state: &State, message: &[u8]) -> Outcome {

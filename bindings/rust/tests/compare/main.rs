@@ -1,33 +1,49 @@
 //! Desk, wall, the C interface, the search for roots and the largest magnitude against the oracle, on
-//! generated input; and the families of curves at desk and wall.
+//! generated input; catch-ups against a plain reading of the window; the families of curves at desk and
+//! wall; and whole halls with walls that catch up and are started again.
 //!
 //! `cargo test --release --test compare -- CASES SEED`; the cases are also taken from MULKEFI_CASES.
 //! Of so many cases a quarter each are desk calls, deliveries, calls with rooms of every size and
-//! searches; as many again are lists of numbers, and a further one in forty is a whole run. For each
-//! case five lists of edits are followed, whose families need no upstream source. What came up is
-//! printed by outcome; where messages are many, every kind of foreign one must be among them.
+//! searches; as many again are lists of numbers, and a further one in forty is a whole run. For each case
+//! there are ten catch-ups, five lists of edits are followed, and for each five one hall; these need no
+//! upstream source. What came up is printed by outcome; where messages are many, every kind of foreign one
+//! must be among them, and where catch-ups or halls are many, every kind of these.
 
 mod boundary;
 mod cases;
+mod catch_up_coverage;
+mod catch_ups;
 mod coverage;
 mod deliveries;
 mod families;
+mod faulty_hosts;
+mod hall_counts;
+mod hall_edits;
+mod halls;
+mod hosts;
 mod implementations;
 mod magnitudes;
 mod runs;
 mod searches;
 
+use catch_up_coverage::CatchUpCoverage;
 use coverage::Coverage;
+use hall_counts::HallCounts;
 use implementations::{
-    Engine, Implementation, LowHalfOfMark, Oracle, Planted, SwappedEnds, WithoutPlace,
+    Engine, Implementation, LowHalfOfMark, Oracle, Planted, SlidesRefused, SlotBehind, SwappedEnds,
+    WithoutPlace,
 };
 use oracle::generate::random::Random;
 use oracle::upstream;
 use std::process::ExitCode;
 
 const CASES: usize = 20_000;
+/// Catch-ups for so many cases.
+const CATCH_UPS: usize = 200_000;
 /// Lists of edits whose families are followed, for so many cases.
 const LISTS: usize = 100_000;
+/// Whole halls for so many cases.
+const HALLS: usize = 4_000;
 
 fn main() -> ExitCode {
     // Other arguments are the test harness's.
@@ -51,8 +67,28 @@ fn run(cases: usize, seed: u64) -> Result<(), String> {
     } else {
         println!("no upstream source: the comparison of desk and wall is skipped");
     }
+    compare_catch_ups(cases * CATCH_UPS / CASES, seed)?;
+    catch_ups::planted_faults_are_seen()?;
     check_families(cases * LISTS / CASES, seed)?;
-    families::planted_faults_are_seen()
+    families::planted_faults_are_seen()?;
+    check_halls(cases * HALLS / CASES, seed)?;
+    halls::planted_faults_are_seen()
+}
+
+fn compare_catch_ups(count: usize, seed: u64) -> Result<(), String> {
+    let mut seen = CatchUpCoverage::default();
+    catch_ups::compare(&mut Random::new(seed), count, &mut seen)
+        .map_err(|difference| format!("catch-ups: {difference}"))?;
+    print!("catch-ups: {} compared, no difference\n{seen}", seen.cases);
+    Ok(())
+}
+
+fn check_halls(halls: usize, seed: u64) -> Result<(), String> {
+    let mut seen = HallCounts::default();
+    halls::check(&mut Random::new(seed), halls, &mut seen)
+        .map_err(|fault| format!("halls: {fault}"))?;
+    print!("halls: {halls} followed, walls alike after every delivery and start\n{seen}");
+    Ok(())
 }
 
 fn check_families(lists: usize, seed: u64) -> Result<(), String> {
@@ -111,6 +147,8 @@ fn planted_faults_are_seen() -> Result<(), String> {
         planted_fault_is_seen::<Planted<WithoutPlace>>("no place", case)?;
     }
     planted_fault_is_seen::<LowHalfOfMark>("low half of the mark", cases::wall)?;
+    planted_fault_is_seen::<Planted<SlotBehind>>("the slot behind", cases::desk)?;
+    planted_fault_is_seen::<Planted<SlidesRefused>>("slid by a refused edit", cases::desk)?;
     println!("planted faults: seen at desk and wall");
     Ok(())
 }

@@ -7,6 +7,7 @@ use mulkefi::{Desk, Wall};
 use oracle::generate::{random::Random, runs::Run};
 use oracle::image;
 use oracle::steps::State;
+use window_cases::plain;
 
 pub fn compare(random: &mut Random, count: usize, seen: &mut Coverage) -> Result<(), String> {
     (0..count).try_for_each(|_| compare_run(&Run::any(random), seen))
@@ -16,12 +17,12 @@ fn compare_run(run: &Run, seen: &mut Coverage) -> Result<(), String> {
     let start = State { image: image::to_bytes(&run.start), mark: run.mark, count: 0 };
     let mut desk = begin(Desk::start(&start.image, run.mark.into()))?;
     let mut wall = begin(Wall::start(&start.image, run.mark.into()))?;
-    let mut state = start.clone();
+    let (mut state, mut window) = (start.clone(), Box::new([0; plain::SIZE]));
     for (edit, _) in &run.calls {
-        let expected = Oracle::edit(&state, edit);
+        let expected = Oracle::edit(&state, &window, edit);
         same(&expected, &Engine::edit_at(&mut desk, edit))?;
         seen.add("desk", expected.number());
-        state = expected.state;
+        (state, window) = (expected.state, expected.window.expect("a desk has a window"));
     }
     state = start;
     for message in &run.deliveries {
