@@ -8,6 +8,7 @@ use oracle::drawing::{Drawing, Id};
 use oracle::edit::{apply, edit_sketch};
 use oracle::generate::{bridges, edits, random::Random};
 use oracle::message::{self, Edit, Mark, Message, Operation};
+use oracle::window::Window;
 use oracle::{upstream, validity};
 
 const BRIDGES: usize = 8;
@@ -73,12 +74,13 @@ impl Sample {
         message::to_bytes(&Message { number, edit: Edit { curve, ..self.edit } }, mark)
     }
 
-    /// The Rust's desk with the engine's tests: as `tested`, then the message.
-    pub fn desk(&self, count: u32, out: &mut [u8]) -> Sketch {
+    /// The Rust's desk with the engine's tests: as `tested`, then the message, which is kept.
+    pub fn desk(&self, count: u32, out: &mut [u8], window: &mut Window) -> Sketch {
+        let out = out.first_chunk_mut().expect("room for a message");
         let number = count.checked_add(1).expect("a number is left");
         let sketch = self.tested();
-        let message = Message { number, edit: self.edit };
-        message::write(&message, MARK, out).expect("room for a message");
+        *out = message::to_bytes(&Message { number, edit: self.edit }, MARK);
+        window.slide(number, out);
         sketch
     }
 

@@ -7,6 +7,7 @@ use oracle::convert::to_drawing;
 use oracle::drawing::Id;
 use oracle::message::Mark;
 use oracle::steps::{State, Step};
+use oracle::window::Window;
 use oracle::{image, message, upstream};
 use std::hint::black_box;
 
@@ -38,9 +39,9 @@ impl Request {
     }
 
     /// The Rust that is timed; nothing comes of a delivery that applies no edit.
-    fn by_rust(&self, sample: &Sample, out: &mut [u8]) -> Option<Sketch> {
+    fn by_rust(&self, sample: &Sample, out: &mut [u8], window: &mut Window) -> Option<Sketch> {
         match self {
-            Request::Edit => Some(sample.desk(COUNT, out)),
+            Request::Edit => Some(sample.desk(COUNT, out, window)),
             Request::Delivery(message) => sample.deliver(COUNT, message),
         }
     }
@@ -95,7 +96,8 @@ fn print(name: &str, samples: &[Sample], engine: Engine, request: impl Fn(&Sampl
 
 fn times(sample: &Sample, request: &Request, engine: Engine) -> [f64; 2] {
     let expected = request.by_oracle(sample);
-    let after = request.by_rust(sample, &mut [0; message::SIZE]);
+    let mut window = Window::empty();
+    let after = request.by_rust(sample, &mut [0; message::SIZE], &mut window);
     let image = after.map(|sketch| image::to_bytes(&to_drawing(&sketch)));
     let image = image.as_ref().unwrap_or(&sample.call.image);
     assert_eq!(*image, expected.state.image, "the Rust that is timed makes the oracle's image");
@@ -103,7 +105,8 @@ fn times(sample: &Sample, request: &Request, engine: Engine) -> [f64; 2] {
     medians_in_turn([&mut calls, &mut || {
         for _ in 0..REPEATS {
             let mut out = [0; message::SIZE];
-            black_box((black_box(request).by_rust(black_box(sample), &mut out), out));
+            let window = black_box(&mut window);
+            black_box((black_box(request).by_rust(black_box(sample), &mut out, window), out));
         }
     }])
 }
