@@ -29,6 +29,8 @@ int main(void)
     uint8_t message[MULKEFI_MESSAGE_SIZE], neighbours_message[MULKEFI_MESSAGE_SIZE];
     uint32_t answer[MULKEFI_ANSWER_SIZE], refusal;
 
+    if (mulkefi_interface() != MULKEFI_INTERFACE)
+        return 1;
     if (split(mark, 1.0, message) != MULKEFI_ACCEPTED || split(neighbours_mark, 3.0, neighbours_message) != MULKEFI_ACCEPTED)
         return 1;
     memcpy(wall, line, sizeof line);

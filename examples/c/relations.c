@@ -52,6 +52,9 @@ int main(void)
     static const uint8_t three[] = {0x40, 0x08}, near_line_3[] = {0xbe, 0xa0, 0xc6, 0xf7, 0xa0, 0xb5, 0xed, 0x8d};
     int failed;
 
+    if (mulkefi_interface() != MULKEFI_INTERFACE)
+        return 1;
+
     /* Line 3 would get another length than 2. */
     memcpy(image, drawing, sizeof drawing);
     failed = extend(image, sizeof image, sizeof drawing);

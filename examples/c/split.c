@@ -15,6 +15,8 @@ int main(void)
     uint32_t desk_answer[MULKEFI_ANSWER_SIZE], wall_answer[MULKEFI_ANSWER_SIZE], refusal;
     int same;
 
+    if (mulkefi_interface() != MULKEFI_INTERFACE)
+        return 1;
     memcpy(desk, line, sizeof line);
     memcpy(wall, line, sizeof line);
     refusal = mulkefi_desk_edit(desk, sizeof desk, sizeof line, 0, mark, MULKEFI_SPLIT, 3, 1.0, 3.0, message, sizeof message, window,
