@@ -1,7 +1,7 @@
 -- Desk and wall agree with the reference machine, over any edit and over a wall's whole life: `agreement`. Assumes `Keeping` and `Read` alone: edits keep drawings valid, and the
 -- message of one that is accepted is read as what it was made of.
 use mathlib.Core.Path.{◌≡◌, refl, sym, ap, ◌∙◌, subst}
-use mathlib.Core.List.{List, ◌∷◌, ◌++◌, map, map_append, Memᴰ}
+use mathlib.Core.List.{List, ◌∷◌, ◌++◌, map, map-append, Memᴰ}
 use mathlib.Core.Logic.{◌⊎◌}
 use Prim.Native.Nat.{ℕ, ◌-◌}
 use native.Mathlib.Omega.{arith}
@@ -39,7 +39,7 @@ module _
     had_at t (front, later, q, e) =
         let u = e ∙ desk_state p S front (desk_front p S front later (subst (DeskRun p S) q dr)) in
         let a = at_count p start (calls front) (calls later) in
-        let cs : calls desk ≡ calls front ++ calls later = ap calls q ∙ map_append (λ (x : DeskStep D E R). x.call) front later in
+        let cs : calls desk ≡ calls front ++ calls later = ap calls q ∙ map-append (λ (x : DeskStep D E R). x.call) front later in
         subst At (sym u)
         (subst (λ (c : List (Call E)). Inv p Valid keeps read S (accepted_log p S c) (linked p S c) y refl (reference_after p S (calls front))) (sym cs) (a.state, a.within))
 
@@ -89,7 +89,7 @@ module _
                 ∙ ap (λ (s : State D). reply_to p s.drawing x.call.edit (call_outcome p s x.call)) (desk_state p S before (desk_front p S before (x ∷ later) run));
             desk_messages = mm;
             always = λ before later e. wall_at (session_at start before) (goes before later e).valid;
-            wall-reply = λ before later x e.
+            wall_reply_lem = λ before later x e.
                 let w = goes before (delivered x ∷ later) e in
                 w.life.0.reply ∙ ap (λ (s : State D). (wall_transition p s (p.decode x.bytes)).1) (session_at_lem (session_at start before) w.valid).0;
             rises = λ before later x e.

@@ -1,6 +1,6 @@
 -- A wall that is delivered just what is due to it has the desk's state (`caught_up`). Assumes what `Agree` does.
 use mathlib.Core.Path.{◌≡◌, refl, sym, ap, ◌∙◌, subst}
-use mathlib.Core.List.{List, [], ◌∷◌, ◌++◌, map, map_append, Memᴰ}
+use mathlib.Core.List.{List, [], ◌∷◌, ◌++◌, map, map-append, Memᴰ}
 use mathlib.Core.Logic.{inl}
 use Prim.Native.Nat.{ℕ, ◌≤◌}
 use native.Mathlib.Omega.{arith}
@@ -38,7 +38,7 @@ module _
         let ds : desk_after S front ≡ reference_after p S (calls front) = desk_state p S front run in
         let a = at_count p start (calls front) (calls later) in
         let few : w.count ≤ length l = omega (arith, h, ap (λ (t : State D). t.count) ds, a.count) in
-        let whole = ap (accepted_log p S) (map_append (λ (x : DeskStep D E R). x.call) front later) ∙ log_join p S (calls front) (calls later) in
+        let whole = ap (accepted_log p S) (map-append (λ (x : DeskStep D E R). x.call) front later) ∙ log_join p S (calls front) (calls later) in
         let at : w ≡ state_at S l w.count =
         (session_at_lem p Valid keeps read start (front ++ later) y dr g v).0 ∙ ap (λ t. state_at S t w.count) whole ∙ state_front p S l (accepted_log p (reference_after p S (calls front)) (calls later)) w.count few in
         let mm : messages front ≡ map (written p) l = desk_messages p S front run in

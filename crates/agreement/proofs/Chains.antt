@@ -91,10 +91,10 @@ module _ {D : Type 0} (v : CurveView D) where
     pub centred : (i : ℕ) → 0 < occurrences i fam → among i (v.ids d) ≡ true → centre_at (v.curve d i) ≡ o
 
   -- another curve than the target's keeps its centre
-  centred-beside :
+  centred_beside :
       (d d' : D) (t : ℕ) (r : Removed) (o : Option ℕ) → EditEffect v d t d' r → (i : ℕ) → i < v.next d → (i ≡ t → ⊥)
       → (among i (v.ids d) ≡ true → centre_at (v.curve d i) ≡ o) → among i (v.ids d') ≡ true → centre_at (v.curve d' i) ≡ o
-  centred-beside d d' t r o s i b ne h u =
+  centred_beside d d' t r o s i b ne h u =
       ap centre_at (s.others_curve i b ne) ∙ h (among_as i (v.ids d) (v.ids d') (sym (s.others i b ne).1) ∙ u)
 
   -- of a curve outside the family
@@ -111,7 +111,7 @@ module _ {D : Type 0} (v : CurveView D) where
               once = c.once;
             };
         below = λ i p. omega (arith, w.below i p, s.grows);
-        centred = λ i p u. centred-beside d d' t r o s i (w.below i p) (λ e. omega (arith, ap (λ (j : ℕ). occurrences j fam) e)) (w.centred i p) u;
+        centred = λ i p u. centred_beside d d' t r o s i (w.below i p) (λ e. omega (arith, ap (λ (j : ℕ). occurrences j fam) e)) (w.centred i p) u;
       }
 
   -- of a member
@@ -185,7 +185,7 @@ module _ {D : Type 0} (v : CurveView D) where
           centred_at i p u (no nt) (no ne) = s.centred i (omega (arith, sum i)) u ∙ by_target
           centred_at i p u (no nt) (yes z) =
               let in_fam : 0 < occurrences i fam = omega (arith, occ_append i fam (added v d d' r)) in
-              centred-beside d d' t r o s i (w.below i in_fam) nt (w.centred i in_fam) u
+              centred_beside d d' t r o s i (w.below i in_fam) nt (w.centred i in_fam) u
 
     -- the member stands, since the edit found it
     stands : (i f h : ℕ) (u : Bool) → i ≡ t → ValidMemberAs v d rs i f h u → Pieces v d t d' r f h

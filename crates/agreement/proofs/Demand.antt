@@ -13,7 +13,7 @@ use Rattle.agreement.proofs.Reference.{last, last_take, last_all, Linked, linked
 use Rattle.agreement.proofs.Wall.{Read}
 use Rattle.agreement.proofs.Sessions.{SessionValid, session_valid}
 use Rattle.agreement.proofs.Agree.{had_at, wall_at, agreement}
-use Rattle.agreement.proofs.FamiliesJoined.{Keeps, last_valid, families-joined}
+use Rattle.agreement.proofs.FamiliesJoined.{Keeps, last_valid, families_joined}
 
 module _ {D E : Type 0} (p : Protocol D E Removed) (v : CurveView D) (target : E → ℕ) (Valid : D → Type 0) (k : Keeps p v target Valid) where
   -- the reference machine's, after any calls
@@ -70,14 +70,14 @@ module _ {D E : Type 0} (p : Protocol D E Removed) (v : CurveView D) (target : E
       demand_3 =
           record {
             agreement = g;
-            desk-families = λ before later q.
+            desk_families = λ before later q.
                 let l = desk_log p start before in
-                families-joined p v target Valid k (initial start) l (linked p (initial start) (calls before)) y (desk_after (initial start) before)
+                families_joined p v target Valid k (initial start) l (linked p (initial start) (calls before)) y (desk_after (initial start) before)
                 (last_all (initial start) l ∙ last_entry p (initial start) (calls before) ∙ sym (g.desk_state before later q));
-            wall-families = λ before later q.
+            wall_families = λ before later q.
                 let s = session_at start before in
                 let h = valid before later q in
-                families-joined p v target Valid k s.start (entries_between p start desk s.start.count (session_state s).count) (session_linked s h) (start_valid s h) (session_state s) (session_last s h);
+                families_joined p v target Valid k s.start (entries_between p start desk s.start.count (session_state s).count) (session_linked s h) (start_valid s h) (session_state s) (session_last s h);
           }
 
       -- so neither desk nor wall is ever given a drawing that is not valid

@@ -1,5 +1,5 @@
 -- The families of any edit that keeps drawings valid and whose accepted edits have an `EditEffect`: after any entries, from a state at any count, lines and
--- arcs have their chains and circles their rings (`families-joined`). And every drawing stays valid.
+-- arcs have their chains and circles their rings (`families_joined`). And every drawing stays valid.
 use mathlib.Core.Path.{◌≡◌, refl, sym, ap, ◌∙◌, subst}
 use mathlib.Core.Bool.{true, false}
 use mathlib.Core.List.{List, [], ◌∷◌, ◌++◌, append_assoc, append-nil}
@@ -15,14 +15,14 @@ use Rattle.edit_plan.specs.Outcome.{accepted}
 use Rattle.edit_plan.specs.Counts.{occurrences}
 use Rattle.edit_plan.specs.Changes.{is_circle}
 use Rattle.agreement.specs.Machines.{State, Protocol, Entry}
-use Rattle.agreement.specs.Families.{CurveView, reports, added, family, Chain, centre_at, CircleOf, circle_uncut, circleRemoved, circleCut, FamiliesJoined}
+use Rattle.agreement.specs.Families.{CurveView, reports, added, family, Chain, centre_at, CircleOf, circle_uncut, circle_removed, circle_cut, FamiliesJoined}
 use Rattle.agreement.specs.EditEffect.{EditEffect, CircleEffect, removed_whole, cut_to_arcs}
 use Rattle.agreement.proofs.Counts.{one_is, at_most, among_as, away_count}
 use Rattle.agreement.proofs.Families.{family_own, family_other, family_length}
 use Rattle.agreement.proofs.Reference.{last, Linked}
 use Rattle.agreement.proofs.Wall.{Keeping}
 use Rattle.agreement.proofs.Chains.{Inv, step}
-use Rattle.agreement.proofs.Rings.{inv-cut, circle_other, first_own}
+use Rattle.agreement.proofs.Rings.{inv_cut, circle_other, first_own}
 
 -- what is asked of an edit, `Valid` telling which drawings it may be given
 pub record Keeps {D E : Type 0} (p : Protocol D E Removed) (v : CurveView D) (target : E → ℕ) (Valid : D → Type 0) : Type 0 where
@@ -79,14 +79,14 @@ module _ {D E : Type 0} (p : Protocol D E Removed) (v : CurveView D) (target : E
   -- ---- circles
 
   -- a curve that stands no more is nobody's target, and is its family alone
-  stays-away :
+  stays_away :
       (c : ℕ) (s : State D) (l : List (Entry D E Removed)) → Linked p s l → Valid s.drawing → c < v.next s.drawing → among c (v.ids s.drawing) ≡ false
       → (family v target s.drawing (c ∷ []) l ≡ c ∷ []) × (among c (v.ids (last s l).drawing) ≡ false)
-  stays-away c s [] h y b z = (refl, z)
-  stays-away c s (x ∷ xs) h y b z =
+  stays_away c s [] h y b z = (refl, z)
+  stays_away c s (x ∷ xs) h y b z =
       let e = effect s x xs h y in
       let ne : target x.edit ≡ c → ⊥ = λ f. omega (arith, e.stood, away_count c (v.ids s.drawing) z, ap (λ (j : ℕ). occurrences j (v.ids s.drawing)) f) in
-      let i = stays-away c x.after xs h.1 (next_valid s x xs h y) (omega (arith, e.grows)) (among_as c (v.ids x.after.drawing) (v.ids s.drawing) (e.others c b (λ f. ne (sym f))).1 ∙ z) in
+      let i = stays_away c x.after xs h.1 (next_valid s x xs h y) (omega (arith, e.grows)) (among_as c (v.ids x.after.drawing) (v.ids s.drawing) (e.others c b (λ f. ne (sym f))).1 ∙ z) in
       (family_other v target c s.drawing x xs ne ∙ i.0, i.1)
 
   circled :
@@ -98,12 +98,12 @@ module _ {D E : Type 0} (p : Protocol D E Removed) (v : CurveView D) (target : E
       -- the circle itself was edited
       own : target x.edit ≡ c → EditEffect v s.drawing c x.after.drawing x.report → CircleEffect v s.drawing c x.after.drawing x.report → CircleOf v target s.drawing (x ∷ xs) (last x.after xs).drawing c o
       own f e (removed_whole r a n) =
-          let i = stays-away c x.after xs h.1 (next_valid s x xs h y) (omega (arith, e.grows, k.curve_bounded s.drawing c o y q)) n in
-          circleRemoved (first_own target c x xs f ∙ ap some r) (family_own v target c s.drawing x xs f ∙ ap (λ (js : List ℕ). family v target x.after.drawing (c ∷ js) xs) a ∙ i.0) i.1
+          let i = stays_away c x.after xs h.1 (next_valid s x xs h y) (omega (arith, e.grows, k.curve_bounded s.drawing c o y q)) n in
+          circle_removed (first_own target c x xs f ∙ ap some r) (family_own v target c s.drawing x xs f ∙ ap (λ (js : List ℕ). family v target x.after.drawing (c ∷ js) xs) a ∙ i.0) i.1
       own f e (cut_to_arcs n m i z w) =
           let g = family_own v target c s.drawing x xs f in
-          let inv = run x.after xs h.1 (next_valid s x xs h y) (c ∷ added v s.drawing x.after.drawing x.report) (x.report ∷ []) i i (centre_at (v.curve s.drawing c)) (inv-cut v s.drawing x.after.drawing c x.report e (k.curve_bounded s.drawing c o y q) i w) in
-          circleCut x.report (first_own target c x xs f) n
+          let inv = run x.after xs h.1 (next_valid s x xs h y) (c ∷ added v s.drawing x.after.drawing x.report) (x.report ∷ []) i i (centre_at (v.curve s.drawing c)) (inv_cut v s.drawing x.after.drawing c x.report e (k.curve_bounded s.drawing c o y q) i w) in
+          circle_cut x.report (first_own target c x xs f) n
           (record {
             several = subst (λ (js : List ℕ). 1 < length js) (sym g) (omega (arith, m, family_length v target x.after.drawing (c ∷ added v s.drawing x.after.drawing x.report) xs));
             from = i;
@@ -120,10 +120,10 @@ module _ {D E : Type 0} (p : Protocol D E Removed) (v : CurveView D) (target : E
 
   -- ---- both
 
-  pub families-joined :
+  pub families_joined :
       (s : State D) (l : List (Entry D E Removed)) → Linked p s l → Valid s.drawing → (t : State D) → last s l ≡ t
       → FamiliesJoined v target s.drawing l t.drawing
-  families-joined s l h y t q =
+  families_joined s l h y t q =
       subst (λ (u : State D). FamiliesJoined v target s.drawing l u.drawing) q
       (record {
         chains = λ c a b e. (run s l h y (c ∷ []) [] a b (centre_at (v.curve s.drawing c)) (begin s.drawing c a b y e)).chain;

@@ -81,15 +81,15 @@ module _ {D E R : Type 0} (p : Protocol D E R) where
   BookedAll : State D → List (Call E) → List (Entry D E R) → Type 0
   BookedAll s cs l = (k : ℕ) → k ≤ length l → Booked s cs (state_at s l k)
 
-  reference-step :
+  reference_step :
       (s : State D) (c : Call E) (cs : List (Call E)) (l : List (Entry D E R)) (o : Outcome (State D) R) → call_outcome p s c ≡ o
       → BookedAll (state_after s o) cs l → BookedAll s (c ∷ cs) (append_accepted c.edit o l)
   unfolding BookedAll
-  reference-step s c cs l (refused n) e ih k b =
+  reference_step s c cs l (refused n) e ih k b =
       let (front, later, q, r) = ih k b in
       (c ∷ front, later, ap (λ (v : List (Call E)). c ∷ v) q, rw e r)
-  reference-step s c cs l (accepted t r) e ih zero b = ([], c ∷ cs, refl, refl)
-  reference-step s c cs l (accepted t r) e ih (suc k) b =
+  reference_step s c cs l (accepted t r) e ih zero b = ([], c ∷ cs, refl, refl)
+  reference_step s c cs l (accepted t r) e ih (suc k) b =
       let (front, later, q, r) = ih k (omega arith) in
       (c ∷ front, later, ap (λ (v : List (Call E)). c ∷ v) q, rw e r)
 
@@ -97,7 +97,7 @@ module _ {D E R : Type 0} (p : Protocol D E R) where
   unfolding BookedAll
   reference_at s [] zero b = ([], [], refl, refl)
   reference_at s [] (suc k) b = absurd (omega arith)
-  reference_at s (c ∷ cs) k b = reference-step s c cs (accepted_log p (state_after s (call_outcome p s c)) cs) (call_outcome p s c) refl (reference_at (state_after s (call_outcome p s c)) cs) k b
+  reference_at s (c ∷ cs) k b = reference_step s c cs (accepted_log p (state_after s (call_outcome p s c)) cs) (call_outcome p s c) refl (reference_at (state_after s (call_outcome p s c)) cs) k b
 
   -- ---- the entries of calls one after the other
 

@@ -12,7 +12,7 @@ use Rattle.edit_plan.specs.declared.Removed.{Removed}
 use Rattle.edit_plan.specs.Counts.{occurrences}
 use Rattle.edit_plan.proofs.Tables.{occ_append, occ_same, occ_other}
 use Rattle.agreement.specs.Machines.{Entry}
-use Rattle.agreement.specs.Families.{CurveView, added, reports, Member, member_ids, Joined, ValidMember, ValidMembers, Chain, first_report, centre_of, centre_at, Ring, CircleOf, circle_uncut, circleRemoved, circleCut}
+use Rattle.agreement.specs.Families.{CurveView, added, reports, Member, member_ids, Joined, ValidMember, ValidMembers, Chain, first_report, centre_of, centre_at, Ring, CircleOf, circle_uncut, circle_removed, circle_cut}
 use Rattle.agreement.specs.EditEffect.{Pieces, EditEffect}
 use Rattle.agreement.proofs.Families.{family_other}
 use Rattle.agreement.proofs.Chains.{Inv, rights_late}
@@ -28,10 +28,10 @@ module _ {D E : Type 0} (target : E → ℕ) (c : ℕ) (x : Entry D E Removed) (
 
 module _ {D : Type 0} (v : CurveView D) where
   -- the arcs that a circle was cut to are a chain from a point back to it, and can be followed as one
-  pub inv-cut :
+  pub inv_cut :
       (d d' : D) (c : ℕ) (r : Removed) → EditEffect v d c d' r → c < v.next d → (i : ℕ) → Pieces v d c d' r i i
       → Inv v (c ∷ added v d d' r) d' (r ∷ []) i i (centre_at (v.curve d c))
-  inv-cut d d' c r e b i w =
+  inv_cut d d' c r e b i w =
       record {
         chain = record { members = w.list; right = w.right; joined = w.joined; each = w.are; once = w.once };
         below = λ j n. below_at j n (ℕ_discrete j c);
@@ -49,9 +49,9 @@ module _ {D : Type 0} (v : CurveView D) where
 
     pub circle_other : CircleOf v target x.after.drawing xs d'' c o → CircleOf v target d (x ∷ xs) d'' c o
     circle_other (circle_uncut f g h) = circle_uncut (first_other target c x xs ne ∙ f) (family_other v target c d x xs ne ∙ g) h
-    circle_other (circleRemoved f g h) = circleRemoved (first_other target c x xs ne ∙ f) (family_other v target c d x xs ne ∙ g) h
-    circle_other (circleCut r f n h) =
-        circleCut r (first_other target c x xs ne ∙ f) n
+    circle_other (circle_removed f g h) = circle_removed (first_other target c x xs ne ∙ f) (family_other v target c d x xs ne ∙ g) h
+    circle_other (circle_cut r f n h) =
+        circle_cut r (first_other target c x xs ne ∙ f) n
         (subst (λ (js : List ℕ). Ring v js d'' (x.report ∷ reports xs) (centre_of o.kind)) (sym (family_other v target c d x xs ne))
         (record { several = h.several; from = h.from; above_zero = h.above_zero; chain = later_chain h.chain; centred = h.centred }))
 

@@ -10,16 +10,16 @@ module _ {D E R : Type 0} (p : Protocol D E R) where
   abbrev pub written : Entry D E R → List ℕ
   written x = p.encode x.after.count x.edit
 
-  messages-step :
+  messages_step :
       (d : D) (x : DeskStep D E R) (o : Outcome (State D) R) (ms : List (List ℕ)) (l : List (Entry D E R)) → x.reply ≡ reply_to p d x.call.edit o → ms ≡ map written l
       → prepend_message x.reply ms ≡ map written (append_accepted x.call.edit o l)
-  messages-step d x (refused k) ms l e h = rw e h
-  messages-step d x (accepted t r) ms l e h = rw (e, h)
+  messages_step d x (refused k) ms l e h = rw e h
+  messages_step d x (accepted t r) ms l e h = rw (e, h)
 
   pub desk_messages : (s : State D) (xs : List (DeskStep D E R)) → DeskRun p s xs → messages xs ≡ map written (accepted_log p s (calls xs))
   desk_messages s [] h = refl
   desk_messages s (x ∷ xs) h =
-      messages-step s.drawing x (call_outcome p s x.call) (messages xs) (accepted_log p (state_after s (call_outcome p s x.call)) (calls xs)) h.0.reply
+      messages_step s.drawing x (call_outcome p s x.call) (messages xs) (accepted_log p (state_after s (call_outcome p s x.call)) (calls xs)) h.0.reply
       (rw (← h.0.state) (desk_messages x.state xs h.1))
 
   pub desk_state : (s : State D) (xs : List (DeskStep D E R)) → DeskRun p s xs → desk_after s xs ≡ reference_after p s (calls xs)

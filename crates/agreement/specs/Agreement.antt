@@ -67,7 +67,7 @@ module _ {D E R : Type 0} (p : Protocol D E R) where
     -- the wall, at its first start and after every delivery and every start
     pub always : (before later : List (WallEvent D R)) → life ≡ before ++ later → WallAt start desk (session_at start before)
     -- a delivery's reply is that to the reference machine's state at the wall's count: a refusal's place too is the reference machine's
-    pub wall-reply :
+    pub wall_reply_lem :
         (before later : List (WallEvent D R)) (x : WallStep D R) → life ≡ before ++ (delivered x ∷ later)
         → x.reply ≡ (wall_transition p (state_at (initial start) (desk_log start desk) (session_state (session_at start before)).count) (p.decode x.bytes)).1
     -- its count rises exactly when the next message is delivered

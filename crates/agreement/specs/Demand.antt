@@ -10,11 +10,11 @@ module _ {D E : Type 0} (p : Protocol D E Removed) (v : CurveView D) (target : E
   pub record Demand3 (start : D) (desk : List (DeskStep D E Removed)) (life : List (WallEvent D Removed)) : Type 0 where
     pub agreement : Agreement p start desk life
     -- at the desk, at its start and after each call, by the edits accepted so far
-    pub desk-families :
+    pub desk_families :
         (before later : List (DeskStep D E Removed)) → desk ≡ before ++ later
         → FamiliesJoined v target start (desk_log p start before) (desk_after (initial start) before).drawing
     -- at the wall, at each start and after every delivery, from the drawing of its last start, by the edits after that start's count, up to its own
-    pub wall-families :
+    pub wall_families :
         (before later : List (WallEvent D Removed)) → life ≡ before ++ later
         → let g = session_at start before in
         FamiliesJoined v target g.start.drawing (entries_between p start desk g.start.count (session_state g).count) (session_state g).drawing

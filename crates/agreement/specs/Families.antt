@@ -119,11 +119,11 @@ module _ {D : Type 0} (v : CurveView D) where
     -- without one it stands as it was, and is its family alone
     circle_uncut : first_report target c l ≡ none → family v target start (c ∷ []) l ≡ c ∷ [] → v.curve d c ≡ some k → CircleOf target start l d c k
     -- removed whole it is its own family, and stands no more
-    circleRemoved :
+    circle_removed :
         first_report target c l ≡ some (whole_circle c) → family v target start (c ∷ []) l ≡ c ∷ [] → among c (v.ids d) ≡ false
         → CircleOf target start l d c k
     -- cut, its standing and removed arcs make one ring
-    circleCut :
+    circle_cut :
         (r : Removed) → first_report target c l ≡ some r → (r ≡ whole_circle c → ⊥) → Ring (family v target start (c ∷ []) l) d (reports l) (centre_of k.kind)
         → CircleOf target start l d c k
 

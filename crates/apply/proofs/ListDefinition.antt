@@ -3,7 +3,7 @@ use mathlib.Core.Path.{◌≡◌, refl, sym, ap, subst, ◌∙◌}
 use mathlib.Core.Bool.{Bool, true, false, not}
 use mathlib.Core.List.{List, [], ◌∷◌, ◌++◌, map}
 use mathlib.Core.Option.{some}
-use Prim.Native.Nat.{ℕ, zero, suc, ◌+◌, ◌≤◌, ◌<◌}
+use Prim.Native.Nat.{ℕ, zero, suc, ◌≤◌, ◌<◌}
 use native.Mathlib.Omega.{arith}
 use lib.Dec.{eqb, leb}
 use lib.ListN.{length, take, drop, set, get_or, length-set, length-map}
@@ -41,7 +41,7 @@ use Rattle.edit_plan.specs.Changes.{is_whole, start_of, end_of, change_for, recu
 use Rattle.edit_plan.specs.Room.{room_for, left_over}
 use Rattle.edit_plan.proofs.Bridge.{unless_refused, unless_refused_none}
 use Rattle.edit_plan.proofs.Finals.{same}
-use Rattle.edit_plan.proofs.Loops.{look_at, recut-is-map}
+use Rattle.edit_plan.proofs.Loops.{look_at, recut_is_map}
 use Rattle.edit_plan.proofs.AtOnce.{kept_recut, open_cut, final_of, orphans_of, room_number, start_old, end_old}
 use Rattle.edit_plan.proofs.Plans.{rest_of, whole_bridge, cuts_bridge, no_move}
 use Rattle.apply.specs.declared.Applied.{Applied}
@@ -114,7 +114,7 @@ module _ {d : Drawing} (v : Valid limits d) (k : ℕ) (below : k < length d.curv
       let all : take n d.curves ≡ d.curves = take_all n d.curves (omega arith) in
       let all' : take n (set d.curves k (recut c q)) ≡ set d.curves k (recut c q) = take_all n (set d.curves k (recut c q)) (omega arith) in
       sym (ap (map (rekind c.id q)) all)
-      ∙ sym (recut-is-map d.next n d.curves k q below (omega arith) (subst (λ (x : List Curve). Rising d.next 0 (curve_ids x)) (sym all) v.curves_rise))
+      ∙ sym (recut_is_map d.next n d.curves k q below (omega arith) (subst (λ (x : List Curve). Rising d.next 0 (curve_ids x)) (sym all) v.curves_rise))
       ∙ all'
 
   module _ (plan : Plan) (su : Suited d c plan) where

@@ -19,7 +19,7 @@ use Rattle.sketch.specs.Facts.{Rising, Valid}
 use Rattle.edit_plan.specs.declared.Pin.{Pin}
 use Rattle.edit_plan.specs.declared.Pin.TheVariants.{On, At}
 use Rattle.edit_plan.specs.declared.Removed.{Removed}
-use Rattle.edit_plan.specs.Outcome.{Outcome, refused, accepted, ◌then◌, guard}
+use Rattle.edit_plan.specs.Outcome.{Outcome, accepted, ◌then◌, guard}
 use Rattle.edit_plan.specs.Tables.{ok_position, moved, move_point, with_relation}
 use Rattle.edit_plan.specs.Steps.{pin}
 use Rattle.edit_plan.specs.ApplyPlan.{check_met, move_end}

@@ -1,25 +1,25 @@
 -- A point moved: what its pin adds, the tables written, what refuses the move, and the image of the new drawing. Assumes nothing.
 use mathlib.Core.Path.{◌≡◌, refl, sym, ap, subst, ◌∙◌}
-use mathlib.Core.Bool.{Bool, true, false, not, ◌&&◌}
+use mathlib.Core.Bool.{Bool, true, false, ◌&&◌}
 use mathlib.Core.List.{List, [], ◌∷◌, ◌++◌, map}
 use Prim.Native.Nat.{ℕ, ◌+◌, ◌*◌, ◌-◌, ◌/◌, ◌≤◌, ◌<◌}
 use native.Mathlib.Omega.{arith}
 use lib.Dec.{leb, ltb, eqb}
 use lib.ListN.{length, take, drop, set, get_or, length-append, length-map, length-set}
 use lib.Seq.{take_all}
-use borrow.Author.Tests.{eq-eqb, ne_eqb, lt-ltb, le-ltb, le-leb, lt-leb, ltb-true, leb-true, not-true, not-false}
+use borrow.Author.Tests.{eq-eqb, ne_eqb, lt-ltb, le-ltb, le-leb, lt-leb, ltb-true, leb-true}
 use Rattle.big_endian.specs.Fields.{over, over_if_fits}
 use Rattle.big_endian.specs.Laws.{Bytes, over_nil}
 use Rattle.geom.specs.declared.Vec2.{Vec2}
 use Rattle.sketch.specs.declared.Point.{Point}
 use Rattle.sketch.specs.declared.Curve.{Curve}
 use Rattle.sketch.specs.declared.Relation.{Relation}
-use Rattle.sketch.specs.declared.Relation.TheVariants.{Coincident, PointOnCurve}
+use Rattle.sketch.specs.declared.Relation.TheVariants.{Coincident}
 use Rattle.sketch.specs.Lists.{ite, guard_number}
-use Rattle.sketch.specs.Drawing.{Drawing, limits}
+use Rattle.sketch.specs.Drawing.{limits}
 use Rattle.sketch.specs.Blanks.{no_point}
 use Rattle.sketch.specs.Valid.{ok_coordinate}
-use Rattle.sketch.proofs.Facts.{get_D_mapped, guard_number_kept}
+use Rattle.sketch.proofs.Facts.{get_or_mapped, guard_number_kept}
 use Rattle.image.specs.Records.{point_size, curve_size, relation_size}
 use Rattle.image.specs.Image.{header_size, size_of, drawing_of, next_at, image_fault}
 use Rattle.image.specs.Decode.{read_point, read_curve, read_relation}
@@ -36,8 +36,8 @@ use Rattle.edit_plan.specs.Changes.{pin_relation}
 use Rattle.edit_plan.specs.Steps.{nothing}
 use Rattle.edit_plan.proofs.Loops.{map_append}
 use Rattle.apply.specs.declared.Applied.{Applied}
-use Rattle.apply.specs.Applied.{Answered, refusal_with}
-use Rattle.apply.specs.Moved.{pinned_by, moved_to, drawing_moved, move_refusal, MoveRefused, MoveWritten}
+use Rattle.apply.specs.Applied.{Answered}
+use Rattle.apply.specs.Moved.{pinned_by, moved_to, move_refusal, MoveRefused, MoveWritten}
 use Rattle.apply.specs.Clauses.{row_bytes, points_with, relations_with, rows_image, image_moved, CountsWithin, TablesWithin, RowsMoved, refused_by}
 use Rattle.apply.proofs.RowRuns.{Long, rows_long, each_set, each_append, each_map}
 use Rattle.apply.proofs.Parts.{row_first, rows_then}
@@ -156,7 +156,7 @@ module _ (points relations : List ℕ) (k : ℕ) (v : Vec2) (w : Pin) where
 
   module _ (h : k < length points / point_size) where
     pub the_point : read_point (row_in point_size points k) ≡ get_or (points_in points) k no_point
-    the_point = sym (get_D_mapped read_point no_point [] (rows_in point_size points) k (omega (arith, length_rows_in point_size points)))
+    the_point = sym (get_or_mapped read_point no_point [] (rows_in point_size points) k (omega (arith, length_rows_in point_size points)))
 
     there : ltb k (length (points_in points)) ≡ true
     there = lt-ltb k (length (points_in points)) (omega (arith, points_there))
@@ -165,12 +165,12 @@ module _ (points relations : List ℕ) (k : ℕ) (v : Vec2) (w : Pin) where
       in_range_lem : (x && y) ≡ ok_position v
       in_range_lem = rw (ex, ey)
 
-      pub out_of_range : not (x && y) ≡ true → 24 ≡ refusal
+      pub out_of_range : (x && y) ≡ false → 24 ≡ refusal
       unfolding guard_number
-      out_of_range e = sym (rw (there, sym in_range_lem ∙ not-true (x && y) e))
+      out_of_range e = sym (rw (there, sym in_range_lem ∙ e))
 
-      pub is_in_range : not (x && y) ≡ false → ok_position v ≡ true
-      is_in_range e = sym in_range_lem ∙ not-false (x && y) e
+      pub is_in_range : (x && y) ≡ true → ok_position v ≡ true
+      is_in_range e = sym in_range_lem ∙ e
 
     module _ (e : ok_position v ≡ true) {p : Point} (f : p ≡ read_point (row_in point_size points k)) {n : ℕ} (g : n ≡ length (pinned_by w p.id)) where
       in_all : length (relations_in relations) + length (pinned_by w (get_or (points_in points) k no_point).id) ≡ length relations / relation_size + n

@@ -23,7 +23,7 @@ use Rattle.sketch.specs.Valid.{ok_number, ok_curve, in_slots, sort_of, is_line_s
 use Rattle.sketch.specs.Facts.{Every, Rising, Valid}
 use Rattle.sketch.proofs.Facts.{curve_nowhere, ok_number_lem, valid_fault}
 use Rattle.sketch.proofs.Bools.{never, and_both, all_three}
-use Rattle.image.specs.Records.{ids_at, slots_of, float_at, kind_of, relation_by, point_of, curve_of, relation_of, point_XAt, point_YAt, curve_kind_at, degree_at, curve_number_at, first_id_at, second_id_at, value_at}
+use Rattle.image.specs.Records.{ids_at, slots_of, float_at, kind_of, relation_by, point_of, curve_of, relation_of, point_x_at, point_y_at, curve_kind_at, degree_at, curve_number_at, first_id_at, second_id_at, value_at}
 use Rattle.image.specs.Image.{point_rows, curve_rows, relation_rows, drawing_of}
 use Rattle.image.specs.Image as I
 use Rattle.image.specs.Encode.{encode, drawing_size}
@@ -255,7 +255,7 @@ eight_slots r = go (eqb (field r curve_kind_at 1) 4)
 pub drawing_numbers : (s : List ℕ) → Numbers (drawing_of s)
 drawing_numbers s =
     record {
-      points = each_map PointNumbers point_of (λ r. (of_bits-fits binary64 (field r point_XAt 8), of_bits-fits binary64 (field r point_YAt 8))) (point_rows s);
+      points = each_map PointNumbers point_of (λ r. (of_bits-fits binary64 (field r point_x_at 8), of_bits-fits binary64 (field r point_y_at 8))) (point_rows s);
       curves = each_map CurveNumbers curve_of (λ r. (kind_number (float_at r curve_number_at) (of_bits-fits binary64 (field r curve_number_at 8)) (field r curve_kind_at 1) (field r degree_at 1) (slots_of r), eight_slots r)) (curve_rows s);
       relations = each_map RelationNumber relation_of (λ r. relation_number (float_at r value_at) (of_bits-fits binary64 (field r value_at 8)) (field r 0 1) (field r first_id_at id_size) (field r second_id_at id_size)) (relation_rows s);
     }

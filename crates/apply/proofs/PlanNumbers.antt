@@ -48,11 +48,11 @@ VecNumbers v = Binary64 v.x × Binary64 v.y
 
 abbrev pub PlanNumbers : Plan → Type 0
 PlanNumbers Whole = Unit {0}
-PlanNumbers (Cut w first_Goes) = VecNumbers w.at
-PlanNumbers (CutTwo w v first_Goes) = VecNumbers w.at × VecNumbers v.at
+PlanNumbers (Cut w first_goes) = VecNumbers w.at
+PlanNumbers (CutTwo w v first_goes) = VecNumbers w.at × VecNumbers v.at
 PlanNumbers (Divide v) = VecNumbers v
 PlanNumbers (DivideTwo v u) = VecNumbers v × VecNumbers u
-PlanNumbers (Move at_end_lem v w) = VecNumbers v
+PlanNumbers (Move at_end v w) = VecNumbers v
 
 -- any vector and any plan of the code's types have numbers that fit
 pub vec_typed : (v : Vec2) (u : List Val) → shadow ((G.the_field).row.own_val ((G.the_type).to v) u) → VecNumbers v
@@ -82,7 +82,7 @@ piece_number (Circle c r) p q w = tt
 piece_number (Bezier n) p q w = tt
 piece_number (Conic a u b rho) p q w = w
 
-kept_number : (k : CurveKind) (first_Goes : Bool) (a m b : ℕ) → KindNumber k → KindNumber (kept_piece k first_Goes a m b)
+kept_number : (k : CurveKind) (first_goes : Bool) (a m b : ℕ) → KindNumber k → KindNumber (kept_piece k first_goes a m b)
 kept_number k true a m b w = piece_number k m b w
 kept_number k false a m b w = piece_number k a m w
 
@@ -135,13 +135,13 @@ record ChangeNumbers (h : Change) : Type 0 where
   t_fits : RelationNumber h.t
 
 module _ (c : Curve) (w : CurveNumbers c) where
-  cut_numbers : (k : ℕ) (v : Vec2) (i : ℕ) (first_Goes : Bool) (x : Pin) → VecNumbers v → ChangeNumbers (cut_once c k (halves_of c.kind v i) first_Goes (pin_relation x i) (pin_relation x i))
+  cut_numbers : (k : ℕ) (v : Vec2) (i : ℕ) (first_goes : Bool) (x : Pin) → VecNumbers v → ChangeNumbers (cut_once c k (halves_of c.kind v i) first_goes (pin_relation x i) (pin_relation x i))
   cut_numbers k v i b x p =
       let kept = kept_number c.kind b (start_of c.kind) i (end_of c.kind) w.0 in
       let pin = pin_number x i in
       record { p_fits = p; q_fits = p; kept_fits = (kept, w.1); added_fits = (kept, w.1); r_fits = pin; s_fits = pin; t_fits = pin }
 
-  circle_numbers : (k : ℕ) (v u : Vec2) (i : ℕ) (first_Goes : Bool) (x y : Pin) → VecNumbers v → VecNumbers u → ChangeNumbers (cut_once c k (half_circles v u i) first_Goes (pin_relation x i) (pin_relation y (suc i)))
+  circle_numbers : (k : ℕ) (v u : Vec2) (i : ℕ) (first_goes : Bool) (x y : Pin) → VecNumbers v → VecNumbers u → ChangeNumbers (cut_once c k (half_circles v u i) first_goes (pin_relation x i) (pin_relation y (suc i)))
   circle_numbers k v u i b x y p q =
       let kept = kept_number c.kind b i (suc i) i w.0 in
       record { p_fits = p; q_fits = q; kept_fits = (kept, w.1); added_fits = (kept, w.1); r_fits = pin_number x i; s_fits = pin_number y (suc i); t_fits = pin_number y (suc i) }

@@ -15,7 +15,7 @@ use Rattle.sketch.specs.Lists.{ite, keep, concat_map}
 use Rattle.sketch.specs.Lookup.{among}
 use Rattle.sketch.specs.Blanks.{no_curve}
 use Rattle.sketch.proofs.Bools.{and_both}
-use Rattle.sketch.proofs.Facts.{get_D_mapped}
+use Rattle.sketch.proofs.Facts.{get_or_mapped}
 use Rattle.sketch.proofs.Lists.{keep_append, keep_twice, keep_same, keep_true}
 use Rattle.image.specs.Records.{point_size, curve_size, relation_size}
 use Rattle.image.specs.Image.{row_id}
@@ -148,7 +148,7 @@ left_kept e os row v x l f g h = sym (ap (left_of e os) f) ∙ sym g ∙ h
 -- ---- points that no curve uses
 
 pub curve_read : (t : List ℕ) (i : ℕ) → i < length t / curve_size → get_or (curves_in t) i no_curve ≡ read_curve (row_in curve_size t i)
-curve_read t i h = get_D_mapped read_curve no_curve [] (rows_in curve_size t) i (rw (length_rows_in curve_size t) h)
+curve_read t i h = get_or_mapped read_curve no_curve [] (rows_in curve_size t) i (rw (length_rows_in curve_size t) h)
 
 pub length_curves : (t : List ℕ) → length (curves_in t) ≡ length t / curve_size
 length_curves t = length-map (rows_in curve_size t) read_curve ∙ length_rows_in curve_size t

@@ -1,5 +1,7 @@
 // A plan applied from image to image: every refusal is decided from counts, and then the new image is written, runs of old records and
 // new ones in turn.
+#![tactic(auto)]
+
 mod changed;
 mod curves;
 mod image_plan;
@@ -16,7 +18,7 @@ pub use image_plan::apply_plan;
 pub use moved::{apply_move, count_pinned, move_refusal};
 
 // What applying a plan to an image answers: the number of a refusal, or 0 with the report and the size of the new image.
-#[derive(Drop)]
+#[derive(Clone, Copy)]
 pub struct Applied {
     pub refusal: u8,
     pub removed: Removed,
@@ -24,7 +26,7 @@ pub struct Applied {
 }
 
 // How many records an image has.
-#[derive(Drop)]
+#[derive(Clone, Copy)]
 struct TableCounts {
     points: usize,
     curves: usize,

@@ -1,4 +1,6 @@
 // Polynomials in Bernstein form, by their coefficients: the value at a place, and the roots from 0 to 1.
+#![tactic(auto)]
+
 mod bisection;
 mod coefficients;
 mod level;
@@ -12,14 +14,14 @@ pub use value::evaluate;
 pub(crate) const MOST: usize = 15;
 
 // How many roots there are, or a refusal's number; and the budget that is left.
-#[derive(Drop)]
+#[derive(Clone, Copy)]
 pub enum Roots {
     Found(usize, usize),
     Refused(u8, usize),
 }
 
 // A root with the budget that is left, or the budget ran out.
-#[derive(Drop)]
+#[derive(Clone, Copy)]
 pub(crate) enum Bisected {
     At(f64, usize),
     Spent,

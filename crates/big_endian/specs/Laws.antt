@@ -1,5 +1,5 @@
 -- Laws of big-endian numbers, each over the width, and of runs of bytes written over a list.
-use Rattle.std.specs.Prelude.{◌≡◌, refl, List, [], ◌∷◌, ◌++◌, ℕ, zero, suc, ◌+◌, ◌-◌, ◌*◌, ◌/◌, ◌%◌, ◌^◌, ◌≤◌, ◌<◌, length, take, drop, get_or, set}
+use Rattle.std.specs.Prelude.{◌≡◌, refl, List, [], ◌∷◌, ◌++◌, ℕ, zero, suc, ◌+◌, ◌*◌, ◌/◌, ◌%◌, ◌^◌, ◌≤◌, ◌<◌, length, take, drop, get_or, set}
 use Rattle.std.proofs.Common.{sym, ap, ◌∙◌, append_assoc, append-nil, add-zero, add-suc, add_assoc, add-mul, mul_assoc, mul_comm, pow-suc, div-one, div-add-mod', div-lt_iff_lt-mul, add-one, arith, lit<, length-append, length-drop, length-set, take-append-drop, take-suc, get_or-drop, length-take-le, take_at, drop-drop, take-add, get_or-append-add, le-leb}
 use Rattle.std.proofs.Math.Nat.{pow-zero, div-div-eq-div-mul}
 use Rattle.std.proofs.Math.Arith.{digits_lt, digits_div, digits_mod}

@@ -1,4 +1,6 @@
 // Big-endian numbers in byte slices. Where all bytes are there they are read or written at once.
+#![tactic(auto)]
+
 mod load;
 mod short;
 mod store;

@@ -82,11 +82,11 @@ pieces_added_grow n'' g l =
     record { grows = omega arith; beside = l.beside; stand = l.stand; low = l.low; high = l.high; once = l.once; below = λ i h. l.below i (omega arith); centred = l.centred }
 
 -- the first piece: t itself, its kind changed or not
-pub pieces-added-one :
+pub pieces_added_one :
     (n : ℕ) (cs : List Curve) (t n' : ℕ) (cs' : List Curve) (a b : ℕ) → Low n cs → n ≤ n' → curve_ids cs' ≡ curve_ids cs
     → ((i : ℕ) → (i ≡ t → ⊥) → curve_in cs' i ≡ curve_in cs i) → ends_at (curve_in cs' t) ≡ some (a, b) → centre_at (curve_in cs' t) ≡ centre_at (curve_in cs t)
     → PiecesAdded n cs t n' cs' (link t a b ∷ [])
-pieces-added-one n cs t n' cs' a b w g e o h q =
+pieces_added_one n cs t n' cs' a b w g e o h q =
     record {
       grows = g;
       beside = λ i q ne. (o i ne, ap (occurrences i) e);

@@ -208,10 +208,10 @@ module _ (d : Drawing) (w : Low d.next d.curves) (t : ℕ) (here : 0 < occurrenc
           cut_to_arcs (λ e. ne (ap (λ (x : Removed). x.curve) e)) (one_there o.piece (added curve_view d d'' r) (omega (arith, new_count o.piece o.new, o.present)))
           o.from o.above_zero (pieces_added_chain o.from o.from o.linked)
 
-      pub pieces-added-effect :
+      pub pieces_added_effect :
           ((a b : ℕ) → ends d t ≡ some (a, b) → Linked a ps b) → ((k : Curve) → curve_in d.curves t ≡ some k → is_circle k.kind ≡ true → (r.curve ≡ t → ⊥) × ClosedPieces d.next ps)
           → EditEffect curve_view d t d'' r
-      pieces-added-effect j o =
+      pieces_added_effect j o =
           record {
             grows = l.grows;
             stood = here;

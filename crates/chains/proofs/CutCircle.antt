@@ -17,7 +17,7 @@ use Rattle.edit_plan.specs.Tables.{curves_of}
 use Rattle.edit_plan.specs.Steps.{ends_of, ends_at, release_relation, pieces_of, add_pieces, reported}
 use Rattle.edit_plan.specs.ApplyPlan.{apply_plan_to, apply_plan_at, apply_plan}
 use Rattle.edit_plan.proofs.Tables.{occ_same, occ_other}
-use Rattle.agreement.specs.Families.{reports, centre_of, centre_at, CircleOf, circleRemoved, circleCut}
+use Rattle.agreement.specs.Families.{reports, centre_of, centre_at, CircleOf, circle_removed, circle_cut}
 use Rattle.agreement.proofs.Counts.{one_is, at_most, there_count}
 use Rattle.chains.specs.CurveView.{curve_view}
 use Rattle.chains.specs.CutCircle.{east, west, wheel, uncut, two_arcs, one_arc, no_curves, split_report, arc_report, circle_report, edited_curve, cut_log, removal_log, ring}
@@ -38,9 +38,9 @@ pub arc_removed : apply_plan met limits two_arcs 5 Whole ≡ accepted one_arc ar
 unfolding opened
 arc_removed = refl
 
-pub circle_removed : apply_plan met limits uncut 2 Whole ≡ accepted no_curves circle_report
+pub circle_removed_lem : apply_plan met limits uncut 2 Whole ≡ accepted no_curves circle_report
 unfolding opened
-circle_removed = refl
+circle_removed_lem = refl
 
 pub cut_reports : reports cut_log ≡ split_report ∷ arc_report ∷ []
 cut_reports = refl
@@ -55,7 +55,7 @@ once i = go (ℕ_discrete i 2)
 pub cut_circle : CircleOf curve_view edited_curve uncut cut_log one_arc 2 wheel
 unfolding opened
 cut_circle =
-    circleCut split_report refl
+    circle_cut split_report refl
     (λ e. let z : ◌≡◌ {A = ℕ} 0 2 = λ j. (e j).curve in omega arith)
     (record {
       several = omega arith;
@@ -73,4 +73,4 @@ cut_circle =
     })
 
 pub whole_circle_lem : CircleOf curve_view edited_curve uncut removal_log no_curves 2 wheel
-whole_circle_lem = circleRemoved refl refl refl
+whole_circle_lem = circle_removed refl refl refl

@@ -1,5 +1,5 @@
 -- What a plan does, once it is applied: a valid drawing stays valid, and its chains and rings whole. So the claim over desk and wall holds of any edit that applies
--- out a plan with its pins held (`planned-demand-3`). Assumes of the edit `Planned`, and of its messages `Read`.
+-- out a plan with its pins held (`planned_demand_3`). Assumes of the edit `Planned`, and of its messages `Read`.
 use mathlib.Core.Path.{◌≡◌, ◌∙◌}
 use mathlib.Core.Bool.{Bool, true}
 use mathlib.Core.List.{List}
@@ -64,8 +64,8 @@ module _ (met : Drawing → Bool) (m : Limits) (d : Drawing) (v : Valid m d) (t 
   pub suited_valid : (c : Curve) → curve_in d.curves t ≡ some c → (plan : Plan) → Suited d c plan → (d' : Drawing) (r : Removed) → apply_plan met m d t plan ≡ accepted d' r → Valid m d'
   suited_valid c at plan s d' r q = plan_valid plan d' r q (rw (← (look_some d.curves t c at).1) s.pins)
 
-  pub move_valid : (at_end_lem : Bool) (u : Vec2) (w : Pin) → PinHolds d t w → (d' : Drawing) (r : Removed) → apply_plan met m d t (Move at_end_lem u w) ≡ accepted d' r → Valid m d'
-  move_valid at_end_lem u w h d' r q = plan_valid (Move at_end_lem u w) d' r q h
+  pub move_valid : (at_end : Bool) (u : Vec2) (w : Pin) → PinHolds d t w → (d' : Drawing) (r : Removed) → apply_plan met m d t (Move at_end u w) ≡ accepted d' r → Valid m d'
+  move_valid at_end u w h d' r q = plan_valid (Move at_end u w) d' r q h
 
 -- ---- edits
 
@@ -86,8 +86,8 @@ module _ {E : Type 0} (target : E → ℕ) (met : Drawing → Bool) (m : Limits)
           curve_bounded = λ d c o v e. (rising_among d.next 0 c (ids d) v.curves_rise (there c (ids d) (look_some d.curves c o e).0)).1;
         }
 
-    pub planned-demand-3 :
+    pub planned_demand_3 :
         Read p (Valid m) → (start : Drawing) (desk : List (DeskStep Drawing E Removed)) → Valid m start → DeskRun p (initial start) desk
         → (life : List (WallEvent Drawing Removed)) → WallLife p (initial start) life → FromDesk p (initial start) desk life
         → Demand3 p curve_view target start desk life
-    planned-demand-3 = demand_3 p curve_view target (Valid m) planned_keeps
+    planned_demand_3 = demand_3 p curve_view target (Valid m) planned_keeps

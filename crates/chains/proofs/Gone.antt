@@ -20,7 +20,7 @@ use Rattle.sketch.proofs.Bools.{never, and_left, and_right}
 use Rattle.edit_plan.specs.Tables.{curves_of, uses, others, of_id, stays, remove}
 use Rattle.edit_plan.proofs.Tables.{look_stays}
 use Rattle.edit_plan.proofs.Every.{or_right, every_keep, length_keep, among_dropped, among_left, among_right, every_in, rising_keep}
-use Rattle.chains.proofs.Grown.{has, sort_on, relation-kept, curve_kept}
+use Rattle.chains.proofs.Grown.{has, sort_on, relation_kept, curve_kept}
 
 among_keep : (f : ℕ → Bool) (p : ℕ) (ps : List Point) → among p (point_ids ps) ≡ true → f p ≡ true → among p (point_ids (keep (λ q. f q.id) ps)) ≡ true
 among_keep f p [] h k = h
@@ -50,7 +50,7 @@ module _ (m : Limits) (d : Drawing) (v : Valid m d) where
     relation_stays r k h =
         let away = not-true (among g (curves_of r)) (and_left (not (among g (curves_of r))) (every (stays g d.curves) (points_of r)) k) in
         let all = and_right (not (among g (curves_of r))) (every (stays g d.curves) (points_of r)) k in
-        relation-kept (has d) (has (remove g d)) (sort_on d) (sort_on (remove g d)) r
+        relation_kept (has d) (has (remove g d)) (sort_on d) (sort_on (remove g d)) r
         (λ p q u. kept_has p u (every_in (stays g d.curves) (points_of r) p all q))
         (λ c q u. ap sort_at (look_stays g c d.curves (λ e. never (sym away ∙ ap (λ (i : ℕ). among i (curves_of r)) (sym e) ∙ q)))) h
 

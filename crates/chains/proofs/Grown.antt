@@ -64,10 +64,10 @@ fits_kept s s' (Midpoint p l) k h = sort_kept is_line_sort (s l) (s' l) refl (k 
 fits_kept s s' (ArcLength c v) k h = sort_kept is_round_sort (s c) (s' c) refl (k c (among_same c [])) h
 fits_kept s s' (ArcSweep c v) k h = sort_kept is_round_sort (s c) (s' c) refl (k c (among_same c [])) h
 
-pub relation-kept :
+pub relation_kept :
     (f f' : ℕ → Bool) (s s' : ℕ → ℕ) (r : Relation) → ((p : ℕ) → among p (points_of r) ≡ true → f p ≡ true → f' p ≡ true)
     → ((c : ℕ) → among c (curves_of r) ≡ true → (s c ≡ 0 → ⊥) → s' c ≡ s c) → sound_relation f s r ≡ true → sound_relation f' s' r ≡ true
-relation-kept f f' s s' r j k h =
+relation_kept f f' s s' r j k h =
     let u = and_left (every f (points_of r) && fits s r) (apart r) h in
     both (every f' (points_of r) && fits s' r) (apart r)
     (both (every f' (points_of r)) (fits s' r) (every_imp f f' (points_of r) j (and_left (every f (points_of r)) (fits s r) u)) (fits_kept s s' r k (and_right (every f (points_of r)) (fits s r) u)))

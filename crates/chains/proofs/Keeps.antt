@@ -71,7 +71,7 @@ module _ (m : Limits) where
   abbrev Ok : Drawing → Removed → Type 0
   Ok d r = Valid m d
 
-  keep_without : (d : Drawing) → Valid m d → (s : ℕ) → alike s s ≡ true → (t : ℕ) (is : List ℕ) → sort_on d t ≡ s → Sorted d s is → UpFrom (suc t) is → (first_Goes : Bool) → Holds Ok (remove_piece m t first_Goes is d)
+  keep_without : (d : Drawing) → Valid m d → (s : ℕ) → alike s s ≡ true → (t : ℕ) (is : List ℕ) → sort_on d t ≡ s → Sorted d s is → UpFrom (suc t) is → (first_goes : Bool) → Holds Ok (remove_piece m t first_goes is d)
   unfolding remove_piece
   keep_without d v s a t [] p q u b = tt
   keep_without d v s a t (g ∷ js) p q u b = go (ite b (swap t g d) d) (swapped b)
@@ -90,32 +90,32 @@ module _ (m : Limits) where
     abbrev eased : Drawing
     eased = release_extent c.id c.kind d
 
-    keep_extend : (at_end_lem : Bool) (s : Vec2) (w : Pin) → Lies d w → Holds Ok (move_end met m d at_end_lem s w (ends_of c.kind))
+    keep_extend : (at_end : Bool) (s : Vec2) (w : Pin) → Lies d w → Holds Ok (move_end met m d at_end s w (ends_of c.kind))
     unfolding move_end check_met ends_at
-    keep_extend at_end_lem s w f = go (ends_of c.kind) refl
+    keep_extend at_end s w f = go (ends_of c.kind) refl
       where
         end_of : (b : Bool) (e : ℕ × ℕ) → (has d e.0 ≡ true) × (has d e.1 ≡ true) → has d (ite b e.1 e.0) ≡ true
         end_of true e h = h.1
         end_of false e h = h.0
 
-        go : (o : Option (ℕ × ℕ)) → ends_of c.kind ≡ o → Holds Ok (move_end met m d at_end_lem s w o)
+        go : (o : Option (ℕ × ℕ)) → ends_of c.kind ≡ o → Holds Ok (move_end met m d at_end s w o)
         go none q = tt
         go (some e) q =
-            let p : ℕ = ite at_end_lem e.1 e.0 in
+            let p : ℕ = ite at_end e.1 e.0 in
             let g = grown_move m d v p s in
             holds_guard Ok _ 24 _ λ o.
             holds_then (λ d' x. Kept m (move_point p s d) d') Ok (pin m (move_point p s d) p w) _
             (keep_pin m (move_point p s d) p w (valid_move m d v p s o)
-            (g.points p (end_of at_end_lem e (ends_there m d v c.id e (ap ends_at at ∙ q)))) (lies_grown d (move_point p s d) g w f)) λ d' x k.
+            (g.points p (end_of at_end e (ends_there m d v c.id e (ap ends_at at ∙ q)))) (lies_grown d (move_point p s d) g w f)) λ d' x k.
             holds_guard Ok _ 19 _ λ z. k.valid
 
-    keep_cut : (ws : List PinnedPoint) (first_Goes : Bool) → AllLie d ws → Holds Ok (cut m d c ws first_Goes)
-    keep_cut ws first_Goes f =
+    keep_cut : (ws : List PinnedPoint) (first_goes : Bool) → AllLie d ws → Holds Ok (cut m d c ws first_goes)
+    keep_cut ws first_goes f =
         let vs = map (λ w. w.at) ws in
         holds_then (SplitHeld m eased c.id) Ok (split_at m eased c vs) _ (keep_split m eased (valid_release m d v c.id c at) c.id c at vs) λ d' q h.
         holds_then (λ d'' x. Kept m d' d'') Ok (pin_all m d' q.points ws) _
         (keep_pins m d' q.points ws h.held.valid h.there (all_lie_grown d d' (grown_trans (grown_release m d v c.id c at) h.held.grown) ws f)) λ d'' x k.
-        keep_without d'' k.valid h.sort h.solid c.id q.pieces (sort_grown d' d'' k.grown h.sort h.solid c.id h.sort_is) (sorted_grown d' d'' k.grown h.sort h.solid q.pieces h.sorted) h.up first_Goes
+        keep_without d'' k.valid h.sort h.solid c.id q.pieces (sort_grown d' d'' k.grown h.sort h.solid c.id h.sort_is) (sorted_grown d' d'' k.grown h.sort h.solid q.pieces h.sorted) h.up first_goes
 
     keep_divide : (vs : List Vec2) → Holds Ok (divide m d c vs)
     keep_divide vs =
@@ -125,11 +125,11 @@ module _ (m : Limits) where
     applied_valid : (plan : Plan) → Pinned d c.id plan → Holds Ok (apply_plan_to met m d c plan)
     unfolding apply_plan_to
     applied_valid Whole f = valid_remove m d v c.id
-    applied_valid (Cut w first_Goes) f = keep_cut (w ∷ []) first_Goes (held_lies m d v c.id w.pin f, tt)
-    applied_valid (CutTwo w u first_Goes) f = keep_cut (w ∷ u ∷ []) first_Goes (held_lies m d v c.id w.pin f.0, (held_lies m d v c.id u.pin f.1, tt))
+    applied_valid (Cut w first_goes) f = keep_cut (w ∷ []) first_goes (held_lies m d v c.id w.pin f, tt)
+    applied_valid (CutTwo w u first_goes) f = keep_cut (w ∷ u ∷ []) first_goes (held_lies m d v c.id w.pin f.0, (held_lies m d v c.id u.pin f.1, tt))
     applied_valid (Divide u) f = keep_divide (u ∷ [])
     applied_valid (DivideTwo u w) f = keep_divide (u ∷ w ∷ [])
-    applied_valid (Move at_end_lem u w) f = keep_extend at_end_lem u w (held_lies m d v c.id w f)
+    applied_valid (Move at_end u w) f = keep_extend at_end u w (held_lies m d v c.id w f)
 
   -- the theorem
   pub apply_plan_valid : (met : Drawing → Bool) (d : Drawing) → Valid m d → (t : ℕ) (plan : Plan) → Pinned d t plan → Holds (λ d' r. Valid m d') (apply_plan met m d t plan)

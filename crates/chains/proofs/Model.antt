@@ -37,7 +37,7 @@ use Rattle.agreement.specs.Families.{family}
 use Rattle.agreement.specs.Demand.{Demand3}
 use Rattle.agreement.proofs.Wall.{Read}
 use Rattle.chains.specs.CurveView.{ids, curve_view}
-use Rattle.chains.proofs.Edits.{Planned, planned-demand-3}
+use Rattle.chains.proofs.Edits.{Planned, planned_demand_3}
 
 -- ---- an edit: the curve is cut at (1, 0) by another, and its first piece goes; or, where `by` is 0, it is divided there
 
@@ -98,11 +98,11 @@ planned d e d' r v q = go (eqb e.by 0) q
     go true q = (Divide here, tt, q)
     go false q = cutting (stands d e) refl q
 
-pub model-correct :
+pub model_correct :
     (start : Drawing) (desk : List (DeskStep Drawing Order Removed)) → Valid limits start → DeskRun rules (initial start) desk
     → (life : List (WallEvent Drawing Removed)) → WallLife rules (initial start) life → FromDesk rules (initial start) desk life
     → Demand3 rules curve_view target start desk life
-model-correct = planned-demand-3 target met limits rules planned read
+model_correct = planned_demand_3 target met limits rules planned read
 
 -- ---- a list of calls, and a life
 
@@ -206,7 +206,7 @@ from_desk = (inl second, (inl first, (inr (1, refl), (([], desk, refl, refl), (i
     second = Memᴰ.tail (Memᴰ.head refl)
 
 pub example_correct : Demand3 rules curve_view target crossed desk life
-example_correct = model-correct crossed desk crossed_valid desk_run life wall_life from_desk
+example_correct = model_correct crossed desk crossed_valid desk_run life wall_life from_desk
 
 -- the line's family: itself, the piece that the trim removed, the piece that the division added
 pub example_family : family curve_view target crossed (3 ∷ []) (desk_log rules crossed desk) ≡ 3 ∷ 8 ∷ 10 ∷ []

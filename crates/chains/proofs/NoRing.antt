@@ -17,7 +17,7 @@ use Rattle.edit_plan.specs.declared.Removed.{Removed}
 use Rattle.edit_plan.specs.Tables.{new_curve}
 use Rattle.edit_plan.specs.Steps.{ends_of, ends_at}
 use Rattle.agreement.specs.Machines.{Entry}
-use Rattle.agreement.specs.Families.{ValidMemberAs, centre_of, Ring, CircleOf, circle_uncut, circleRemoved, circleCut, whole_circle}
+use Rattle.agreement.specs.Families.{ValidMemberAs, centre_of, Ring, CircleOf, circle_uncut, circle_removed, circle_cut, whole_circle}
 use Rattle.agreement.proofs.Rings.{end_without_start, start_without_end, member_lost}
 use Rattle.chains.specs.CurveView.{ends, curve_view}
 use Rattle.chains.specs.CutCircle.{wheel, uncut, two_arcs, one_arc, no_curves, split_report, edited_curve}
@@ -49,11 +49,11 @@ ends_arcs x y i a b = go (eqb i 2) (eqb i 5)
 -- a split that reports nothing leaves the third case alone, a ring
 by_ring : (x y : CurveKind) → (Ring curve_view (2 ∷ 5 ∷ []) (arcs x y) (split_report ∷ []) (centre_of wheel.kind) → ⊥) → CircleOf curve_view edited_curve uncut (entry (arcs x y) split_report ∷ []) (arcs x y) 2 wheel → ⊥
 by_ring x y k (circle_uncut f g h) = let z : ◌≡◌ {A = ℕ} 0 1 = cc in omega arith
-by_ring x y k (circleRemoved f g h) =
+by_ring x y k (circle_removed f g h) =
     let e : split_report ≡ whole_circle 2 = cc in
     let z : ◌≡◌ {A = ℕ} 0 2 = ap (λ (r : Removed). r.curve) e in
     omega arith
-by_ring x y k (circleCut r f n h) = k h
+by_ring x y k (circle_cut r f n h) = k h
 
 -- both arcs lead from 4 to 3: one ends at 3, and none starts there
 pub first_turned : CircleOf curve_view edited_curve uncut (entry (arcs (Arc 1 4 3) (Arc 1 4 3)) split_report ∷ []) (arcs (Arc 1 4 3) (Arc 1 4 3)) 2 wheel → ⊥
@@ -104,23 +104,23 @@ arcs_straightened =
 -- the centre stands where a zero should
 pub reported_with_centre : CircleOf curve_view edited_curve uncut (entry no_curves (record { curve = 2; from = 1; to = 0 }) ∷ []) no_curves 2 wheel → ⊥
 reported_with_centre (circle_uncut f g h) = let z : ◌≡◌ {A = ℕ} 0 1 = cc in omega arith
-reported_with_centre (circleRemoved f g h) =
+reported_with_centre (circle_removed f g h) =
     let e : record { curve = 2; from = 1; to = 0 } ≡ whole_circle 2 = cc in
     let z : ◌≡◌ {A = ℕ} 1 0 = ap (λ (r : Removed). r.from) e in
     omega arith
-reported_with_centre (circleCut r f n h) = omega (arith, h.several)
+reported_with_centre (circle_cut r f n h) = omega (arith, h.several)
 
 -- the arc 5 is gone after a second edit, which reports nothing
-pub arc-lost :
+pub arc_lost :
     let l : List (Entry Drawing ℕ Removed) = entry two_arcs split_report ∷ record { after = record { drawing = one_arc; count = 2 }; edit = 5; report = split_report } ∷ [] in
     CircleOf curve_view edited_curve uncut l one_arc 2 wheel → ⊥
 unfolding curve_in ends_of ends_at
-arc-lost (circle_uncut f g h) = let z : ◌≡◌ {A = ℕ} 0 1 = cc in omega arith
-arc-lost (circleRemoved f g h) =
+arc_lost (circle_uncut f g h) = let z : ◌≡◌ {A = ℕ} 0 1 = cc in omega arith
+arc_lost (circle_removed f g h) =
     let e : split_report ≡ whole_circle 2 = cc in
     let z : ◌≡◌ {A = ℕ} 0 2 = ap (λ (r : Removed). r.curve) e in
     omega arith
-arc-lost (circleCut r f n h) =
+arc_lost (circle_cut r f n h) =
     member_lost curve_view one_arc (split_report ∷ split_report ∷ []) 5 (omega arith) (λ m r e. gone m.id m.from m.to m.stands r e) h
   where
     gone : (i a b : ℕ) (u : Bool) → ValidMemberAs curve_view one_arc (split_report ∷ split_report ∷ []) i a b u → i ≡ 5 → ⊥
@@ -128,10 +128,10 @@ arc-lost (circleCut r f n h) =
     gone i a b false r e = ⊎_elim (λ q. omega (arith, ap (λ (x : Removed). x.curve) q)) (λ q. omega (arith, (nothing_removed i a b q).0)) (Memᴰ.cases_cons r.1)
 
 -- the circle is gone after the edit of another curve
-pub circle-lost :
+pub circle_lost :
     let l : List (Entry Drawing ℕ Removed) = record { after = record { drawing = no_curves; count = 1 }; edit = 9; report = split_report } ∷ [] in
     CircleOf curve_view edited_curve uncut l no_curves 2 wheel → ⊥
 unfolding curve_in
-circle-lost (circle_uncut f g h) = let z : ◌≡◌ {A = ℕ} 0 1 = cc in omega arith
-circle-lost (circleRemoved f g h) = let z : ◌≡◌ {A = ℕ} 0 1 = cc in omega arith
-circle-lost (circleCut r f n h) = let z : ◌≡◌ {A = ℕ} 0 1 = cc in omega arith
+circle_lost (circle_uncut f g h) = let z : ◌≡◌ {A = ℕ} 0 1 = cc in omega arith
+circle_lost (circle_removed f g h) = let z : ◌≡◌ {A = ℕ} 0 1 = cc in omega arith
+circle_lost (circle_cut r f n h) = let z : ◌≡◌ {A = ℕ} 0 1 = cc in omega arith

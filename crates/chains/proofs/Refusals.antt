@@ -87,22 +87,22 @@ by_extend met m d b v w e =
     by_guard moving _ 24 _ refl (by_next moving (pin m (move_point p v d) p w) _ (by_pin moving refl m (move_point p v d) p w) λ d' u. by_guard moving _ 19 _ refl tt)
 
 -- what is refused by 19 after the pin was added fails the test
-pinned-fails :
+pinned_fails :
     (met : Drawing → Bool) (o : Outcome Drawing (Unit {0})) → By (22 ∷ []) o → (o then (λ d u. check_met met d)) ≡ refused 19
     → (d : Drawing) × ((o then (λ d u. check_met (λ x. true) d)) ≡ accepted d nothing) × (met d ≡ false)
 unfolding check_met guard
-pinned-fails met (refused n) t q = let z : n ≡ 19 = cc in never (subst (λ (k : ℕ). among k (22 ∷ []) ≡ true) z t)
-pinned-fails met (accepted d u) t q = go (met d) refl q
+pinned_fails met (refused n) t q = let z : n ≡ 19 = cc in never (subst (λ (k : ℕ). among k (22 ∷ []) ≡ true) z t)
+pinned_fails met (accepted d u) t q = go (met d) refl q
   where
     go : (b : Bool) → met d ≡ b → guard b 19 (accepted d nothing) ≡ refused 19 → (d' : Drawing) × (◌≡◌ {A = Outcome Drawing Removed} (accepted d nothing) (accepted d' nothing)) × (met d' ≡ false)
     go true e q = let z : ◌≡◌ {A = ℕ} 0 1 = cc in absurd (omega arith)
     go false e q = (d, refl, e)
 
-end-fails :
+end_fails :
     (met : Drawing → Bool) (m : Limits) (d : Drawing) (b : Bool) (v : Vec2) (w : Pin) (e : ℕ × ℕ) → move_end met m d b v w (some e) ≡ refused 19
     → (d' : Drawing) × (move_end (λ x. true) m d b v w (some e) ≡ accepted d' nothing) × (met d' ≡ false)
 unfolding move_end guard
-end-fails met m d b v w e q = go (ok_position v) q
+end_fails met m d b v w e q = go (ok_position v) q
   where
     p : ℕ
     p = ite b e.1 e.0
@@ -110,7 +110,7 @@ end-fails met m d b v w e q = go (ok_position v) q
     go :
         (k : Bool) → guard k 24 (pin m (move_point p v d) p w then (λ d' u. check_met met d')) ≡ refused 19
         → (d' : Drawing) × (guard k 24 (pin m (move_point p v d) p w then (λ d' u. check_met (λ x. true) d')) ≡ accepted d' nothing) × (met d' ≡ false)
-    go true q = pinned-fails met (pin m (move_point p v d) p w) (by_pin (22 ∷ []) refl m (move_point p v d) p w) q
+    go true q = pinned_fails met (pin m (move_point p v d) p w) (by_pin (22 ∷ []) refl m (move_point p v d) p w) q
     go false q = let z : ◌≡◌ {A = ℕ} 24 19 = cc in absurd (omega arith)
 
 -- ---- cuts
@@ -282,12 +282,12 @@ module _ (m : Limits) where
       rw (e, q) (by_extend met m d b v w x)
 
   -- 19 says that the drawing which the move leaves fails the test
-  pub move-fails :
+  pub move_fails :
       (met : Drawing → Bool) (d : Drawing) (t : ℕ) (c : Curve) (b : Bool) (v : Vec2) (w : Pin) → curve_in d.curves t ≡ some c → is_line c.kind ≡ true → apply_plan met m d t (Move b v w) ≡ refused 19
       → (d' : Drawing) × (apply_plan (λ x. true) m d t (Move b v w) ≡ accepted d' nothing) × (met d' ≡ false)
   unfolding apply_plan_at apply_plan_to
-  move-fails met d t c b v w e h q =
+  move_fails met d t c b v w e h q =
       let (x, i) = ended c.kind h in
       let to : (f : Drawing → Bool) → apply_plan f m d t (Move b v w) ≡ move_end f m d b v w (some x) = λ f. rw (e, i) in
-      let (d', left, fails) = end-fails met m d b v w x (sym (to met) ∙ q) in
+      let (d', left, fails) = end_fails met m d b v w x (sym (to met) ∙ q) in
       (d', to (λ y. true) ∙ left, fails)

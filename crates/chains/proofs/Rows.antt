@@ -13,7 +13,7 @@ use Rattle.edit_plan.specs.Tables.{add_curve, rekind, set_kind}
 use Rattle.edit_plan.specs.Steps.{ends_of, ends_at, links, add_curves, add_pieces}
 use Rattle.edit_plan.proofs.Tables.{Holds, holds_then, holds_guard, look_some, ids_set, rekind_same, look_set, look_set_other}
 use Rattle.agreement.specs.Families.{centre_of, centre_at}
-use Rattle.chains.proofs.AddedPieces.{Piece, names, link, PiecesAdded, Low, pieces_added_grow, pieces-added-one, pieces_added_more}
+use Rattle.chains.proofs.AddedPieces.{Piece, names, link, PiecesAdded, Low, pieces_added_grow, pieces_added_one, pieces_added_more}
 use Rattle.chains.proofs.Close.{Linked}
 use Rattle.chains.proofs.Same.{Same}
 
@@ -66,7 +66,7 @@ module _ (d : Drawing) (t : ℕ) (f : ℕ → ℕ → CurveKind) (fe : (x y : �
     set_first : (d' : Drawing) → Same d d' → (a b : ℕ) → PiecesAdded d.next d.curves t d'.next (map (rekind t (f a b)) d'.curves) (link t a b ∷ [])
     unfolding ends_at
     set_first d' s a b =
-        pieces-added-one d.next d.curves t d'.next (map (rekind t (f a b)) d'.curves) a b w s.grows
+        pieces_added_one d.next d.curves t d'.next (map (rekind t (f a b)) d'.curves) a b w s.grows
         (ids_set t (f a b) d'.curves ∙ ap curve_ids s.curves)
         (λ i ne. look_set_other t (f a b) d'.curves i ne ∙ ap (λ (l : List Curve). curve_in l i) s.curves)
         (ap ends_at looked ∙ ap ends_of kind_is ∙ fe a b) (ap centre_at looked ∙ ap centre_of kind_is ∙ fo a b)

@@ -31,8 +31,8 @@ use Rattle.agreement.specs.Families.{added, centre_of, centre_at}
 use Rattle.agreement.specs.EditEffect.{EditEffect}
 use Rattle.agreement.proofs.Counts.{there_count}
 use Rattle.chains.specs.CurveView.{ids, ends, curve_view}
-use Rattle.chains.proofs.AddedPieces.{Piece, names, link, PiecesAdded, Low, pieces-added-one, second_new, pieces_added_swap, same_ends}
-use Rattle.chains.proofs.Close.{Linked, ClosedPieces, pieces-added-effect, none_added, removed_circle, pieces_added_zero, t_below, t_above}
+use Rattle.chains.proofs.AddedPieces.{Piece, names, link, PiecesAdded, Low, pieces_added_one, second_new, pieces_added_swap, same_ends}
+use Rattle.chains.proofs.Close.{Linked, ClosedPieces, pieces_added_effect, none_added, removed_circle, pieces_added_zero, t_below, t_above}
 use Rattle.chains.proofs.Same.{Same, FirstIs, same_trans, same_points, same_pin, same_pins, same_tie}
 use Rattle.chains.proofs.Rows.{Parted, pieces_added_same, add_pieces_linked}
 
@@ -70,10 +70,10 @@ module _ (met : Drawing → Bool) (m : Limits) (d : Drawing) (w : Low d.next d.c
     next_above_zero = omega (arith, t_below d w t here)
 
     -- a curve with ends, its pieces being made by f
-    add-pieces-between :
+    add_pieces_between :
         (k : CurveKind) (f : ℕ → ℕ → CurveKind) (a b : ℕ) → ends_of k ≡ some (a, b) → ((x y : ℕ) → ends_of (f x y) ≡ some (x, y)) → ((x y : ℕ) → centre_of (f x y) ≡ centre_at (curve_in d.curves t))
         → (d' : Drawing) → Same d d' → (u : Bool) (ps : List ℕ) → Holds (λ d'' q. PartedOf k t d'' q.pieces) (add_pieces m d' t u ps (links f a ps b))
-    add-pieces-between k f a b e fe fo d' s u ps =
+    add_pieces_between k f a b e fe fo d' s u ps =
         holds_map (λ d'' q. Parted d t d'' q.pieces a b × (0 < length ps → 0 < length q.pieces)) (λ d'' q. PartedOf k t d'' q.pieces) (add_pieces m d' t u ps (links f a ps b))
         (λ d'' q h.
         record {
@@ -88,8 +88,8 @@ module _ (met : Drawing → Bool) (m : Limits) (d : Drawing) (w : Low d.next d.c
 
     add_pieces_cut : (k : CurveKind) → centre_of k ≡ centre_at (curve_in d.curves t) → (d' : Drawing) → Same d d' → (u : Bool) (ps : List ℕ) → FirstIs d.next ps → Holds (λ d'' q. PartedOf k t d'' q.pieces) (add_pieces m d' t u ps (pieces_of k ps))
     unfolding pieces_of add_pieces ends_of is_circle centre_of
-    add_pieces_cut (Line a b) cs d' s u ps first = add-pieces-between (Line a b) Line a b refl (λ x y. refl) (λ x y. cs) d' s u ps
-    add_pieces_cut (Arc o a b) cs d' s u ps first = add-pieces-between (Arc o a b) (Arc o) a b refl (λ x y. refl) (λ x y. cs) d' s u ps
+    add_pieces_cut (Line a b) cs d' s u ps first = add_pieces_between (Line a b) Line a b refl (λ x y. refl) (λ x y. cs) d' s u ps
+    add_pieces_cut (Arc o a b) cs d' s u ps first = add_pieces_between (Arc o a b) (Arc o) a b refl (λ x y. refl) (λ x y. cs) d' s u ps
     add_pieces_cut (Circle o r) cs d' s u [] first = tt
     add_pieces_cut (Circle o r) cs d' s u (p ∷ []) first = tt
     add_pieces_cut (Circle o r) cs d' s u (p ∷ q ∷ ps) first =
@@ -135,7 +135,7 @@ module _ (met : Drawing → Bool) (m : Limits) (d : Drawing) (w : Low d.next d.c
     close : (d' : Drawing) (ps : List Piece) → PiecesAdded d.next d.curves t d'.next d'.curves ps → Way ps → Effect t d' nothing
     close d' ps l j =
         let z = pieces_added_zero d w t here d'.next d'.curves ps l in
-        pieces-added-effect d w t here d' d'.curves ps l nothing (λ i ne. refl) (λ i ne. refl) z (λ p. absurd (omega arith)) (λ p. absurd (omega arith))
+        pieces_added_effect d w t here d' d'.curves ps l nothing (λ i ne. refl) (λ i ne. refl) z (λ p. absurd (omega arith)) (λ p. absurd (omega arith))
         (λ x y e. j.line x y (sym ends_here ∙ e)) (λ k e u. (λ q. omega (arith, t_above d w t here), j.closed (kind_here k e u)))
 
     -- the piece g removed
@@ -145,7 +145,7 @@ module _ (met : Drawing → Bool) (m : Limits) (d : Drawing) (w : Low d.next d.c
         let look : (i : ℕ) → (i ≡ g → ⊥) → curve_in (others g d'.curves) i ≡ curve_in d'.curves i = λ i ne. look_stays g i d'.curves ne in
         let same : (i : ℕ) → (i ≡ g → ⊥) → occurrences i (curve_ids (others g d'.curves)) ≡ occurrences i (curve_ids d'.curves) = λ i ne. occ_stays g i d'.curves ne in
         rw e
-        (pieces-added-effect d w t here (remove g d') d'.curves ps l (link g f h) look same (occ_gone g d'.curves) (λ p. e) (λ p. o)
+        (pieces_added_effect d w t here (remove g d') d'.curves ps l (link g f h) look same (occ_gone g d'.curves) (λ p. e) (λ p. o)
         (λ x y e. j.line x y (sym ends_here ∙ e)) (λ k e u. (λ q. omega (arith, n (kind_here k e u), t_below d w t here), j.closed (kind_here k e u))))
 
     some_of : (o : Option Curve) (e : ℕ × ℕ) → ends_at o ≡ some e → (x : Curve) × (o ≡ some x)
@@ -156,7 +156,7 @@ module _ (met : Drawing → Bool) (m : Limits) (d : Drawing) (w : Low d.next d.c
     -- the second piece goes, after the swap where it was the first
     without_at :
         (d' : Drawing) (a b mid : ℕ) (g : Piece) (gs : List Piece) (js : List ℕ) → PiecesAdded d.next d.curves t d'.next d'.curves (link t a mid ∷ g ∷ gs) → Linked mid (g ∷ gs) b
-        → ((x y : ℕ) → ends_of c.kind ≡ some (x, y) → (a ≡ x) × (b ≡ y)) → (is_circle c.kind ≡ true → (a ≡ b) × (0 < a)) → (first_Goes : Bool) → Holds (Effect t) (remove_piece m t first_Goes (g.curve ∷ js) d')
+        → ((x y : ℕ) → ends_of c.kind ≡ some (x, y) → (a ≡ x) × (b ≡ y)) → (is_circle c.kind ≡ true → (a ≡ b) × (0 < a)) → (first_goes : Bool) → Holds (Effect t) (remove_piece m t first_goes (g.curve ∷ js) d')
     unfolding remove_piece swap_kinds
     without_at d' a b mid g gs js l j h o false =
         holds_then (λ d'' u. Same d' d'') (Effect t) (tie m d' t js) _ (same_tie m d' t js) λ d'' u s.
@@ -179,7 +179,7 @@ module _ (met : Drawing → Bool) (m : Limits) (d : Drawing) (w : Low d.next d.c
         close_without g.curve d'' (link g.curve a mid ∷ link t g.from g.to ∷ gs) q a mid q.stand.0 in_ps (λ e. new)
         (way a b (link g.curve a mid ∷ link t g.from g.to ∷ gs) h o (refl, j) g.curve (λ e. (new, in_ps))))
 
-    without_shape : (d' : Drawing) (is : List ℕ) (first_Goes : Bool) → PartedOf c.kind t d' is → Holds (Effect t) (remove_piece m t first_Goes is d')
+    without_shape : (d' : Drawing) (is : List ℕ) (first_goes : Bool) → PartedOf c.kind t d' is → Holds (Effect t) (remove_piece m t first_goes is d')
     unfolding remove_piece
     without_shape d' is u q = go q.cut_is.rest q.cut_is.pieces_added q.cut_is.named q.cut_is.linked is
       where
@@ -189,7 +189,7 @@ module _ (met : Drawing → Bool) (m : Limits) (d : Drawing) (w : Low d.next d.c
 
     -- the curve as it was
     start : (a b : ℕ) → ends_of c.kind ≡ some (a, b) → PiecesAdded d.next d.curves t d.next d.curves (link t a b ∷ [])
-    start a b e = pieces-added-one d.next d.curves t d.next d.curves a b w (omega arith) refl (λ i ne. refl) (ends_here ∙ e) refl
+    start a b e = pieces_added_one d.next d.curves t d.next d.curves a b w (omega arith) refl (λ i ne. refl) (ends_here ∙ e) refl
 
     way_start : (a b : ℕ) → ends_of c.kind ≡ some (a, b) → Way (link t a b ∷ [])
     way_start a b e = way a b (link t a b ∷ []) (λ x y f. same_ends a b x y (sym e ∙ f)) (λ f. never (sym (circle_ends c.kind a b e) ∙ f)) (refl, refl) 0 (λ f. never (sym (circle_ends c.kind a b e) ∙ f))
@@ -224,14 +224,14 @@ module _ (met : Drawing → Bool) (m : Limits) (d : Drawing) (w : Low d.next d.c
             })
         go (some (a, b)) e = close_without t d (link t a b ∷ []) (start a b e) a b (ends_here ∙ e) (omega (arith, occ_same t [])) (λ f. never (sym (circle_ends c.kind a b e) ∙ f)) (way_start a b e)
 
-    move_shape : (at_end_lem : Bool) (s : Vec2) (p : Pin) → Holds (Effect t) (move_end met m d at_end_lem s p (ends_of c.kind))
+    move_shape : (at_end : Bool) (s : Vec2) (p : Pin) → Holds (Effect t) (move_end met m d at_end s p (ends_of c.kind))
     unfolding move_end check_met
-    move_shape at_end_lem s p = go (ends_of c.kind) refl
+    move_shape at_end s p = go (ends_of c.kind) refl
       where
-        go : (o : Option (ℕ × ℕ)) → ends_of c.kind ≡ o → Holds (Effect t) (move_end met m d at_end_lem s p o)
+        go : (o : Option (ℕ × ℕ)) → ends_of c.kind ≡ o → Holds (Effect t) (move_end met m d at_end s p o)
         go none q = tt
         go (some (a, b)) q =
-            let i : ℕ = ite at_end_lem b a in
+            let i : ℕ = ite at_end b a in
             holds_guard (Effect t) _ 24 _ λ u.
             holds_then (λ d' v. Same (move_point i s d) d') (Effect t) (pin m (move_point i s d) i p) _ (same_pin m (move_point i s d) i p) λ d' v h.
             holds_guard (Effect t) _ 19 _ λ z.
@@ -269,11 +269,11 @@ module _ (met : Drawing → Bool) (m : Limits) (d : Drawing) (w : Low d.next d.c
             close d' (link t q.a q.cut_is.mid ∷ g ∷ gs) l
             (way q.a q.b (link t q.a q.cut_is.mid ∷ g ∷ gs) q.whose q.round (refl, j) g.curve (λ f. (second_new (link t q.a q.cut_is.mid) g l refl, omega (arith, occ_same g.curve (names gs)))))
 
-  cut_shape : (c : Curve) → curve_in d.curves c.id ≡ some c → (ws : List PinnedPoint) (first_Goes : Bool) → Holds (Effect c.id) (cut m d c ws first_Goes)
-  cut_shape c at ws first_Goes =
+  cut_shape : (c : Curve) → curve_in d.curves c.id ≡ some c → (ws : List PinnedPoint) (first_goes : Bool) → Holds (Effect c.id) (cut m d c ws first_goes)
+  cut_shape c at ws first_goes =
       holds_then (λ d' q. PartedOf c.kind c.id d' q.pieces) (Effect c.id) (split_at m (release_extent c.id c.kind d) c (map (λ w. w.at) ws)) _ (split_cut c.id c at (map (λ w. w.at) ws) c.construction) λ d' q h.
       holds_then (λ d'' u. Same d' d'') (Effect c.id) (pin_all m d' q.points ws) _ (same_pins m d' q.points ws) λ d'' u s.
-      without_shape c.id c at d'' q.pieces first_Goes (cut_same c.id c at d' d'' s h)
+      without_shape c.id c at d'' q.pieces first_goes (cut_same c.id c at d' d'' s h)
 
   divide_shape : (c : Curve) → curve_in d.curves c.id ≡ some c → (vs : List Vec2) → Holds (Effect c.id) (divide m d c vs)
   divide_shape c at vs =
@@ -284,11 +284,11 @@ module _ (met : Drawing → Bool) (m : Limits) (d : Drawing) (w : Low d.next d.c
   applied_shape : (c : Curve) → curve_in d.curves c.id ≡ some c → (plan : Plan) → Holds (Effect c.id) (apply_plan_to met m d c plan)
   unfolding apply_plan_to
   applied_shape c at Whole = whole_shape c.id c at
-  applied_shape c at (Cut w first_Goes) = cut_shape c at (w ∷ []) first_Goes
-  applied_shape c at (CutTwo w v first_Goes) = cut_shape c at (w ∷ v ∷ []) first_Goes
+  applied_shape c at (Cut w first_goes) = cut_shape c at (w ∷ []) first_goes
+  applied_shape c at (CutTwo w v first_goes) = cut_shape c at (w ∷ v ∷ []) first_goes
   applied_shape c at (Divide v) = divide_shape c at (v ∷ [])
   applied_shape c at (DivideTwo v u) = divide_shape c at (v ∷ u ∷ [])
-  applied_shape c at (Move at_end_lem v w) = move_shape c.id c at at_end_lem v w
+  applied_shape c at (Move at_end v w) = move_shape c.id c at at_end v w
 
   -- the theorem: whatever the plan
   pub apply_plan_effect : (t : ℕ) (plan : Plan) → Holds (Effect t) (apply_plan met m d t plan)

@@ -23,7 +23,7 @@ use Rattle.edit_plan.proofs.Bridge.{look_front}
 use Rattle.edit_plan.proofs.Tables.{look_some, look_right, ids_set, look_set, look_set_other}
 use Rattle.edit_plan.proofs.Every.{every_append, every_as, every_map, among_same, among_left, among_right, rising_more, rising_end, rising_low, rising_high, look_member}
 use Rattle.chains.proofs.AddedPieces.{Low}
-use Rattle.chains.proofs.Grown.{has, sort_on, relation-kept, curve_kept, Grown}
+use Rattle.chains.proofs.Grown.{has, sort_on, relation_kept, curve_kept, Grown}
 
 pub low_of : (m : Limits) (d : Drawing) → Valid m d → Low d.next d.curves
 low_of m d v =
@@ -34,7 +34,7 @@ low_of m d v =
 
 module _ (m : Limits) (d : Drawing) (v : Valid m d) where
   old_relations : (d' : Drawing) → Grown d d' → Every (sound_relation (has d') (sort_on d')) d.relations
-  old_relations d' g = every_as _ _ d.relations (λ r h. relation-kept (has d) (has d') (sort_on d) (sort_on d') r (λ p q. g.points p) (λ c q. g.sorts c) h) v.relations_sound
+  old_relations d' g = every_as _ _ d.relations (λ r h. relation_kept (has d) (has d') (sort_on d) (sort_on d') r (λ p q. g.points p) (λ c q. g.sorts c) h) v.relations_sound
 
   old_curves : (d' : Drawing) → Grown d d' → Every (sound_curve (has d')) d.curves
   old_curves d' g = every_as _ _ d.curves (λ c h. curve_kept (has d) (has d') c (λ p q. g.points p) h) v.curves_sound

@@ -1,1 +1,2 @@
 // Applying a plan keeps a drawing valid and its chains whole: definitions and proofs, no code.
+#![tactic(auto)]

@@ -1,4 +1,6 @@
 // Where other curves cut a line or round, and which of these cuts lie around a place on it. Geometry only: no table is touched.
+#![tactic(auto)]
+
 use geom::Vec2;
 use shape::Shape;
 use sketch::Id;
@@ -10,7 +12,7 @@ pub mod image_cuts;
 mod nearest;
 
 // A line or round that may cut: its id, whether it is an infinite line, and its shape.
-#[derive(Drop)]
+#[derive(Clone, Copy)]
 pub struct Cutter {
     pub id: Id,
     pub infinite: bool,
@@ -18,7 +20,7 @@ pub struct Cutter {
 }
 
 // A cut: the parameter on the curve that is cut, the place, and the curve that cuts.
-#[derive(Drop)]
+#[derive(Clone, Copy)]
 pub struct Cut {
     pub t: f64,
     pub at: Vec2,
@@ -26,7 +28,7 @@ pub struct Cut {
 }
 
 // The cuts around a place, in order of their parameters.
-#[derive(Drop)]
+#[derive(Clone, Copy)]
 pub enum Neighbours {
     Zero,
     One(Cut),
@@ -34,7 +36,7 @@ pub enum Neighbours {
 }
 
 // Which cuts a search is for: those between the ends and before tq, those between the ends and after it, those not past tq, those past it, or all.
-#[derive(Drop)]
+#[derive(Clone, Copy)]
 enum Side {
     Before,
     After,

@@ -30,8 +30,8 @@ use Rattle.edit_plan.specs.Suited.{PinHolds}
 use Rattle.edit_plan.specs.Changes.{is_circle, is_whole, start_of, end_of, piece_of, kept_piece, gone_piece, pin_relation, cut_middle, change_for, extent_of, staying, unused_by, candidates_for}
 use Rattle.edit_plan.specs.Room.{mk_additions, additions_for, room_with}
 use Rattle.edit_plan.proofs.Leaves.{or_false}
-use Rattle.edit_plan.proofs.Bridge.{unless_refused, guard_point, guard_curve, guard_relation, freed, is_open, open_added, middle_added, cut-chain, middle-chain, room_one, room_middle}
-use Rattle.edit_plan.proofs.Finals.{same, Given, stays, with_pieces, swapped, removal-is, used_is, kept_used, added_used, tie_stays, pin_stays, none_go, end_used, report_is, far-alone, middle-used}
+use Rattle.edit_plan.proofs.Bridge.{unless_refused, guard_point, guard_curve, guard_relation, freed, is_open, open_added, middle_added, cut_chain, middle_chain, room_one, room_middle}
+use Rattle.edit_plan.proofs.Finals.{same, Given, stays, with_pieces, swapped, removal_is, used_is, kept_used, added_used, tie_stays, pin_stays, none_go, end_used, report_is, far_alone, middle_used}
 use Rattle.edit_plan.proofs.AtOnce.{final_of, orphans_of, room_number, left_cut, freed_is, given, sound, start_old, end_old, target_old, pin_apart, old_other}
 
 module _ {m : Limits} {d : Drawing} (v : Valid m d) (c : Curve) (found : curve_in d.curves c.id ≡ some c) where
@@ -84,7 +84,7 @@ module _ {m : Limits} {d : Drawing} (v : Valid m d) (c : Curve) (found : curve_i
       orphans_are : os ≡ orphans_of d c (Cut w b)
       unfolding candidates_for
       orphans_are =
-          far-alone b c.kind i c.slots _ _ o (and_right (every (has_point d.points) (uses_of c.kind c.slots)) (distinct c.kind) (sound v c found))
+          far_alone b c.kind i c.slots _ _ o (and_right (every (has_point d.points) (uses_of c.kind c.slots)) (distinct c.kind) (sound v c found))
           (λ q. omega (arith, start_old v c found o)) (λ q. omega (arith, end_old v c found o))
           (λ p. used_is d c (suc i) at_g ps rs (suc (suc i)) kept gone [] refl p ∙ or_false _)
 
@@ -99,11 +99,11 @@ module _ {m : Limits} {d : Drawing} (v : Valid m d) (c : Curve) (found : curve_i
           let nr = length (freed c d.relations) in
           let r : Outcome Drawing Removed = accepted (final_of d c h e (orphans_of d c (Cut w b))) h.removed in
           let ends : removal (suc i) (ite b (swap c.id (suc i) (open_added met m d c found o w.at (freed c d.relations ++ rs))) (open_added met m d c found o w.at (freed c d.relations ++ rs))) ≡ r =
-          ap (removal (suc i)) (swap_is b) ∙ removal-is d c (suc i) at_g ps rs (suc (suc i)) kept gone [] refl pinned_stays
+          ap (removal (suc i)) (swap_is b) ∙ removal_is d c (suc i) at_g ps rs (suc (suc i)) kept gone [] refl pinned_stays
           ∙ ap (λ l. accepted (record { next = suc (suc i); points = keep (λ p. staying os p.id) ps; curves = map (rekind c.id kept) d.curves ++ []; relations = l ++ rs }) (reported (suc i) (ends_of gone))) (left_cut c (Cut w b) os d.relations refl)
           ∙ ap (λ x. accepted (final_of d c h e x) (reported (suc i) (ends_of gone))) orphans_are
           ∙ ap (accepted (final_of d c h e (orphans_of d c (Cut w b)))) (report_is b c.kind (suc i) a i z either) in
-          cut-chain met m d c found o w (pin_apart v c found w.pin i held (omega arith)) b
+          cut_chain met m d c found o w (pin_apart v c found w.pin i held (omega arith)) b
           ∙ ap (λ x. guard_point m i np w.at (guard_curve m (suc i) nc (guard_relation m nr x))) ends
           ∙ sym (room_one m i np nc nr r w.at)
           ∙ ap (λ x. unless_refused (room_with m i np nc (not (ltb (x + 0) m.relations)) (mk_additions w.at w.at 0 0 0)) r) (sym (freed_is c (Cut w b) d.relations))
@@ -153,7 +153,7 @@ module _ {m : Limits} {d : Drawing} (v : Valid m d) (c : Curve) (found : curve_i
       none_unused : unused ≡ []
       none_unused =
           none_go d c g free points relations (suc (suc g)) first middle ys apart_last
-          (middle-used c.kind (start_of c.kind) i j (end_of c.kind) c.slots (λ p. among p (uses (map (rekind c.id first) d.curves ++ ys))) o first_used last_used)
+          (middle_used c.kind (start_of c.kind) i j (end_of c.kind) c.slots (λ p. among p (uses (map (rekind c.id first) d.curves ++ ys))) o first_used last_used)
 
       all_stay : Every (stays g unused) relations
       all_stay =
@@ -186,11 +186,11 @@ module _ {m : Limits} {d : Drawing} (v : Valid m d) (c : Curve) (found : curve_i
           same _ _ _ _ _ _ _ _ refl (append_assoc d.points (new_point i w.at ∷ []) (new_point j u.at ∷ [])) (append_assoc cs (g-piece ∷ []) ys)
           (ap (λ l. l ++ (tie_relation (is_line c.kind) c.id (suc g) ∷ [])) (append_assoc fs (pin_relation w.pin i ∷ []) (pin_relation u.pin j ∷ [])) ∙ append_assoc fs (pin_relation w.pin i ∷ pin_relation u.pin j ∷ []) (tie_relation (is_line c.kind) c.id (suc g) ∷ [])) in
           let ends : removal g (middle_added met m d c found o w.at u.at (((fs ++ (pin_relation w.pin i ∷ [])) ++ (pin_relation u.pin j ∷ [])) ++ (tie_relation (is_line c.kind) c.id (suc g) ∷ []))) ≡ r =
-          ap (removal g) added_is ∙ removal-is d c g free points relations (suc (suc g)) first middle ys apart_last all_stay
+          ap (removal g) added_is ∙ removal_is d c g free points relations (suc (suc g)) first middle ys apart_last all_stay
           ∙ ap (λ l. accepted (record { next = suc (suc g); points = keep (λ p. staying unused p.id) points; curves = cs ++ ys; relations = l ++ relations }) (reported g (ends_of middle))) (left_cut c plan unused d.relations refl)
           ∙ ap (λ x. accepted (final_of d c h e x) (reported g (ends_of middle))) none_unused
           ∙ ap (accepted (final_of d c h e [])) report_middle in
-          middle-chain met m d c found o w u (pin_apart v c found w.pin i held (omega arith)) (pin_apart v c found u.pin j held' (omega arith))
+          middle_chain met m d c found o w u (pin_apart v c found w.pin i held (omega arith)) (pin_apart v c found u.pin j held' (omega arith))
           ∙ ap (λ x. guard_point m i np w.at (guard_point m j (suc np) u.at (guard_curve m g nc (guard_curve m (suc g) (suc nc) (guard_relation m nr (guard_relation m (suc nr) (guard_relation m (suc (suc nr)) x))))))) ends
           ∙ sym (room_middle m i np nc nr r w.at u.at)
           ∙ ap (λ x. unless_refused (room_with m i np nc (not (ltb (x + 2) m.relations)) (mk_additions w.at u.at 1 1 2)) r) (sym (freed_is c plan d.relations))

@@ -93,12 +93,12 @@ module _ {D A : Type 0} where
             either false = refl
 
     -- the number's tests, one by one
-    room-needs :
+    room_needs :
         (i np nc nr : ℕ) (v u : Vec2) (p q r : ℕ) (o : Outcome D A)
         → unless_refused (room_with m i np nc (not (ltb (nr + r) m.relations)) (mk_additions v u p q r)) o
         ≡ guard_point m i np v (guard_point m (i + p) (np + p) u (guard_curve m (suc (i + p)) nc (guard_curve m (suc (i + p) + q) (nc + q) (guard_relation m (nr + r) o))))
     unfolding room_with
-    room-needs i np nc nr v u p q r o = simp (unless_refused_guard, unless_refused_none, not_not)
+    room_needs i np nc nr v u p q r o = simp (unless_refused_guard, unless_refused_none, not_not)
       where
         not_not : (b : Bool) → not (not b) ≡ b
         not_not true = refl
@@ -107,19 +107,19 @@ module _ {D A : Type 0} where
     module _ (i np nc nr : ℕ) (o : Outcome D A) where
       -- one place: a point, a curve and a relation
       pub room_one : (v : Vec2) → unless_refused (room_with m i np nc (not (ltb (nr + 0) m.relations)) (mk_additions v v 0 0 0)) o ≡ guard_point m i np v (guard_curve m (suc i) nc (guard_relation m nr o))
-      room_one v = room-needs i np nc nr v v 0 0 0 o ∙ simp (add_none, point_again, curve_again)
+      room_one v = room_needs i np nc nr v v 0 0 0 o ∙ simp (add_none, point_again, curve_again)
 
       -- two places of a circle: two points, a curve, and one or two relations
       pub room_circle : (v u : Vec2) → unless_refused (room_with m i np nc (not (ltb (nr + 0) m.relations)) (mk_additions v u 1 0 0)) o ≡ guard_point m i np v (guard_point m (suc i) (suc np) u (guard_curve m (suc (suc i)) nc (guard_relation m nr o)))
-      room_circle v u = room-needs i np nc nr v u 1 0 0 o ∙ simp (add_none, add-one, curve_again)
+      room_circle v u = room_needs i np nc nr v u 1 0 0 o ∙ simp (add_none, add-one, curve_again)
 
       pub room_pinned : (v u : Vec2) → unless_refused (room_with m i np nc (not (ltb (nr + 1) m.relations)) (mk_additions v u 1 0 1)) o ≡ guard_point m i np v (guard_point m (suc i) (suc np) u (guard_curve m (suc (suc i)) nc (guard_relation m nr (guard_relation m (suc nr) o))))
-      room_pinned v u = room-needs i np nc nr v u 1 0 1 o ∙ simp (add_none, add-one, curve_again, relation_lower nr (suc nr) o (omega arith))
+      room_pinned v u = room_needs i np nc nr v u 1 0 1 o ∙ simp (add_none, add-one, curve_again, relation_lower nr (suc nr) o (omega arith))
 
       -- two places of a line or an arc: two points, two curves and three relations
       pub room_middle : (v u : Vec2) → unless_refused (room_with m i np nc (not (ltb (nr + 2) m.relations)) (mk_additions v u 1 1 2)) o ≡ guard_point m i np v (guard_point m (suc i) (suc np) u (guard_curve m (suc (suc i)) nc (guard_curve m (suc (suc (suc i))) (suc nc) (guard_relation m nr (guard_relation m (suc nr) (guard_relation m (suc (suc nr)) o))))))
       room_middle v u =
-          room-needs i np nc nr v u 1 1 2 o
+          room_needs i np nc nr v u 1 1 2 o
           ∙ simp (add-one, add_two, relation_lower (suc nr) (suc (suc nr)) o (omega arith), relation_lower nr (suc (suc nr)) o (omega arith))
 
 -- ---- look-ups
@@ -236,22 +236,22 @@ module _ (met : Drawing → Bool) (m : Limits) (d : Drawing) (c : Curve) (found 
           relations = rs;
         }
 
-    pub divide-chain :
+    pub divide_chain :
         (v : Vec2) → apply_plan_to met m d c (Divide v)
         ≡ guard_point m i np v (guard_curve m (suc i) nc (guard_relation m nr (accepted (open_added v (freed c d.relations ++ (tie_relation (is_line c.kind) c.id (suc i) ∷ []))) nothing)))
     unfolding apply_plan_to add_pieces
-    divide-chain v = simp (guard_then, two_pieces c.kind i o, length-map, line_added)
+    divide_chain v = simp (guard_then, two_pieces c.kind i o, length-map, line_added)
 
     module _ (w : PinnedPoint) (apart : Apart i w.pin) where
       pinned_there : (e : Drawing) → pin m e i w.pin ≡ add_relation m e (pin_relation w.pin i)
       pinned_there e = pin_is m e i w.pin apart
 
-      pub cut-chain :
-          (first_Goes : Bool) → let l = open_added w.at (freed c d.relations ++ (pin_relation w.pin i ∷ [])) in
-          apply_plan_to met m d c (Cut w first_Goes)
-          ≡ guard_point m i np w.at (guard_curve m (suc i) nc (guard_relation m nr (removal (suc i) (ite first_Goes (swap c.id (suc i) l) l))))
+      pub cut_chain :
+          (first_goes : Bool) → let l = open_added w.at (freed c d.relations ++ (pin_relation w.pin i ∷ [])) in
+          apply_plan_to met m d c (Cut w first_goes)
+          ≡ guard_point m i np w.at (guard_curve m (suc i) nc (guard_relation m nr (removal (suc i) (ite first_goes (swap c.id (suc i) l) l))))
       unfolding apply_plan_to add_pieces remove_piece
-      cut-chain first_Goes = simp (guard_then, two_pieces c.kind i o, length-map, pinned_there)
+      cut_chain first_goes = simp (guard_then, two_pieces c.kind i o, length-map, pinned_there)
 
     -- two cuts: the last piece is new, too
     abbrev pub middle_added : Vec2 → Vec2 → List Relation → Drawing
@@ -277,13 +277,13 @@ module _ (met : Drawing → Bool) (m : Limits) (d : Drawing) (c : Curve) (found 
           ap (λ l. line_at (curve_in l c.id)) (append_assoc (map (rekind c.id (piece_of c.kind a i)) d.curves) (x ∷ []) (y ∷ []))
           ∙ line_added d.curves (x ∷ y ∷ []) c.id c a i found
 
-      pub middle-chain :
+      pub middle_chain :
           apply_plan_to met m d c (CutTwo w v false)
           ≡ guard_point m i np w.at (guard_point m (suc i) (suc np) v.at (guard_curve m (suc (suc i)) nc (guard_curve m (suc (suc (suc i))) (suc nc)
           (guard_relation m nr (guard_relation m (suc nr) (guard_relation m (suc (suc nr))
           (removal (suc (suc i)) (middle_added w.at v.at (((freed c d.relations ++ (pin_relation w.pin i ∷ [])) ++ (pin_relation v.pin (suc i) ∷ [])) ++ (tie_relation (is_line c.kind) c.id (suc (suc (suc i))) ∷ []))))))))))
       unfolding apply_plan_to add_pieces remove_piece
-      middle-chain = simp (guard_then, three_pieces c.kind i (suc i) o, length-map, length_end, first_there, second_there, line_there)
+      middle_chain = simp (guard_then, three_pieces c.kind i (suc i) o, length-map, length_end, first_there, second_there, line_there)
 
   module _ (o : is_circle c.kind ≡ true) where
     abbrev pub circle_added : Vec2 → Vec2 → List Relation → Drawing
@@ -295,11 +295,11 @@ module _ (met : Drawing → Bool) (m : Limits) (d : Drawing) (c : Curve) (found 
           relations = rs;
         }
 
-    pub divide-circle-chain :
+    pub divide_circle_chain :
         (v u : Vec2) → apply_plan_to met m d c (DivideTwo v u)
         ≡ guard_point m i np v (guard_point m (suc i) (suc np) u (guard_curve m (suc (suc i)) nc (guard_relation m nr (accepted (circle_added v u (freed c d.relations ++ (tie_relation (is_line c.kind) c.id (suc (suc i)) ∷ []))) nothing))))
     unfolding apply_plan_to add_pieces
-    divide-circle-chain v u = simp (guard_then, circle_pieces c.kind i (suc i) o, length-map, length_end, line_added)
+    divide_circle_chain v u = simp (guard_then, circle_pieces c.kind i (suc i) o, length-map, length_end, line_added)
 
     module _ (w v : PinnedPoint) (apart : Apart i w.pin) (apart' : Apart (suc i) v.pin) where
       first_pinned : (e : Drawing) → pin m e i w.pin ≡ add_relation m e (pin_relation w.pin i)
@@ -308,10 +308,10 @@ module _ (met : Drawing → Bool) (m : Limits) (d : Drawing) (c : Curve) (found 
       second_pinned : (e : Drawing) → pin m e (suc i) v.pin ≡ add_relation m e (pin_relation v.pin (suc i))
       second_pinned e = pin_is m e (suc i) v.pin apart'
 
-      pub cut-circle-chain :
-          (first_Goes : Bool) → let l = circle_added w.at v.at ((freed c d.relations ++ (pin_relation w.pin i ∷ [])) ++ (pin_relation v.pin (suc i) ∷ [])) in
-          apply_plan_to met m d c (CutTwo w v first_Goes)
+      pub cut_circle_chain :
+          (first_goes : Bool) → let l = circle_added w.at v.at ((freed c d.relations ++ (pin_relation w.pin i ∷ [])) ++ (pin_relation v.pin (suc i) ∷ [])) in
+          apply_plan_to met m d c (CutTwo w v first_goes)
           ≡ guard_point m i np w.at (guard_point m (suc i) (suc np) v.at (guard_curve m (suc (suc i)) nc (guard_relation m nr (guard_relation m (suc nr)
-          (removal (suc (suc i)) (ite first_Goes (swap c.id (suc (suc i)) l) l))))))
+          (removal (suc (suc i)) (ite first_goes (swap c.id (suc (suc i)) l) l))))))
       unfolding apply_plan_to add_pieces remove_piece
-      cut-circle-chain first_Goes = simp (guard_then, circle_pieces c.kind i (suc i) o, length-map, length_end, first_pinned, second_pinned)
+      cut_circle_chain first_goes = simp (guard_then, circle_pieces c.kind i (suc i) o, length-map, length_end, first_pinned, second_pinned)

@@ -32,7 +32,7 @@ use Rattle.edit_plan.proofs.Leaves.{among_append, or_true, or_two}
 use Rattle.sketch.proofs.Lists.{keep_append}
 use Rattle.edit_plan.proofs.Unused.{uses_append}
 use Rattle.edit_plan.proofs.Fresh.{unnamed}
-use Rattle.edit_plan.proofs.Gone.{keep_concat_map, keep_every, in_use_stays, rekind_none, rekind_twice, remove-added, uses-rekind, keep_unnamed, freed_unnamed}
+use Rattle.edit_plan.proofs.Gone.{keep_concat_map, keep_every, in_use_stays, rekind_none, rekind_twice, remove_added, uses_rekind, keep_unnamed, freed_unnamed}
 use Rattle.edit_plan.proofs.Bridge.{look_front, is_open, freed}
 
 pub same : (n n' : ℕ) (p p' : List Point) (c c' : List Curve) (r r' : List Relation) → n ≡ n' → p ≡ p' → c ≡ c' → r ≡ r' → ◌≡◌ {A = Drawing} (record { next = n; points = p; curves = c; relations = r }) (record { next = n'; points = p'; curves = c'; relations = r' })
@@ -95,7 +95,7 @@ module _ (d : Drawing) (c : Curve) (g : ℕ) (z : Given d c g) (ps : List Point)
         ∙ keep_concat_map (λ r. every (staying os) (points_of r)) (release_relation c.id (line_ends c.kind)) d.relations)
 
     -- the piece g goes again
-    pub removal-is :
+    pub removal_is :
         Every (stays g os) rs
         → removal g (record { next = n; points = ps; curves = map (rekind c.id k) d.curves ++ (new_curve g q c.construction ∷ ys); relations = freed c d.relations ++ rs })
         ≡ accepted
@@ -107,10 +107,10 @@ module _ (d : Drawing) (c : Curve) (g : ℕ) (z : Given d c g) (ps : List Point)
         })
         (reported g (ends_of q))
     unfolding ends_at
-    removal-is st =
+    removal_is st =
         let l : Drawing = record { next = n; points = ps; curves = map (rekind c.id k) d.curves ++ (new_curve g q c.construction ∷ ys); relations = freed c d.relations ++ rs } in
         let r : Drawing = record { next = n; points = keep (λ p. staying os p.id) ps; curves = cs; relations = concat_map (λ v. keep (λ r. every (staying os) (points_of r)) (release_relation c.id (line_ends c.kind) v)) d.relations ++ rs } in
-        let e : remove g l ≡ r = remove-added g q c.construction (map (rekind c.id k) d.curves) ys (new_set k) ny n ps (freed c d.relations ++ rs)
+        let e : remove g l ≡ r = remove_added g q c.construction (map (rekind c.id k) d.curves) ys (new_set k) ny n ps (freed c d.relations ++ rs)
         ∙ same n n _ _ cs cs _ _ refl refl refl (relations_left_lem st) in
         ap (λ x. accepted x (reported g (ends_at (curve_in l.curves g)))) e ∙ ap (λ x. accepted r (reported g (ends_at x))) (look_gone k q ys)
 
@@ -119,7 +119,7 @@ module _ (d : Drawing) (c : Curve) (g : ℕ) (z : Given d c g) (ps : List Point)
     pub used_is : (p : ℕ) → among p (uses cs) ≡ (among p (uses_of k c.slots) || among p (uses (others c.id d.curves))) || among p (uses ys)
     used_is p =
         ap (among p) (uses_append (map (rekind c.id k) d.curves) ys) ∙ among_append p (uses (map (rekind c.id k) d.curves)) (uses ys)
-        ∙ ap (λ b. b || among p (uses ys)) (uses-rekind c.id c k d.next 0 p d.curves z.rise z.found)
+        ∙ ap (λ b. b || among p (uses ys)) (uses_rekind c.id c k d.next 0 p d.curves z.rise z.found)
 
     pub kept_used : (p : ℕ) → among p (uses_of k c.slots) ≡ true → among p (uses cs) ≡ true
     kept_used p h = used_is p ∙ rw h
@@ -185,56 +185,56 @@ report_is b (Bezier n) g x m y h = never h
 report_is b (Conic u q v rho) g x m y h = never h
 
 -- the far end alone may be removed with a piece of a line or an arc: u says what is used then, v what other curves use
-pub far-alone :
+pub far_alone :
     (b : Bool) (k : CurveKind) (i : ℕ) (s : List ℕ) (u v : ℕ → Bool) → is_open k ≡ true → distinct k ≡ true → (start_of k ≡ i → ⊥) → (end_of k ≡ i → ⊥)
     → ((p : ℕ) → u p ≡ (among p (uses_of (kept_piece k b (start_of k) i (end_of k)) s) || v p))
     → keep (λ p. not (u p)) (uses_of (gone_piece k b (start_of k) i (end_of k)) no_slots) ≡ keep (λ p. not (v p)) (ite b (start_of k) (end_of k) ∷ [])
 unfolding uses_of piece_of start_of end_of distinct is_open
-far-alone true (Line x y) i s u v o t n m f =
+far_alone true (Line x y) i s u v o t n m f =
     let ui : u i ≡ true = f i ∙ rw (eq-eqb i i refl) in
     let ux : u x ≡ v x = f x ∙ rw (ne_eqb x i n, ne_eqb x y (differ_is x y t)) in
     rw (ui, ux)
-far-alone false (Line x y) i s u v o t n m f =
+far_alone false (Line x y) i s u v o t n m f =
     let ui : u i ≡ true = f i ∙ rw (eq-eqb i i refl, or_true (eqb i x)) in
     let uy : u y ≡ v y = f y ∙ rw (ne_eqb y x (λ e. differ_is x y t (sym e)), ne_eqb y i m) in
     rw (ui, uy)
-far-alone true (Arc w x y) i s u v o t n m f =
+far_alone true (Arc w x y) i s u v o t n m f =
     let wx = differ_is w x (and_left (differ w x) (differ w y) (and_left (differ w x && differ w y) (differ x y) t)) in
     let xy = differ_is x y (and_right (differ w x && differ w y) (differ x y) t) in
     let uw : u w ≡ true = f w ∙ rw (eq-eqb w w refl) in
     let ui : u i ≡ true = f i ∙ rw (eq-eqb i i refl, or_true (eqb i w)) in
     let ux : u x ≡ v x = f x ∙ rw (ne_eqb x w (λ e. wx (sym e)), ne_eqb x i n, ne_eqb x y xy) in
     rw (uw, ui, ux)
-far-alone false (Arc w x y) i s u v o t n m f =
+far_alone false (Arc w x y) i s u v o t n m f =
     let wy = differ_is w y (and_right (differ w x) (differ w y) (and_left (differ w x && differ w y) (differ x y) t)) in
     let xy = differ_is x y (and_right (differ w x && differ w y) (differ x y) t) in
     let uw : u w ≡ true = f w ∙ rw (eq-eqb w w refl) in
     let ui : u i ≡ true = f i ∙ rw (eq-eqb i i refl, or_two (eqb i w) (eqb i x)) in
     let uy : u y ≡ v y = f y ∙ rw (ne_eqb y w (λ e. wy (sym e)), ne_eqb y x (λ e. xy (sym e)), ne_eqb y i m) in
     rw (uw, ui, uy)
-far-alone b (Circle w r) i s u v o t n m f = never o
-far-alone b (Bezier x) i s u v o t n m f = never o
-far-alone b (Conic x p y rho) i s u v o t n m f = never o
+far_alone b (Circle w r) i s u v o t n m f = never o
+far_alone b (Bezier x) i s u v o t n m f = never o
+far_alone b (Conic x p y rho) i s u v o t n m f = never o
 
 -- a circle's halves use the same points
-pub halves-alike :
+pub halves_alike :
     (b : Bool) (k : CurveKind) (i j : ℕ) (s : List ℕ) (u : ℕ → Bool) → is_circle k ≡ true
     → ((p : ℕ) → among p (uses_of (kept_piece k b i j i) s) ≡ true → u p ≡ true) → Every u (uses_of (gone_piece k b i j i) no_slots)
 unfolding uses_of piece_of is_circle
-halves-alike b (Line x y) i j s u o f = never o
-halves-alike b (Arc w x y) i j s u o f = never o
-halves-alike true (Circle w r) i j s u o f = (f w (rw (eq-eqb w w refl)), (f i (rw (eq-eqb i i refl) (or_two (eqb i w) (eqb i j))), (f j (rw (eq-eqb j j refl) (or_true (eqb j w))), tt)))
-halves-alike false (Circle w r) i j s u o f = (f w (rw (eq-eqb w w refl)), (f j (rw (eq-eqb j j refl) (or_two (eqb j w) (eqb j i))), (f i (rw (eq-eqb i i refl) (or_true (eqb i w))), tt)))
-halves-alike b (Bezier n) i j s u o f = never o
-halves-alike b (Conic x p y rho) i j s u o f = never o
+halves_alike b (Line x y) i j s u o f = never o
+halves_alike b (Arc w x y) i j s u o f = never o
+halves_alike true (Circle w r) i j s u o f = (f w (rw (eq-eqb w w refl)), (f i (rw (eq-eqb i i refl) (or_two (eqb i w) (eqb i j))), (f j (rw (eq-eqb j j refl) (or_true (eqb j w))), tt)))
+halves_alike false (Circle w r) i j s u o f = (f w (rw (eq-eqb w w refl)), (f j (rw (eq-eqb j j refl) (or_two (eqb j w) (eqb j i))), (f i (rw (eq-eqb i i refl) (or_true (eqb i w))), tt)))
+halves_alike b (Bezier n) i j s u o f = never o
+halves_alike b (Conic x p y rho) i j s u o f = never o
 
 -- what a middle piece uses, the first or the last does
-pub middle-used :
+pub middle_used :
     (k : CurveKind) (x i j y : ℕ) (s : List ℕ) (u : ℕ → Bool) → is_open k ≡ true
     → ((p : ℕ) → among p (uses_of (piece_of k x i) s) ≡ true → u p ≡ true) → ((p : ℕ) → among p (uses_of (piece_of k j y) no_slots) ≡ true → u p ≡ true) → Every u (uses_of (piece_of k i j) no_slots)
 unfolding uses_of piece_of is_open
-middle-used (Line a b) x i j y s u o f l = (f i (rw (eq-eqb i i refl) (or_true (eqb i x))), (l j (rw (eq-eqb j j refl)), tt))
-middle-used (Arc w a b) x i j y s u o f l = (f w (rw (eq-eqb w w refl)), (f i (rw (eq-eqb i i refl) (or_two (eqb i w) (eqb i x))), (l j (rw (eq-eqb j j refl) (or_true (eqb j w))), tt)))
-middle-used (Circle w r) x i j y s u o f l = never o
-middle-used (Bezier n) x i j y s u o f l = never o
-middle-used (Conic a p b rho) x i j y s u o f l = never o
+middle_used (Line a b) x i j y s u o f l = (f i (rw (eq-eqb i i refl) (or_true (eqb i x))), (l j (rw (eq-eqb j j refl)), tt))
+middle_used (Arc w a b) x i j y s u o f l = (f w (rw (eq-eqb w w refl)), (f i (rw (eq-eqb i i refl) (or_two (eqb i w) (eqb i x))), (l j (rw (eq-eqb j j refl) (or_true (eqb j w))), tt)))
+middle_used (Circle w r) x i j y s u o f l = never o
+middle_used (Bezier n) x i j y s u o f l = never o
+middle_used (Conic a p b rho) x i j y s u o f l = never o

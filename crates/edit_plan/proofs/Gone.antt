@@ -83,12 +83,12 @@ module _ (g : ℕ) where
     orphans_added : orphans g (xs ++ (new_curve g k b ∷ ys)) ≡ unused_by (xs ++ ys) (uses_of k no_slots)
     orphans_added = rw (others_added, of_added, append-nil)
 
-    pub remove-added :
+    pub remove_added :
         (n : ℕ) (ps : List Point) (rs : List Relation)
         → let os = unused_by (xs ++ ys) (uses_of k no_slots) in
         remove g (record { next = n; points = ps; curves = xs ++ (new_curve g k b ∷ ys); relations = rs })
         ≡ record { next = n; points = keep (λ q. staying os q.id) ps; curves = xs ++ ys; relations = keep (λ r. unnamed g r && every (staying os) (points_of r)) rs }
-    remove-added n ps rs =
+    remove_added n ps rs =
         let cs = xs ++ (new_curve g k b ∷ ys) in
         let with_these : List ℕ → List Curve → Drawing = λ os l. record { next = n; points = keep (λ q. staying os q.id) ps; curves = l; relations = keep (λ r. unnamed g r && every (staying os) (points_of r)) rs } in
         ap (with_these (orphans g cs)) others_added ∙ ap (λ os. with_these os (xs ++ ys)) orphans_added
@@ -106,12 +106,12 @@ rekind_twice t k k' (c ∷ cs) = go (eqb t c.id) refl (rekind_twice t k k' cs)
 
 module _ (t : ℕ) (c : Curve) where
   -- what curves use once t has the kind k: what t uses then, and what the others do
-  pub uses-rekind :
+  pub uses_rekind :
       (k : CurveKind) (n b p : ℕ) (cs : List Curve) → Rising n b (curve_ids cs) → curve_in cs t ≡ some c
       → among p (uses (map (rekind t k) cs)) ≡ (among p (uses_of k c.slots) || among p (uses (others t cs)))
   unfolding curve_in
-  uses-rekind k n b p [] r e = let z : ◌≡◌ {A = ℕ} 0 1 = cc in absurd (omega arith)
-  uses-rekind k n b p (x ∷ cs) r e = go (eqb t x.id) refl e (uses-rekind k n x.id p cs r.2)
+  uses_rekind k n b p [] r e = let z : ◌≡◌ {A = ℕ} 0 1 = cc in absurd (omega arith)
+  uses_rekind k n b p (x ∷ cs) r e = go (eqb t x.id) refl e (uses_rekind k n x.id p cs r.2)
     where
       swapped : (a b c : Bool) → (a || (b || c)) ≡ (b || (a || c))
       swapped true true c = refl

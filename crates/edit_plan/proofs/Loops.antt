@@ -87,10 +87,10 @@ look_at z n b (c ∷ cs) (suc k) h q =
     rw (ne_eqb (get_or cs k z).id c.id (λ e. omega arith)) (look_at z n c.id cs k h.2 (omega arith))
 
 -- another kind, stored at a curve's place
-pub recut-is-map :
+pub recut_is_map :
     (m n : ℕ) (l : List Curve) (k : ℕ) (q : CurveKind) → k < n → n ≤ length l → Rising m 0 (curve_ids (take n l))
     → take n (set l k (recut (get_or l k no_curve) q)) ≡ map (rekind (get_or l k no_curve).id q) (take n l)
-recut-is-map m n l k q h b r =
+recut_is_map m n l k q h b r =
     let c = get_or l k no_curve in
     let e : get_or (take n l) k no_curve ≡ c = get_or-take n l k no_curve h in
     let u : rekind c.id q c ≡ recut c q = rw (eq-eqb c.id c.id refl) in

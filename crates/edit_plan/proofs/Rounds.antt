@@ -27,8 +27,8 @@ use Rattle.edit_plan.specs.Suited.{PinHolds}
 use Rattle.edit_plan.specs.Changes.{is_circle, is_whole, piece_of, kept_piece, gone_piece, pin_relation, halves_of, half_circles, cut_once, divide_once, change_for, extent_of, staying, unused_by, candidates_for}
 use Rattle.edit_plan.specs.Room.{mk_additions, additions_for, room_with}
 use Rattle.edit_plan.proofs.Leaves.{or_true}
-use Rattle.edit_plan.proofs.Bridge.{unless_refused, guard_point, guard_curve, guard_relation, freed, is_open, open_added, circle_added, divide-chain, divide-circle-chain, cut-circle-chain, room_one, room_circle, room_pinned}
-use Rattle.edit_plan.proofs.Finals.{same, Given, stays, with_pieces, swapped, removal-is, kept_used, pin_stays, none_go, end_used, report_is, halves-alike}
+use Rattle.edit_plan.proofs.Bridge.{unless_refused, guard_point, guard_curve, guard_relation, freed, is_open, open_added, circle_added, divide_chain, divide_circle_chain, cut_circle_chain, room_one, room_circle, room_pinned}
+use Rattle.edit_plan.proofs.Finals.{same, Given, stays, with_pieces, swapped, removal_is, kept_used, pin_stays, none_go, end_used, report_is, halves_alike}
 use Rattle.edit_plan.proofs.AtOnce.{final_of, orphans_of, room_number, nobody_goes, left_all, left_cut, freed_is, seam_used, given, pin_apart, old_other}
 
 module _ {m : Limits} {d : Drawing} (v : Valid m d) (c : Curve) (found : curve_in d.curves c.id ≡ some c) where
@@ -72,7 +72,7 @@ module _ {m : Limits} {d : Drawing} (v : Valid m d) (c : Curve) (found : curve_i
       none_unused' : unused' ≡ []
       none_unused' =
           none_go d c g' free' points' relations' (suc g') half other_half [] refl
-          (halves-alike b c.kind i j' c.slots (λ p. among p (uses (map (rekind c.id half) d.curves ++ []))) o half_used)
+          (halves_alike b c.kind i j' c.slots (λ p. among p (uses (map (rekind c.id half) d.curves ++ []))) o half_used)
 
       both_stay : Every (stays g' unused') relations'
       both_stay =
@@ -104,11 +104,11 @@ module _ {m : Limits} {d : Drawing} (v : Valid m d) (c : Curve) (found : curve_i
           same _ _ _ _ _ _ _ _ refl (append_assoc d.points (new_point i w.at ∷ []) (new_point j' u.at ∷ [])) refl (append_assoc fs (pin_relation w.pin i ∷ []) (pin_relation u.pin j' ∷ [])) in
           let ends : removal g' (ite b (swap c.id g' l) l) ≡ r =
           ap (λ x. removal g' (ite b (swap c.id g' x) x)) added_is ∙ ap (removal g') (turned b)
-          ∙ removal-is d c g' free' points' relations' (suc g') half other_half [] refl both_stay
+          ∙ removal_is d c g' free' points' relations' (suc g') half other_half [] refl both_stay
           ∙ ap (λ y. accepted (record { next = suc g'; points = keep (λ p. staying unused' p.id) points'; curves = cs ++ []; relations = y ++ relations' }) (reported g' (ends_of other_half))) (left_cut c plan unused' d.relations refl)
           ∙ ap (λ x. accepted (final_of d c h e x) (reported g' (ends_of other_half))) none_unused'
           ∙ ap (accepted (final_of d c h e [])) (report_is b c.kind g' i j' i round) in
-          cut-circle-chain met m d c found o w u (pin_apart v c found w.pin i held (omega arith)) (pin_apart v c found u.pin j' held' (omega arith)) b
+          cut_circle_chain met m d c found o w u (pin_apart v c found w.pin i held (omega arith)) (pin_apart v c found u.pin j' held' (omega arith)) b
           ∙ ap (λ x. guard_point m i np w.at (guard_point m j' (suc np) u.at (guard_curve m g' nc (guard_relation m nr (guard_relation m (suc nr) x))))) ends
           ∙ sym (room_pinned m i np nc nr r w.at u.at)
           ∙ ap (λ x. unless_refused (room_with m i np nc (not (ltb (x + 1) m.relations)) (mk_additions w.at u.at 1 0 1)) r) (sym (freed_is c plan d.relations))
@@ -131,7 +131,7 @@ module _ {m : Limits} {d : Drawing} (v : Valid m d) (c : Curve) (found : curve_i
         let r : Outcome Drawing Removed = accepted (final_of d c h e []) nothing in
         let ends : accepted (open_added met m d c found o p (fs ++ tie)) nothing ≡ r =
         ap (λ x. accepted x nothing) (same _ _ _ _ _ _ _ _ refl (sym (nobody_goes (d.points ++ (new_point i p ∷ [])))) refl (ap (λ x. x ++ tie) (left_all c plan d.relations refl))) in
-        divide-chain met m d c found o p
+        divide_chain met m d c found o p
         ∙ ap (λ x. guard_point m i np p (guard_curve m (suc i) nc (guard_relation m nr x))) ends
         ∙ sym (room_one m i np nc nr r p)
         ∙ ap (λ x. unless_refused (room_with m i np nc (not (ltb (x + 0) m.relations)) (mk_additions p p 0 0 0)) r) (sym (freed_is c plan d.relations))
@@ -153,7 +153,7 @@ module _ {m : Limits} {d : Drawing} (v : Valid m d) (c : Curve) (found : curve_i
         let ends : accepted (circle_added met m d c found o p q (fs ++ tie)) nothing ≡ r =
         ap (λ x. accepted x nothing)
         (same _ _ _ _ _ _ _ _ refl (append_assoc d.points (new_point i p ∷ []) (new_point (suc i) q ∷ []) ∙ sym (nobody_goes (d.points ++ new))) refl (ap (λ x. x ++ tie) (left_all c plan d.relations refl))) in
-        divide-circle-chain met m d c found o p q
+        divide_circle_chain met m d c found o p q
         ∙ ap (λ x. guard_point m i np p (guard_point m (suc i) (suc np) q (guard_curve m (suc (suc i)) nc (guard_relation m nr x)))) ends
         ∙ sym (room_circle m i np nc nr r p q)
         ∙ ap (λ x. unless_refused (room_with m i np nc (not (ltb (x + 0) m.relations)) (mk_additions p q 1 0 0)) r) (sym (freed_is c plan d.relations))

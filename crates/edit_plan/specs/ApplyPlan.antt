@@ -16,14 +16,14 @@ use Rattle.edit_plan.specs.Steps.{ends_of, release_extent, split_at, pin, pin_al
 
 -- where the removed piece is the first, the curve keeps its id and takes the geometry of the second, which is removed in its stead; then what stays is tied
 unfoldable pub remove_piece : Limits → ℕ → Bool → List ℕ → Drawing → Outcome Drawing Removed
-remove_piece m t first_Goes [] d = refused 12
-remove_piece m t first_Goes (g ∷ is) d = tie m (ite first_Goes (swap t g d) d) t is then (λ d' u. removal g d')
+remove_piece m t first_goes [] d = refused 12
+remove_piece m t first_goes (g ∷ is) d = tie m (ite first_goes (swap t g d) d) t is then (λ d' u. removal g d')
 
 -- cut at the places, pinned there, without the removed piece
 abbrev pub cut : Limits → Drawing → Curve → List PinnedPoint → Bool → Outcome Drawing Removed
-cut m d c ws first_Goes =
+cut m d c ws first_goes =
     split_at m (release_extent c.id c.kind d) c (map (λ w. w.at) ws)
-    then (λ d' q. pin_all m d' q.points ws then (λ d'' u. remove_piece m c.id first_Goes q.pieces d''))
+    then (λ d' q. pin_all m d' q.points ws then (λ d'' u. remove_piece m c.id first_goes q.pieces d''))
 
 -- cut at the places, all pieces tied
 abbrev pub divide : Limits → Drawing → Curve → List Vec2 → Outcome Drawing Removed
@@ -36,19 +36,19 @@ check_met met d = guard (met d) 19 (accepted d nothing)
 
 -- an end moved, its place tested before it is pinned there
 unfoldable pub move_end : (Drawing → Bool) → Limits → Drawing → Bool → Vec2 → Pin → Option (ℕ × ℕ) → Outcome Drawing Removed
-move_end met m d at_end_lem v w none = refused 10
-move_end met m d at_end_lem v w (some e) =
-    let p : ℕ = ite at_end_lem e.1 e.0 in
+move_end met m d at_end v w none = refused 10
+move_end met m d at_end v w (some e) =
+    let p : ℕ = ite at_end e.1 e.0 in
     guard (ok_position v) 24 (pin m (move_point p v d) p w then (λ d' u. check_met met d'))
 
 -- `met` says whether every relation of a drawing is met
 unfoldable pub apply_plan_to : (Drawing → Bool) → Limits → Drawing → Curve → Plan → Outcome Drawing Removed
 apply_plan_to met m d c Whole = removal c.id d
-apply_plan_to met m d c (Cut w first_Goes) = cut m d c (w ∷ []) first_Goes
-apply_plan_to met m d c (CutTwo w v first_Goes) = cut m d c (w ∷ v ∷ []) first_Goes
+apply_plan_to met m d c (Cut w first_goes) = cut m d c (w ∷ []) first_goes
+apply_plan_to met m d c (CutTwo w v first_goes) = cut m d c (w ∷ v ∷ []) first_goes
 apply_plan_to met m d c (Divide v) = divide m d c (v ∷ [])
 apply_plan_to met m d c (DivideTwo v u) = divide m d c (v ∷ u ∷ [])
-apply_plan_to met m d c (Move at_end_lem v w) = move_end met m d at_end_lem v w (ends_of c.kind)
+apply_plan_to met m d c (Move at_end v w) = move_end met m d at_end v w (ends_of c.kind)
 
 unfoldable pub apply_plan_at : (Drawing → Bool) → Limits → Drawing → Plan → Option Curve → Outcome Drawing Removed
 apply_plan_at met m d plan none = refused 8

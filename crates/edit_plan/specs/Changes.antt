@@ -38,11 +38,11 @@ is_circle (Conic a p b rho) = false
 
 unfoldable pub is_whole : Plan → Bool
 is_whole Whole = true
-is_whole (Cut w first_Goes) = false
-is_whole (CutTwo w v first_Goes) = false
+is_whole (Cut w first_goes) = false
+is_whole (CutTwo w v first_goes) = false
 is_whole (Divide v) = false
 is_whole (DivideTwo v u) = false
-is_whole (Move at_end_lem v w) = false
+is_whole (Move at_end v w) = false
 
 -- the ends of a line or an arc, 0 elsewhere
 unfoldable pub start_of : CurveKind → ℕ
@@ -69,14 +69,14 @@ piece_of (Conic a u b rho) p q = Conic a u b rho
 
 -- of the pieces from a to m and from m to b, the one that stays and the one that is removed
 abbrev pub kept_piece : CurveKind → Bool → ℕ → ℕ → ℕ → CurveKind
-kept_piece k first_Goes a m b = ite first_Goes (piece_of k m b) (piece_of k a m)
+kept_piece k first_goes a m b = ite first_goes (piece_of k m b) (piece_of k a m)
 
 abbrev pub gone_piece : CurveKind → Bool → ℕ → ℕ → ℕ → CurveKind
-gone_piece k first_Goes a m b = ite first_Goes (piece_of k a m) (piece_of k m b)
+gone_piece k first_goes a m b = ite first_goes (piece_of k a m) (piece_of k m b)
 
 abbrev pub gone_as : ℕ → Bool → ℕ → ℕ → ℕ → Removed
-gone_as g first_Goes a m b =
-    ite first_Goes (record { curve = g; from = a; to = m }) (record { curve = g; from = m; to = b })
+gone_as g first_goes a m b =
+    ite first_goes (record { curve = g; from = a; to = m }) (record { curve = g; from = m; to = b })
 
 -- the relation that pins p
 unfoldable pub pin_relation : Pin → ℕ → Relation
@@ -136,8 +136,8 @@ no_halves i =
     }
 
 abbrev pub cut_once : Curve → ℕ → Halves → Bool → Relation → Relation → Change
-cut_once c k h first_Goes r s =
-    let kept = recut c (kept_piece c.kind first_Goes h.from h.at h.to) in
+cut_once c k h first_goes r s =
+    let kept = recut c (kept_piece c.kind first_goes h.from h.at h.to) in
     record {
       next = h.next;
       p = h.p;
@@ -152,7 +152,7 @@ cut_once c k h first_Goes r s =
       t = s;
       second = h.points;
       third = h.points;
-      removed = gone_as h.half first_Goes h.from h.at h.to;
+      removed = gone_as h.half first_goes h.from h.at h.to;
     }
 
 abbrev pub divide_once : Curve → ℕ → Halves → Change
@@ -197,15 +197,15 @@ cut_middle c n w v i =
 -- for the curve c at place k of n
 unfoldable pub change_for : Curve → ℕ → ℕ → Plan → ℕ → Change
 change_for c k n Whole i = divide_once c n (no_halves i)
-change_for c k n (Cut w first_Goes) i =
-    cut_once c k (halves_of c.kind w.at i) first_Goes (pin_relation w.pin i) (pin_relation w.pin i)
-change_for c k n (CutTwo w v first_Goes) i =
+change_for c k n (Cut w first_goes) i =
+    cut_once c k (halves_of c.kind w.at i) first_goes (pin_relation w.pin i) (pin_relation w.pin i)
+change_for c k n (CutTwo w v first_goes) i =
     ite (is_circle c.kind)
-    (cut_once c k (half_circles w.at v.at i) first_Goes (pin_relation w.pin i) (pin_relation v.pin (suc i)))
+    (cut_once c k (half_circles w.at v.at i) first_goes (pin_relation w.pin i) (pin_relation v.pin (suc i)))
     (cut_middle c n w v i)
 change_for c k n (Divide v) i = divide_once c n (halves_of c.kind v i)
 change_for c k n (DivideTwo v u) i = divide_once c n (half_circles v u i)
-change_for c k n (Move at_end_lem v w) i = divide_once c n (no_halves i)
+change_for c k n (Move at_end v w) i = divide_once c n (no_halves i)
 
 abbrev pub points_new : Change → List Point
 points_new h = ite (eqb h.points 0) (h.p ∷ []) (h.p ∷ h.q ∷ [])
@@ -268,12 +268,12 @@ own_points (Conic a p b rho) = no_orphans
 
 -- the far end of a curve that loses its first piece, or its last
 abbrev pub far_end : Bool → CurveKind → Orphans
-far_end first_Goes k = mk_orphans (ite first_Goes (start_of k) (end_of k)) 0 0 true false false
+far_end first_goes k = mk_orphans (ite first_goes (start_of k) (end_of k)) 0 0 true false false
 
 unfoldable pub candidates_for : CurveKind → Plan → Orphans
 candidates_for k Whole = own_points k
-candidates_for k (Cut w first_Goes) = far_end first_Goes k
-candidates_for k (CutTwo w v first_Goes) = no_orphans
+candidates_for k (Cut w first_goes) = far_end first_goes k
+candidates_for k (CutTwo w v first_goes) = no_orphans
 candidates_for k (Divide v) = no_orphans
 candidates_for k (DivideTwo v u) = no_orphans
-candidates_for k (Move at_end_lem v w) = no_orphans
+candidates_for k (Move at_end v w) = no_orphans

@@ -20,11 +20,11 @@ mk_additions v u points curves relations =
 
 unfoldable pub additions_for : CurveKind → Plan → Additions
 additions_for k Whole = mk_additions origin origin 0 0 0
-additions_for k (Cut w first_Goes) = mk_additions w.at w.at 0 0 0
-additions_for k (CutTwo w v first_Goes) = ite (is_circle k) (mk_additions w.at v.at 1 0 1) (mk_additions w.at v.at 1 1 2)
+additions_for k (Cut w first_goes) = mk_additions w.at w.at 0 0 0
+additions_for k (CutTwo w v first_goes) = ite (is_circle k) (mk_additions w.at v.at 1 0 1) (mk_additions w.at v.at 1 1 2)
 additions_for k (Divide v) = mk_additions v v 0 0 0
 additions_for k (DivideTwo v u) = mk_additions v u 1 0 0
-additions_for k (Move at_end_lem v w) = mk_additions origin origin 0 0 0
+additions_for k (Move at_end v w) = mk_additions origin origin 0 0 0
 
 -- a point more, then the rest; a curve more, then the rest
 abbrev pub point_room : Limits → ℕ → ℕ → Vec2 → ℕ → ℕ
@@ -56,8 +56,8 @@ room_for k plan i np nc left = ite (is_whole plan) 0 (room_with_left i np nc lef
 -- how many ids a plan takes
 unfoldable pub takes : CurveKind → Plan → ℕ
 takes k Whole = 0
-takes k (Cut w first_Goes) = 2
-takes k (CutTwo w v first_Goes) = ite (is_circle k) 3 4
+takes k (Cut w first_goes) = 2
+takes k (CutTwo w v first_goes) = ite (is_circle k) 3 4
 takes k (Divide v) = 2
 takes k (DivideTwo v u) = 3
-takes k (Move at_end_lem v w) = 0
+takes k (Move at_end v w) = 0

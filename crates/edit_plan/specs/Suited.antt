@@ -19,20 +19,20 @@ use Rattle.edit_plan.specs.Steps.{nothing}
 -- a line or an arc is cut at one place, or at two, between which a piece is removed
 unfoldable pub suits_open : Plan → Bool
 suits_open Whole = true
-suits_open (Cut w first_Goes) = true
-suits_open (CutTwo w v first_Goes) = not first_Goes
+suits_open (Cut w first_goes) = true
+suits_open (CutTwo w v first_goes) = not first_goes
 suits_open (Divide v) = true
 suits_open (DivideTwo v u) = false
-suits_open (Move at_end_lem v w) = false
+suits_open (Move at_end v w) = false
 
 -- a circle is cut at two places
 unfoldable pub suits_closed : Plan → Bool
 suits_closed Whole = true
-suits_closed (Cut w first_Goes) = false
-suits_closed (CutTwo w v first_Goes) = true
+suits_closed (Cut w first_goes) = false
+suits_closed (CutTwo w v first_goes) = true
 suits_closed (Divide v) = false
 suits_closed (DivideTwo v u) = true
-suits_closed (Move at_end_lem v w) = false
+suits_closed (Move at_end v w) = false
 
 unfoldable pub suits : CurveKind → Plan → Bool
 suits (Line a b) plan = suits_open plan
@@ -48,11 +48,11 @@ PinHolds d t (At e) = among e (uses (others t d.curves)) ≡ true
 
 abbrev pub Pinned : Drawing → ℕ → Plan → Type 0
 Pinned d t Whole = Unit {0}
-Pinned d t (Cut w first_Goes) = PinHolds d t w.pin
-Pinned d t (CutTwo w v first_Goes) = PinHolds d t w.pin × PinHolds d t v.pin
+Pinned d t (Cut w first_goes) = PinHolds d t w.pin
+Pinned d t (CutTwo w v first_goes) = PinHolds d t w.pin × PinHolds d t v.pin
 Pinned d t (Divide v) = Unit {0}
 Pinned d t (DivideTwo v u) = Unit {0}
-Pinned d t (Move at_end_lem v w) = PinHolds d t w
+Pinned d t (Move at_end v w) = PinHolds d t w
 
 pub record Suited (d : Drawing) (c : Curve) (plan : Plan) : Type 0 where
   pub kind : suits c.kind plan ≡ true

@@ -1,4 +1,6 @@
 // A plan is what an edit decided to do with a curve, and what it changes: from the curve, the plan and numbers alone.
+#![tactic(auto)]
+
 mod changes;
 mod extents;
 mod pieces;
@@ -16,14 +18,14 @@ use sketch::{Curve, Id, Point, Relation, Sketch};
 pub use unused_points::{candidates_of, curve_uses, unless_used};
 
 // The constraint on a new end: on the curve that cut there, or at an end of it, which is a point.
-#[derive(Drop)]
+#[derive(Clone, Copy)]
 pub enum Pin {
     On(Id),
     At(Id),
 }
 
 // A point where a curve is cut, and the new end's pin.
-#[derive(Drop)]
+#[derive(Clone, Copy)]
 pub struct PinnedPoint {
     pub at: Vec2,
     pub pin: Pin,
@@ -33,7 +35,7 @@ pub struct PinnedPoint {
 // Whole: it is removed. Cut: it is cut, and the first (true) or the second of two pieces is removed. CutTwo: it is cut twice,
 // and a piece is removed: of a circle the first (true) or the second, else the middle one. Divide, DivideTwo: it is cut, and
 // every piece stays. Move: its start or (true) its end moves.
-#[derive(Drop)]
+#[derive(Clone, Copy)]
 pub enum Plan {
     Whole,
     Cut(PinnedPoint, bool),
@@ -44,7 +46,7 @@ pub enum Plan {
 }
 
 // The removed curve's id with its two ends; zeros for ends that it has not, and three zeros where nothing is removed.
-#[derive(Drop)]
+#[derive(Clone, Copy)]
 pub struct Removed {
     pub curve: Id,
     pub from: Id,
@@ -53,7 +55,7 @@ pub struct Removed {
 
 // What an edit leaves. Where it is refused, by a number other than 0, that is the sketch it was given. A place comes with the
 // numbers 13 and 19: that of the first relation that is not met, with 19 in the table that the edit would have left.
-#[derive(Drop)]
+#[derive(Clone, Copy)]
 pub struct Edited {
     pub sketch: Sketch,
     pub refusal: u8,
@@ -62,7 +64,7 @@ pub struct Edited {
 }
 
 // The curve that is cut, or removed whole (`whole`), with the ends of a line (`line`) or an arc; zeros where there are none.
-#[derive(Drop)]
+#[derive(Clone, Copy)]
 pub struct Extent {
     pub id: Id,
     pub line: bool,
@@ -72,7 +74,7 @@ pub struct Extent {
 }
 
 // Up to three points, each with whether it is removed.
-#[derive(Drop)]
+#[derive(Clone, Copy)]
 pub struct Orphans {
     pub p: Id,
     pub q: Id,
@@ -83,7 +85,7 @@ pub struct Orphans {
 }
 
 // What is left of a relation.
-#[derive(Drop)]
+#[derive(Clone, Copy)]
 pub enum Kept {
     Keep(Relation),
     Dropped,
@@ -91,7 +93,7 @@ pub enum Kept {
 
 // What a cut or a division adds: a point, a curve and a relation, and how many more of each. Where no second point is
 // added, its place is that of the first.
-#[derive(Drop)]
+#[derive(Clone, Copy)]
 struct Additions {
     first: Vec2,
     second: Vec2,
@@ -101,7 +103,7 @@ struct Additions {
 }
 
 // A curve in two: the new points, the way through the last of them, the id of its second half and the next id then.
-#[derive(Drop)]
+#[derive(Clone, Copy)]
 struct Halves {
     p: Point,
     q: Point,
@@ -115,7 +117,7 @@ struct Halves {
 
 // What a cut or a division writes. A second point comes `points` places after the first: where there is none, that is
 // the same again at the same place; and so for a new piece, which stands at `place`, and for the relations.
-#[derive(Drop)]
+#[derive(Clone, Copy)]
 pub struct Change {
     pub next: Id,
     pub p: Point,

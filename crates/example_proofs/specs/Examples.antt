@@ -121,14 +121,14 @@ pub record Examples : Type 0 where
   pub split_inside :
       edit_of Split limits (L []) 3 (mk_vec 1 3)
       ≡ accepted (mk_drawing 6 (mk_point 1 0 0 ∷ mk_point 2 4 0 ∷ mk_point 4 1 0 ∷ []) (mk_line 3 1 4 ∷ mk_line 5 4 2 ∷ []) (Collinear 3 5 ∷ [])) nothing
-  pub split-measured :
+  pub split_measured :
       edit_of Split limits (L (Length 3 (as_float 4) ∷ [])) 3 (mk_vec 1 3)
       ≡ accepted (mk_drawing 6 (mk_point 1 0 0 ∷ mk_point 2 4 0 ∷ mk_point 4 1 0 ∷ []) (mk_line 3 1 4 ∷ mk_line 5 4 2 ∷ []) (Distance 1 2 (as_float 4) ∷ Collinear 3 5 ∷ [])) nothing
   pub split_at_the_end : edit_of Split limits (L []) 3 (mk_vec 0 3) ≡ refused 12
-  pub trim-before :
+  pub trim_before :
       edit_of Trim limits T 3 (vec ½ 0f)
       ≡ accepted (mk_drawing 9 (mk_point 2 4 0 ∷ below 4 1 ∷ mk_point 5 1 1 ∷ mk_point 7 1 0 ∷ []) (mk_line 3 7 2 ∷ mk_line 6 4 5 ∷ []) (PointOnCurve 7 6 ∷ [])) (removed 8 1 7)
-  pub trim-after :
+  pub trim_after :
       edit_of Trim limits T 3 (mk_vec 3 0)
       ≡ accepted (mk_drawing 9 (mk_point 1 0 0 ∷ below 4 1 ∷ mk_point 5 1 1 ∷ mk_point 7 1 0 ∷ []) (mk_line 3 1 7 ∷ mk_line 6 4 5 ∷ []) (PointOnCurve 7 6 ∷ [])) (removed 8 7 2)
   pub trim_whole : edit_of Trim limits (L []) 3 (mk_vec 1 0) ≡ accepted (mk_drawing 4 [] [] []) (removed 3 1 2)

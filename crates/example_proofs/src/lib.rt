@@ -1,1 +1,2 @@
 // Worked examples as theorems over the definitions: one list, in specs/ and proofs/. No code.
+#![tactic(auto)]

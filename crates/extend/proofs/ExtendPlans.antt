@@ -7,8 +7,6 @@ use Prim.Native.Nat.{ℕ, zero, suc, ◌<◌}
 use native.Mathlib.Omega.{arith}
 use lib.ListN.{length, get_or, length-map}
 use lib.Ieee.{Float, le}
-use types.Run.{OneOf, miss}
-use denote.Enum.Declared.{tag_of}
 use borrow.Author.Tests.{eq-eqb, ne_eqb}
 use Rattle.geom.specs.Plane.{distance}
 use Rattle.geom.specs.declared.Vec2.{Vec2}
@@ -19,13 +17,12 @@ use Rattle.sketch.specs.declared.Point.{Point}
 use Rattle.sketch.specs.declared.Curve.{Curve}
 use Rattle.sketch.specs.declared.CurveKind.{CurveKind}
 use Rattle.sketch.specs.declared.CurveKind.TheVariants.{Line, Arc, Circle, Bezier, Conic}
-use Rattle.sketch.specs.contracts.CurveKind as K
 use Rattle.sketch.specs.Lookup.{among, Ascends}
 use Rattle.sketch.specs.Blanks.{no_point}
 use Rattle.sketch.specs.Drawing.{Drawing, point_ids, curve_in}
 use Rattle.sketch.proofs.Ascent.{above_ascends, above_at}
 use Rattle.sketch.proofs.Bools.{never}
-use Rattle.sketch.proofs.Facts.{get_D_mapped}
+use Rattle.sketch.proofs.Facts.{get_or_mapped}
 use Rattle.sketch_geometry.specs.Geometry.{position_of}
 use Rattle.relations.specs.Met.{all_met}
 use Rattle.edit_plan.specs.declared.Pin.{Pin}
@@ -67,7 +64,7 @@ fixed_at [] k h q = absurd (omega arith)
 fixed_at (p ∷ ps) zero h q = rw (eq-eqb p.id p.id refl)
 fixed_at (p ∷ ps) (suc k) h q =
     let u = above_at p.id (point_ids ps) k h (rw (length-map ps (λ (x : Point). x.id)) (omega arith)) in
-    let e = get_D_mapped (λ (x : Point). x.id) 0 no_point ps k (omega arith) in
+    let e = get_or_mapped (λ (x : Point). x.id) 0 no_point ps k (omega arith) in
     rw (ne_eqb (get_or ps k no_point).id p.id (λ x. omega arith)) (fixed_at ps k (above_ascends p.id (point_ids ps) h) (omega arith))
 
 module _ (d : Drawing) (id : ℕ) (p : Vec2) (s : Support) (end : ℕ) {used : Bool} (u : used ≡ among end (uses (others id d.curves))) where
@@ -109,12 +106,9 @@ module _ (d : Drawing) (at_b : Bool) (x : SearchResult) where
 
 -- ---- the curve
 
-abbrev pub others_than_line : List ℕ
-others_than_line = 1 ∷ 2 ∷ 3 ∷ 4 ∷ []
-
-pub not_line_lem : (d : Drawing) (p : Vec2) (c : Curve) (k : CurveKind) → OneOf others_than_line (tag_of K.the_type k) → Refused 10 ≡ extend_curve d p c k
+pub not_line_lem : (d : Drawing) (p : Vec2) (c : Curve) (k : CurveKind) → ((i j : ℕ) → k ≡ Line i j → ⊥) → Refused 10 ≡ extend_curve d p c k
 unfolding extend_curve
-not_line_lem d p c (Line i j) h = absurd (miss others_than_line 0 tt h)
+not_line_lem d p c (Line i j) h = absurd (h i j refl)
 not_line_lem d p c (Arc m i j) h = refl
 not_line_lem d p c (Circle m r) h = refl
 not_line_lem d p c (Bezier n) h = refl

@@ -7,15 +7,12 @@ use Prim.Native.Nat.{ℕ, ◌/◌, ◌≤◌, ◌<◌}
 use native.Mathlib.Omega.{arith}
 use lib.ListN.{length, get_or}
 use lib.Ieee.{Float, le}
-use types.Run.{OneOf}
-use denote.Enum.Declared.{tag_of}
 use Rattle.big_endian.specs.Laws.{Bytes}
 use Rattle.geom.specs.Plane.{distance}
 use Rattle.geom.specs.declared.Vec2.{Vec2}
 use Rattle.sketch.specs.declared.Point.{Point}
 use Rattle.sketch.specs.declared.Curve.{Curve}
 use Rattle.sketch.specs.declared.CurveKind.TheVariants.{Line}
-use Rattle.sketch.specs.contracts.CurveKind as K
 use Rattle.sketch.specs.Lists.{ite}
 use Rattle.sketch.specs.Lookup.{among, Found}
 use Rattle.sketch.specs.Blanks.{no_point, no_curve}
@@ -41,7 +38,7 @@ use Rattle.extend.specs.declared.EndPlan.TheVariants as N
 use Rattle.extend.specs.Extend.{is_fixed}
 use Rattle.extend.specs.ExtendContracts.{MovesAt}
 use Rattle.extend.specs.ImageExtendContracts.{FreeEnd, FreeAt, EndIn, MovesEnd, ExtendIn}
-use Rattle.extend.proofs.ExtendPlans.{fixed_at, others_than_line, not_line_lem, line_at}
+use Rattle.extend.proofs.ExtendPlans.{fixed_at, not_line_lem, line_at}
 
 -- ---- the tables of a good image
 
@@ -112,7 +109,7 @@ module _ (s : List ℕ) (e : image_fault s ≡ 0) (curves : List ℕ) (t : curve
   target_is : c ≡ target
   target_is = let w = curves_held s e curves t in r ∙ held_curve w place (rw (← held_curves w) h)
 
-  pub other_kind : OneOf others_than_line (tag_of K.the_type c.kind) → ExtendIn (drawing_of s) target p (N.Refused 10)
+  pub other_kind : ((i j : ℕ) → c.kind ≡ Line i j → ⊥) → ExtendIn (drawing_of s) target p (N.Refused 10)
   other_kind q = subst (λ (x : Curve). ExtendIn (drawing_of s) x p (N.Refused 10)) target_is (record { plan = not_line_lem (drawing_of s) p c c.kind q; place = tt })
 
   module _ {i j : ℕ} (k : c.kind ≡ Line i j) where

@@ -1,15 +1,13 @@
 -- The extend of a line of an image, one law for each way out of the code. Assumes nothing.
 use mathlib.Core.Path.{◌≡◌, refl, sym, ap, ◌∙◌, subst}
-use mathlib.Core.Bool.{Bool, true, false, not, ◌&&◌, and_true}
+use mathlib.Core.Bool.{Bool, true, false, ◌&&◌, and-true}
 use mathlib.Core.List.{List, [], ◌∷◌, ◌++◌, map}
 use mathlib.Core.Option.{some}
 use Prim.Native.Nat.{ℕ, zero, suc, ◌+◌, ◌≤◌, ◌<◌}
 use native.Mathlib.Omega.{arith}
 use lib.Dec.{eqb, ltb, leb}
 use lib.ListN.{length, get_or, length-append}
-use types.Run.{OneOf}
-use denote.Enum.Declared.{tag_of}
-use borrow.Author.Tests.{ne_eqb, not-true, not-false}
+use borrow.Author.Tests.{ne_eqb}
 use Rattle.big_endian.specs.Laws.{Bytes}
 use Rattle.geom.specs.declared.Vec2.{Vec2}
 use Rattle.sketch.specs.declared.Point.{Point}
@@ -17,7 +15,6 @@ use Rattle.sketch.specs.declared.Curve.{Curve}
 use Rattle.sketch.specs.declared.CurveKind.{CurveKind}
 use Rattle.sketch.specs.declared.CurveKind.TheVariants.{Line}
 use Rattle.sketch.specs.declared.Relation.{Relation}
-use Rattle.sketch.specs.contracts.CurveKind as K
 use Rattle.sketch.specs.Lists.{ite, every, guard_number}
 use Rattle.sketch.specs.Blanks.{no_point, no_curve}
 use Rattle.sketch.specs.Lookup.{among}
@@ -68,7 +65,7 @@ use Rattle.extend.specs.ImageExtend.{if_fits, OutcomeWritten, refused_at, extend
 use Rattle.extend.specs.ImageExtendContracts.{MovesEnd, ExtendIn, PlansExtendIn, move_in, MoveAnswer, MovesIfMet}
 use Rattle.extend.proofs.Places.{Placeless, placeless_below, placeless_above, place_none, place_13, place_after}
 use Rattle.extend.proofs.Refusing.{extend_number}
-use Rattle.extend.proofs.ExtendPlans.{others_than_line, not_line_lem, unmet_line}
+use Rattle.extend.proofs.ExtendPlans.{not_line_lem, unmet_line}
 use Rattle.extend.proofs.Moves.{extend_moves_end}
 use Rattle.extend.proofs.OutcomesWritten.{edited_by, answered_outcome, refused_outcome, not_accepted}
 
@@ -99,7 +96,7 @@ module _ (w : Pin) (p : ℕ) (f : Relation → Bool) {n : ℕ} (e : n ≡ length
   pin_adds_none z = sym (ap (every f) (pinned_none w p (sym e ∙ z)))
 
   pub pin_adds_one : (n ≡ 0 → ⊥) → {r : Relation} → r ≡ pin_relation w p → {b : Bool} → b ≡ f r → b ≡ every f (pinned_by w p)
-  pin_adds_one z {r} g h = h ∙ ap f g ∙ sym (ap (every f) (pinned_one w p (λ x. z (e ∙ x))) ∙ and_true (f (pin_relation w p)))
+  pin_adds_one z {r} g h = h ∙ ap f g ∙ sym (ap (every f) (pinned_one w p (λ x. z (e ∙ x))) ∙ and-true (f (pin_relation w p)))
 
 -- ---- the move
 
@@ -241,13 +238,13 @@ module _ (s : List ℕ) (b : Bytes s) (id k : ℕ) (v : Vec2) (w : Pin) (e : ima
     pin_so : m ≡ every (met (map (moved (point_at_place (drawing_of s) k).id v) (drawing_of s).points) (drawing_of s).curves) (pinned_by w (point_at_place (drawing_of s) k).id)
     pin_so = em ∙ ap (λ (x : Point). every (met (map (moved x.id v) (drawing_of s).points) (drawing_of s).curves) (pinned_by w x.id)) point_so
 
-    pub answer_pin_unmet : (l : List ℕ) → not m ≡ true → MoveAnswer (drawing_of s) k v w l l (refused_at 19 n)
+    pub answer_pin_unmet : (l : List ℕ) → m ≡ false → MoveAnswer (drawing_of s) k v w l l (refused_at 19 n)
     answer_pin_unmet l x =
         move_unmet (drawing_of s) k v w (sym u ∙ z) l
-        (subst (FirstIn (drawing_moved (drawing_of s) k v w)) (sym count_so) (pin_unmet (image_valid s e b) k below v w all id alone first_so (omega (arith, count_so)) pin_so (not-true m x)))
+        (subst (FirstIn (drawing_moved (drawing_of s) k v w)) (sym count_so) (pin_unmet (image_valid s e b) k below v w all id alone first_so (omega (arith, count_so)) pin_so x))
 
-    pub answer_met : not m ≡ false → (before after : List ℕ) (a : Applied) → Answered (move_refusal (drawing_of s).points (drawing_of s).relations k v w) (encode (drawing_moved (drawing_of s) k v w)) nothing before after a → MoveAnswer (drawing_of s) k v w before after (edited_by a)
-    answer_met x before after a g = move_met (drawing_of s) k v w (sym u ∙ z) (pin_met (image_valid s e b) k below v w all id alone first_so (omega (arith, count_so)) pin_so (not-false m x)) before after a g
+    pub answer_met : m ≡ true → (before after : List ℕ) (a : Applied) → Answered (move_refusal (drawing_of s).points (drawing_of s).relations k v w) (encode (drawing_moved (drawing_of s) k v w)) nothing before after a → MoveAnswer (drawing_of s) k v w before after (edited_by a)
+    answer_met x before after a g = move_met (drawing_of s) k v w (sym u ∙ z) (pin_met (image_valid s e b) k below v w all id alone first_so (omega (arith, count_so)) pin_so x) before after a g
 
 -- ---- the extend
 
@@ -258,7 +255,7 @@ module _ (d : Drawing) (k : ℕ) (at : Vec2) where
   refused_by_lem : (l : List ℕ) (n : ℕ) → Placeless n → extend_in all_met d k at ≡ refused n → ExtendWritten d k at l l (refused_at n 0)
   refused_by_lem l n h o = record { written = refused_outcome n 0 o; sound = λ d' removed a. not_accepted o a; place = place_none d _ h }
 
-  pub no_line : (l : List ℕ) → OneOf others_than_line (tag_of K.the_type target.kind) → ExtendWritten d k at l l (refused_at 10 0)
+  pub no_line : (l : List ℕ) → ((i j : ℕ) → target.kind ≡ Line i j → ⊥) → ExtendWritten d k at l l (refused_at 10 0)
   unfolding apply_planned
   no_line l h = refused_by_lem l 10 (placeless_below (omega arith)) (ap (apply_planned all_met limits d target.id) (sym (not_line_lem d at target target.kind h)))
 
@@ -330,8 +327,8 @@ module _ (s : List ℕ) (b : Bytes s) (k : ℕ) (at : Vec2) (e : image_fault s �
   curve_so : c ≡ get_or (drawing_of s).curves k no_curve
   curve_so = placed_curve s e k below et ec
 
-  pub image_no_line : (l : List ℕ) → OneOf others_than_line (tag_of K.the_type c.kind) → ExtendWritten (drawing_of s) k at l l (refused_at 10 0)
-  image_no_line l h = no_line (drawing_of s) k at l (subst (λ (x : Curve). OneOf others_than_line (tag_of K.the_type x.kind)) curve_so h)
+  pub image_no_line : (l : List ℕ) → ((i j : ℕ) → c.kind ≡ Line i j → ⊥) → ExtendWritten (drawing_of s) k at l l (refused_at 10 0)
+  image_no_line l h = no_line (drawing_of s) k at l (subst (λ (x : Curve). (i j : ℕ) → x.kind ≡ Line i j → ⊥) curve_so h)
 
   module _ {u : ℕ} (eu : u ≡ first_unmet (drawing_of s)) {r : List ℕ} {n : ℕ} (er : r ≡ relation_table s) (en : n ≡ length (relations_in r)) where
     pub image_unmet : (l : List ℕ) {i j : ℕ} → c.kind ≡ Line i j → u < n → ExtendWritten (drawing_of s) k at l l (refused_at 13 u)

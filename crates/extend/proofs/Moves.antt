@@ -83,10 +83,10 @@ module _ (f : ℕ → Bool) where
 
 -- a move of an end of the curve t, held by another curve
 pub record Moves (d : Drawing) (t : ℕ) (plan : Plan) : Type 0 where
-  pub at_end_lem : Bool
+  pub at_end : Bool
   pub place : Vec2
   pub pin : Pin
-  pub is : plan ≡ P.Move at_end_lem place pin
+  pub is : plan ≡ P.Move at_end place pin
   pub held : PinHolds d t pin
 
 module _ (d : Drawing) (c : Curve) where
@@ -98,7 +98,7 @@ module _ (d : Drawing) (c : Curve) where
       let w : Pin = pin_to d.points b.at b.by (ends_at (curve_in d.curves b.by)) in
       let u = guard_plan_accepted (not b.tied) 17 (Accepted (P.Move at_b b.at w)) plan h in
       let q : P.Move at_b b.at w ≡ plan = cc in
-      record { at_end_lem = at_b; place = b.at; pin = w; is = sym q; held = pin_held d c.id b.by b.at p }
+      record { at_end = at_b; place = b.at; pin = w; is = sym q; held = pin_held d c.id b.by b.at p }
 
   end_held : (p : Vec2) (s : Support) (end : ℕ) (plan : Plan) → extend_end d c.id p s end ≡ Accepted plan → Moves d c.id plan
   unfolding extend_end

@@ -1,4 +1,6 @@
 // The extend of a line: an end moves on to the nearest curve that it meets, and is pinned there.
+#![tactic(auto)]
+
 mod image_extend;
 mod image_moves;
 
@@ -7,7 +9,7 @@ use geom::Vec2;
 pub use image_moves::{extend_image, refused};
 
 // What becomes of the end of a line: the number of a refusal; or that the end, or (false) the start, the point at a place, moves.
-#[derive(Drop)]
+#[derive(Clone, Copy)]
 enum EndPlan {
     Refused(u8),
     Move(bool, usize, Vec2, Pin),
@@ -15,7 +17,7 @@ enum EndPlan {
 
 // What an edit of an image answers: the number of a refusal, with the place of a relation where 13 or 19 come with one, else 0; or 0, with
 // the report and the size of the new image.
-#[derive(Drop)]
+#[derive(Clone, Copy)]
 pub struct EditedImage {
     pub refusal: u8,
     pub place: usize,

@@ -7,7 +7,7 @@ use native.Mathlib.Nat.{mul_assoc, mul_comm, mul_left_comm, add-mul, mul-one, po
 use native.Mathlib.Omega.{arith}
 use lib.Dec.{T, ltb, ltb→lt, nltb→le}
 use lib.Pow.{pow_pos, pow_mono, pow-add}
-use lib.Ieee.{down, size, nearest}
+use lib.Ieee.{size, nearest}
 use lib.Ieee.Digits.{size_reaches, back}
 use lib.Ieee.Fits.{two, kept-lt}
 use Rattle.float.specs.Root.{sq, isqrt}

@@ -43,26 +43,26 @@ module _ (p s : ℕ) (next : s ≡ p + 1) (ok : T (inside p)) where
       let c = ltb (p % 2 ^ 52 + 1) (2 ^ 52) in
       (ltb→lt 0 (p / 2 ^ 52) (and_l a b (and_l (a && b) c ok)), ltb→lt (p / 2 ^ 52) 2047 (and_r a b (and_l (a && b) c ok)), ltb→lt (p % 2 ^ 52 + 1) (2 ^ 52) (and_r (a && b) c ok))
 
-  value_P : HasValue P false (q * 2 ^ k) (2 ^ 1074)
-  value_P = let h = field in read_high binary64 p (omega arith) k (omega arith) (omega arith)
+  value_p : HasValue P false (q * 2 ^ k) (2 ^ 1074)
+  value_p = let h = field in read_high binary64 p (omega arith) k (omega arith) (omega arith)
 
-  value_S : HasValue S false ((q + 1) * 2 ^ k) (2 ^ 1074)
-  value_S =
+  value_s : HasValue S false ((q + 1) * 2 ^ k) (2 ^ 1074)
+  value_s =
       let h = field in
       let e : 2 ^ 52 + s % 2 ^ 52 ≡ q + 1 = omega arith in
       subst (λ (z : ℕ). HasValue S false (z * 2 ^ k) (2 ^ 1074)) e (read_high binary64 s (omega arith) k (omega arith) (omega arith))
 
-  cross_P : num P * 2 ^ 1074 ≡ q * 2 ^ k * den P
-  cross_P = value→cross P (q * 2 ^ k) (2 ^ 1074) value_P
+  cross_p : num P * 2 ^ 1074 ≡ q * 2 ^ k * den P
+  cross_p = value→cross P (q * 2 ^ k) (2 ^ 1074) value_p
 
-  cross_S : num S * 2 ^ 1074 ≡ (q + 1) * 2 ^ k * den S
-  cross_S = value→cross S ((q + 1) * 2 ^ k) (2 ^ 1074) value_S
+  cross_s : num S * 2 ^ 1074 ≡ (q + 1) * 2 ^ k * den S
+  cross_s = value→cross S ((q + 1) * 2 ^ k) (2 ^ 1074) value_s
 
-  pub positive_P : T (positive P)
-  positive_P = positive_of_value P (q * 2 ^ k) (2 ^ 1074) value_P (mul-pos (omega arith) (pow_pos k))
+  pub positive_p : T (positive P)
+  positive_p = positive_of_value P (q * 2 ^ k) (2 ^ 1074) value_p (mul-pos (omega arith) (pow_pos k))
 
-  pub positive_S : T (positive S)
-  positive_S = positive_of_value S ((q + 1) * 2 ^ k) (2 ^ 1074) value_S (mul-pos (omega arith) (pow_pos k))
+  pub positive_s : T (positive S)
+  positive_s = positive_of_value S ((q + 1) * 2 ^ k) (2 ^ 1074) value_s (mul-pos (omega arith) (pow_pos k))
 
   pub next_below : (x : Float) → T (fits binary64 x) → T (plain x) → lt x S ≡ not (lt P x)
   next_below x fx px =
@@ -73,34 +73,34 @@ module _ (p s : ℕ) (next : s ≡ p + 1) (ok : T (inside p)) where
       go y cx held true e =
           let l : q * 2 ^ k < y = ltb-true (q * 2 ^ k) y e in
           let g : (q + 1) * 2 ^ k ≤ y = gap 53 q k y held (λ z. omega arith) (omega arith) l in
-          let above : num S * den x ≤ num x * den S = transfer (num S) (num x) (den S) (den x) ((q + 1) * 2 ^ k) y (2 ^ 1074) (2 ^ 1074) (pow_pos 1074) (pow_pos 1074) cross_S cx (mul-le-mul_right (2 ^ 1074) g) in
-          let far : num P * den x < num x * den P = strictly (num P) (num x) (den P) (den x) (q * 2 ^ k) y (2 ^ 1074) (den_pos P) (den_pos x) (pow_pos 1074) cross_P cx l in
-          plain_lt x S px (positive_plain S positive_S) ∙ le-ltb (num x * den S) (num S * den x) above
-          ∙ sym (ap not (plain_lt P x (positive_plain P positive_P) px ∙ lt-ltb (num P * den x) (num x * den P) far))
+          let above : num S * den x ≤ num x * den S = transfer (num S) (num x) (den S) (den x) ((q + 1) * 2 ^ k) y (2 ^ 1074) (2 ^ 1074) (pow_pos 1074) (pow_pos 1074) cross_s cx (mul-le-mul_right (2 ^ 1074) g) in
+          let far : num P * den x < num x * den P = strictly (num P) (num x) (den P) (den x) (q * 2 ^ k) y (2 ^ 1074) (den_pos P) (den_pos x) (pow_pos 1074) cross_p cx l in
+          plain_lt x S px (positive_plain S positive_s) ∙ le-ltb (num x * den S) (num S * den x) above
+          ∙ sym (ap not (plain_lt P x (positive_plain P positive_p) px ∙ lt-ltb (num P * den x) (num x * den P) far))
       go y cx held false e =
           let l : y ≤ q * 2 ^ k = ltb-false (q * 2 ^ k) y e in
-          let near : num x * den P ≤ num P * den x = transfer (num x) (num P) (den x) (den P) y (q * 2 ^ k) (2 ^ 1074) (2 ^ 1074) (pow_pos 1074) (pow_pos 1074) cx cross_P (mul-le-mul_right (2 ^ 1074) l) in
+          let near : num x * den P ≤ num P * den x = transfer (num x) (num P) (den x) (den P) y (q * 2 ^ k) (2 ^ 1074) (2 ^ 1074) (pow_pos 1074) (pow_pos 1074) cx cross_p (mul-le-mul_right (2 ^ 1074) l) in
           let m : y < (q + 1) * 2 ^ k = lt_of_le_of_lt l (mul-lt-mul_of_pos_right (omega arith) (pow_pos k)) in
-          let under : num x * den S < num S * den x = strictly (num x) (num S) (den x) (den S) y ((q + 1) * 2 ^ k) (2 ^ 1074) (den_pos x) (den_pos S) (pow_pos 1074) cx cross_S m in
-          plain_lt x S px (positive_plain S positive_S) ∙ lt-ltb (num x * den S) (num S * den x) under
-          ∙ sym (ap not (plain_lt P x (positive_plain P positive_P) px ∙ le-ltb (num P * den x) (num x * den P) near))
+          let under : num x * den S < num S * den x = strictly (num x) (num S) (den x) (den S) y ((q + 1) * 2 ^ k) (2 ^ 1074) (den_pos x) (den_pos S) (pow_pos 1074) cx cross_s m in
+          plain_lt x S px (positive_plain S positive_s) ∙ lt-ltb (num x * den S) (num S * den x) under
+          ∙ sym (ap not (plain_lt P x (positive_plain P positive_p) px ∙ le-ltb (num P * den x) (num x * den P) near))
 
   -- a test of roots that holds of a value with all below it, and holds at P and not at S, holds where x is below S
   module _ (test : Float → Bool) (falls : (r t : Float) → T (plain r) → T (plain t) → r ⊑ t → test t ≡ true → test r ≡ true) (at-P : test (√ P) ≡ true) (at-S : test (√ S) ≡ false) where
     pub parted : (x : Float) → T (fits binary64 x) → T (plain x) → test (√ x) ≡ lt x S
     parted x fx px = go (lt x S) refl
       where
-        f_P : T (fits binary64 P)
-        f_P = of_bits-fits binary64 p
+        f_p : T (fits binary64 P)
+        f_p = of_bits-fits binary64 p
 
-        f_S : T (fits binary64 S)
-        f_S = of_bits-fits binary64 s
+        f_s : T (fits binary64 S)
+        f_s = of_bits-fits binary64 s
 
-        p_P : T (plain P)
-        p_P = positive_plain P positive_P
+        p_p : T (plain P)
+        p_p = positive_plain P positive_p
 
-        p_S : T (plain S)
-        p_S = positive_plain S positive_S
+        p_s : T (plain S)
+        p_s = positive_plain S positive_s
 
         fails : (b : Bool) → (b ≡ true → ⊥) → b ≡ false
         fails true h = absurd (h refl)
@@ -108,11 +108,11 @@ module _ (p s : ℕ) (next : s ≡ p + 1) (ok : T (inside p)) where
 
         go : (b : Bool) → lt x S ≡ b → test (√ x) ≡ b
         go true e =
-            let h : x ⊑ P = ltb-false (num P * den x) (num x * den P) (sym (plain_lt P x p_P px) ∙ not-true (lt P x) (sym (next_below x fx px) ∙ e)) in
-            falls (√ x) (√ P) (sqrt_plain x fx px) (sqrt_plain P f_P p_P) (sqrt_rises x P fx px f_P p_P h) at-P
+            let h : x ⊑ P = ltb-false (num P * den x) (num x * den P) (sym (plain_lt P x p_p px) ∙ not-true (lt P x) (sym (next_below x fx px) ∙ e)) in
+            falls (√ x) (√ P) (sqrt_plain x fx px) (sqrt_plain P f_p p_p) (sqrt_rises x P fx px f_p p_p h) at-P
         go false e =
-            let h : S ⊑ x = ltb-false (num x * den S) (num S * den x) (sym (plain_lt x S px p_S) ∙ e) in
-            fails (test (√ x)) (λ t. true≢false (sym (falls (√ S) (√ x) (sqrt_plain S f_S p_S) (sqrt_plain x fx px) (sqrt_rises S x f_S p_S fx px h) t) ∙ at-S))
+            let h : S ⊑ x = ltb-false (num x * den S) (num S * den x) (sym (plain_lt x S px p_s) ∙ e) in
+            fails (test (√ x)) (λ t. true≢false (sym (falls (√ S) (√ x) (sqrt_plain S f_s p_s) (sqrt_plain x fx px) (sqrt_rises S x f_s p_s fx px h) t) ∙ at-S))
 
 not_back : (a b : Bool) → not a ≡ not b → a ≡ b
 not_back true true h = refl
@@ -162,10 +162,10 @@ module _ (t : Threshold) (ok : T (exact t)) where
       omega arith
 
   plain_least : T (plain (least_of t))
-  plain_least = positive_plain (least_of t) (positive_S (t.least - 1) t.least one_less parts.1)
+  plain_least = positive_plain (least_of t) (positive_s (t.least - 1) t.least one_less parts.1)
 
   plain_most : T (plain (most_of t))
-  plain_most = positive_plain (most_of t) (positive_P t.most (t.most + 1) refl parts.2)
+  plain_most = positive_plain (most_of t) (positive_p t.most (t.most + 1) refl parts.2)
 
   pub root_below : (s : Float) → T (fits binary64 s) → T (unsigned s) → lt (√ s) (bound_of t) ≡ lt s (least_of t)
   unfolding sqrt lt

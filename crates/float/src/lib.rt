@@ -1,4 +1,6 @@
 // Numbers, bit for bit: the square root that IEEE 754 asks for, sign, magnitude and order of an f64, and a list's largest magnitude.
+#![tactic(auto)]
+
 pub mod bounds;
 mod magnitudes;
 mod order;
@@ -11,7 +13,7 @@ pub use root::sqrt;
 pub use sign::{abs, is_finite, is_negative, signum};
 
 // The largest magnitude in a list, +0 for an empty one; or the place, from 0, of the first number that is not finite.
-#[derive(Drop)]
+#[derive(Clone, Copy)]
 pub enum Magnitude {
     Largest(f64),
     NotFinite(usize),

@@ -7,7 +7,7 @@ ghost use Rattle.float.specs.Rooted.{Rooted};
 ghost use Rattle.float.specs.Numbers.{√};
 
 // A whole root, and what its square leaves.
-#[derive(Drop)]
+#[derive(Clone, Copy)]
 struct WholeRoot {
     whole: u64,
     left: u64,
@@ -109,7 +109,7 @@ fn nearest_root(m: u64, odd: u64) -> u64
 }
 
 // The value m * 2^(g + 52), counted in units of 2^-2148, the square of the smallest value.
-#[derive(Drop)]
+#[derive(Clone, Copy)]
 struct Value {
     m: u64,
     g: u64,

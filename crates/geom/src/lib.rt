@@ -1,16 +1,18 @@
 // Points and vectors of the plane, by value. Each operation on a coordinate is rounded once.
+#![tactic(auto)]
+
 ghost use Rattle.std.specs.Prelude.{◌≡◌};
 ghost use Rattle.geom.specs.Plane as P;
 ghost use Rattle.geom.specs.Plane.{vec, ◌+ᵥ◌, ◌-ᵥ◌, ◌·ᵥ◌, ◌/ᵥ◌, distance};
 
-#[derive(Drop)]
+#[derive(Clone, Copy)]
 pub struct Vec2 {
     pub x: f64,
     pub y: f64,
 }
 
 // Where a vector points: a vector of length 1, or none for one too short to tell.
-#[derive(Drop)]
+#[derive(Clone, Copy)]
 pub enum Direction {
     None,
     Unit(Vec2),

@@ -9,8 +9,6 @@ use native.Mathlib.Omega.{arith}
 use lib.ListN.{length, take, drop, get_or, set, length-map, length-append, length-set}
 use lib.Seq.{take-suc}
 use lib.Ieee.{Float}
-use types.Run.{OneOf, miss}
-use denote.Enum.Declared.{tag_of}
 use borrow.Author.Tests.{le-leb}
 use Rattle.float.specs.Numbers.{◌⊖◌, ◌⊘◌, 0f, 1f}
 use Rattle.geom.specs.declared.Vec2.{Vec2}
@@ -21,7 +19,6 @@ use Rattle.sketch.specs.declared.Point.{Point}
 use Rattle.sketch.specs.declared.Curve.{Curve}
 use Rattle.sketch.specs.declared.CurveKind.{CurveKind}
 use Rattle.sketch.specs.declared.CurveKind.TheVariants.{Line, Arc, Circle, Bezier, Conic}
-use Rattle.sketch.specs.contracts.CurveKind as K
 use Rattle.sketch.specs.Blanks.{no_curve}
 use Rattle.sketch.specs.Drawing.{uses_of}
 use Rattle.sketch_geometry.specs.Geometry.{position_of, shape_of}
@@ -143,17 +140,14 @@ module _ {hx hy laterX laterY : List Float} {r : Hits} where
   pub met_as : {o o' : H.HitsResult} → o ≡ o' → HitsWritten o hx hy laterX laterY r → HitsWritten o' hx hy laterX laterY r
   met_as e w = subst (λ (x : H.HitsResult). HitsWritten x hx hy laterX laterY r) e w
 
--- a curve with an outline
-abbrev outlined : List ℕ
-outlined = 0 ∷ 1 ∷ 2 ∷ []
-
-pub outlined_is : (ps : List Point) (k : CurveKind) → OneOf outlined (tag_of K.the_type k) → none ≡ shape_of ps k → ⊥
+-- a curve that is not freeform has an outline
+pub outlined_is : (ps : List Point) (k : CurveKind) → ((n : ℕ) → k ≡ Bezier n → ⊥) → ((a p b : ℕ) (rho : Float) → k ≡ Conic a p b rho → ⊥) → none ≡ shape_of ps k → ⊥
 unfolding shape_of
-outlined_is ps (Line a b) h e = let z : ◌≡◌ {A = ℕ} 0 1 = cc in omega arith
-outlined_is ps (Arc c a b) h e = let z : ◌≡◌ {A = ℕ} 0 1 = cc in omega arith
-outlined_is ps (Circle c r) h e = let z : ◌≡◌ {A = ℕ} 0 1 = cc in omega arith
-outlined_is ps (Bezier n) h e = miss outlined 3 tt h
-outlined_is ps (Conic a p b rho) h e = miss outlined 4 tt h
+outlined_is ps (Line a b) h g e = let z : ◌≡◌ {A = ℕ} 0 1 = cc in omega arith
+outlined_is ps (Arc c a b) h g e = let z : ◌≡◌ {A = ℕ} 0 1 = cc in omega arith
+outlined_is ps (Circle c r) h g e = let z : ◌≡◌ {A = ℕ} 0 1 = cc in omega arith
+outlined_is ps (Bezier n) h g e = h n refl
+outlined_is ps (Conic a p b rho) h g e = g a p b rho refl
 
 module _ (ps : List Point) (s : Support) (foot : Vec2) (c : Curve) (budget : ℕ) where
   pub meets_shape : (k : CurveKind) {sh sh' : Shape} (xs ys : List Float) → some sh ≡ shape_of ps k → sh' ≡ boundary c.infinite sh foot

@@ -1,5 +1,5 @@
 -- All curves of a table but one, from a place on. Assumes nothing.
-use mathlib.Core.Path.{◌≡◌, refl, sym, ap, ◌∙◌}
+use mathlib.Core.Path.{◌≡◌, sym}
 use mathlib.Core.List.{List, [], ◌∷◌}
 use Prim.Native.Nat.{ℕ, ◌+◌, ◌≤◌, ◌<◌}
 use native.Mathlib.Numerals.{add-one}
@@ -9,7 +9,7 @@ use lib.Seq.{slice-cons, take_all}
 use borrow.Author.Tests.{eq-eqb, ne_eqb}
 use Rattle.sketch.specs.declared.Curve.{Curve}
 use Rattle.sketch.specs.Blanks.{no_curve}
-use Rattle.sketch.proofs.Facts.{get_D_mapped}
+use Rattle.sketch.proofs.Facts.{get_or_mapped}
 use Rattle.image.specs.Records.{curve_size}
 use Rattle.image.specs.Decode.{read_curve}
 use Rattle.rows.specs.Rows.{rows_in, row_in, curves_in}
@@ -37,7 +37,7 @@ module _ (cs : List Curve) (n i : ℕ) where
 
 module _ (curves : List ℕ) where
   pub curve_row : (i : ℕ) → i < length (curves_in curves) → read_curve (row_in curve_size curves i) ≡ get_or (curves_in curves) i no_curve
-  curve_row i h = sym (get_D_mapped read_curve no_curve [] (rows_in curve_size curves) i (rw (← length-map (rows_in curve_size curves) read_curve) h))
+  curve_row i h = sym (get_or_mapped read_curve no_curve [] (rows_in curve_size curves) i (rw (← length-map (rows_in curve_size curves) read_curve) h))
 
   pub all_curves : (n : ℕ) → n ≡ length (curves_in curves) → take n (curves_in curves) ≡ curves_in curves
   all_curves n e = take_all n (curves_in curves) (omega arith)

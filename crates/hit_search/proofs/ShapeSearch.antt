@@ -24,7 +24,6 @@ use Rattle.sketch_geometry.specs.declared.Outline.TheVariants.{Analytic}
 use Rattle.sketch_geometry.specs.Geometry.{shape_of}
 use Rattle.sketch_geometry.specs.Positions.{shape_of_outline}
 use Rattle.sketch_geometry.specs.Positions.{ShapeFrom}
-use Rattle.support.specs.Hits as H
 use Rattle.support.specs.Hits.{on_piece, overlaps, shape_hits}
 use Rattle.support.proofs.Answers.{overlapping_along, clear_along}
 use Rattle.hit_search.specs.declared.Nearest.{Nearest}

@@ -1,6 +1,6 @@
 -- What the tests of one record come to, one law for each way out of them.
 use mathlib.Core.Path.{◌≡◌, refl, sym, ap, ◌∙◌}
-use mathlib.Core.Bool.{Bool, true, false, not, ◌&&◌, and_assoc, and_true, or_true, or_false}
+use mathlib.Core.Bool.{Bool, true, false, not, ◌&&◌, and_assoc, and-true, or-true, or-false}
 use mathlib.Core.List.{List}
 use Prim.Native.Nat.{ℕ, zero, suc, ◌+◌, ◌*◌, ◌/◌, ◌%◌, ◌<◌}
 use native.Mathlib.Omega.{arith}
@@ -78,28 +78,28 @@ module _ (r : List ℕ) where
 
   pub good_line : (leb flags 7 && eqb degree 0 && eqb number 0 && eqb (field r 15 8) 0 && eqb (field r 23 8) 0 && eqb (field r 31 8) 0) ≡ good_as 1 r
   unfolding curve_fields used_slots ids_at kind_of sort_of ok_number in_slots
-  good_line = simp (pair r 15, pair r 23, pair r 31, and_assoc, and_true, or_true)
+  good_line = simp (pair r 15, pair r 23, pair r 31, and_assoc, and-true, or-true)
 
   pub good_arc : (leb flags 7 && eqb degree 0 && eqb number 0 && eqb (field r 19 4) 0 && eqb (field r 23 8) 0 && eqb (field r 31 8) 0 && finite) ≡ good_as 2 r
   unfolding curve_fields used_slots ids_at kind_of sort_of ok_number in_slots
-  good_arc = simp (pair r 23, pair r 31, and_assoc, and_true, or_false)
+  good_arc = simp (pair r 23, pair r 31, and_assoc, and-true, or-false)
 
   pub good_circle : {t : Bool} → t ≡ ok_radius (float_at r 39)
       → (leb flags 7 && eqb degree 0 && eqb (field r 11 4) 0 && eqb (field r 15 8) 0 && eqb (field r 23 8) 0 && eqb (field r 31 8) 0 && finite && t) ≡ good_as 3 r
   unfolding curve_fields used_slots ids_at kind_of sort_of ok_number in_slots
-  good_circle e = simp (e, pair r 15, pair r 23, pair r 31, and_assoc, and_true, or_false)
+  good_circle e = simp (e, pair r 15, pair r 23, pair r 31, and_assoc, and-true, or-false)
 
   pub good_conic : {t : Bool} → t ≡ ok_rho (float_at r 39)
       → (leb flags 7 && eqb degree 0 && eqb (field r 19 4) 0 && eqb (field r 23 8) 0 && eqb (field r 31 8) 0 && finite && t) ≡ good_as 5 r
   unfolding curve_fields used_slots ids_at kind_of sort_of ok_number in_slots
-  good_conic e = simp (e, pair r 23, pair r 31, and_assoc, and_true, or_false)
+  good_conic e = simp (e, pair r 23, pair r 31, and_assoc, and-true, or-false)
 
   pub good_bezier : {t : Bool} → t ≡ every (λ i. eqb i 0) (drop (degree + 1) (slots_of r))
       → (leb flags 7 && eqb number 0 && finite && leb 1 degree && leb degree 7 && t) ≡ good_as 4 r
   unfolding curve_fields used_slots kind_of sort_of ok_number in_slots
   good_bezier {t} e =
       let f : t ≡ every (λ i. eqb i 0) (drop (suc degree) (slots_of r)) = e ∙ ap (λ (n : ℕ). every (λ i. eqb i 0) (drop n (slots_of r))) (add-one degree) in
-      twice (leb flags 7) (eqb number 0) t finite (leb 1 degree) (leb degree 7) ∙ simp (f, and_true, or_true, or_false)
+      twice (leb flags 7) (eqb number 0) t finite (leb 1 degree) (leb degree 7) ∙ simp (f, and-true, or-true, or-false)
     where
       never : (x : Bool) → (x && false) ≡ false
       never true = refl
@@ -108,7 +108,7 @@ module _ (r : List ℕ) where
       twice : (a b x c d e : Bool) → (a && b && c && d && e && x) ≡ ((a && b && x) && ((c && (d && e)) && x))
       twice false b x c d e = refl
       twice true false x c d e = refl
-      twice true true true c d e = simp and_true (and_assoc c d e)
+      twice true true true c d e = simp and-true (and_assoc c d e)
       twice true true false c d e = never (c && d && e)
 
   -- no other kind is known

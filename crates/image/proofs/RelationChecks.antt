@@ -1,6 +1,6 @@
 -- What the tests of a relation's record come to, one law for each kind.
 use mathlib.Core.Path.{◌≡◌, refl, sym, ap, ◌∙◌}
-use mathlib.Core.Bool.{Bool, false, ◌&&◌, and_true}
+use mathlib.Core.Bool.{Bool, false, ◌&&◌, and-true}
 use mathlib.Core.List.{List}
 use Prim.Native.Nat.{ℕ, zero, suc}
 use native.Mathlib.Omega.{arith}
@@ -20,23 +20,23 @@ module _ (r : List ℕ) where
   module _ {v : ℕ} (e : v ≡ field r 9 8) where
     pub bare_1 : eqb v 0 ≡ good_by 1
     unfolding relation_fields relation_by ok_relation
-    bare_1 = simp (e, and_true)
+    bare_1 = simp (e, and-true)
 
     pub bare_2 : eqb v 0 ≡ good_by 2
     unfolding relation_fields relation_by ok_relation
-    bare_2 = simp (e, and_true)
+    bare_2 = simp (e, and-true)
 
     pub bare_3 : eqb v 0 ≡ good_by 3
     unfolding relation_fields relation_by ok_relation
-    bare_3 = simp (e, and_true)
+    bare_3 = simp (e, and-true)
 
     pub bare_4 : eqb v 0 ≡ good_by 4
     unfolding relation_fields relation_by ok_relation
-    bare_4 = simp (e, and_true)
+    bare_4 = simp (e, and-true)
 
     pub bare_7 : eqb v 0 ≡ good_by 7
     unfolding relation_fields relation_by ok_relation
-    bare_7 = simp (e, and_true)
+    bare_7 = simp (e, and-true)
 
   module _ {t : Bool} (e : t ≡ ok_measure (float_at r 9)) where
     pub measured_6 : t ≡ good_by 6
@@ -46,15 +46,15 @@ module _ (r : List ℕ) where
     module _ {b : ℕ} (f : b ≡ field r 5 4) where
       pub measured_5 : (eqb b 0 && t) ≡ good_by 5
       unfolding relation_fields relation_by ok_relation
-      measured_5 = simp (e, f, and_true)
+      measured_5 = simp (e, f, and-true)
 
       pub measured_8 : (eqb b 0 && t) ≡ good_by 8
       unfolding relation_fields relation_by ok_relation
-      measured_8 = simp (e, f, and_true)
+      measured_8 = simp (e, f, and-true)
 
       pub measured_9 : (eqb b 0 && t) ≡ good_by 9
       unfolding relation_fields relation_by ok_relation
-      measured_9 = simp (e, f, and_true)
+      measured_9 = simp (e, f, and-true)
 
   not_known : (k : ℕ) → (k ≡ 1 → ⊥) → (k ≡ 2 → ⊥) → (k ≡ 3 → ⊥) → (k ≡ 4 → ⊥) → (k ≡ 5 → ⊥) → (k ≡ 6 → ⊥) → (k ≡ 7 → ⊥) → (k ≡ 8 → ⊥) → (k ≡ 9 → ⊥) → false ≡ good_by k
   unfolding relation_fields

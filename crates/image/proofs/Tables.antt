@@ -1,7 +1,7 @@
 -- Tables of records of one size: their rows, what is written of them and what they are tested as, for any type of record.
 use mathlib.Core.Path.{◌≡◌, refl, sym, ap, ◌∙◌}
 use mathlib.Core.Bool.{Bool, true, false, ◌&&◌}
-use mathlib.Core.List.{List, [], ◌∷◌, ◌++◌, map, map_append, append_assoc, append-nil}
+use mathlib.Core.List.{List, [], ◌∷◌, ◌++◌, map, map-append, append_assoc, append-nil}
 use Prim.Native.Nat.{ℕ, zero, suc, ◌+◌, ◌*◌, ◌-◌, ◌≤◌, ◌<◌}
 use native.Mathlib.Nat.{suc-mul, add-mul, one-mul}
 use native.Mathlib.Numerals.{add-one}
@@ -159,7 +159,7 @@ module _ {A S : Type 0} (of : List ℕ → A) (seen : List S → List A) (value 
   filling rows slots i x h k e w =
       let t : take (i + 1) rows ≡ take i rows ++ (get_or rows i [] ∷ []) = rw add-one (take-suc rows i [] h) in
       let u : take (i + 1) (set slots i x) ≡ take i slots ++ (x ∷ []) = rw add-one (take-suc-set slots i x k) in
-      rw (u, snoc, w, t, map_append, e)
+      rw (u, snoc, w, t, map-append, e)
 
   pub filled : (rows : List (List ℕ)) (slots : List S) (n i : ℕ) → n ≡ i → n ≡ length rows → Filled rows slots i → seen (take n slots) ≡ map of rows
   filled rows slots n i e h w = let t : take i rows ≡ rows = take_all i rows (omega arith) in rw e (w ∙ rw t)

@@ -18,14 +18,14 @@ float_at r at = of_bits binary64 (field r at 8)
 
 -- ---- a point: id, x 8, y 8, flags
 
-abbrev pub point_XAt : ℕ
-point_XAt = id_size
+abbrev pub point_x_at : ℕ
+point_x_at = id_size
 
-abbrev pub point_YAt : ℕ
-point_YAt = point_XAt + 8
+abbrev pub point_y_at : ℕ
+point_y_at = point_x_at + 8
 
 abbrev pub point_flags_at : ℕ
-point_flags_at = point_YAt + 8
+point_flags_at = point_y_at + 8
 
 abbrev pub point_size : ℕ
 point_size = point_flags_at + 1
@@ -39,7 +39,7 @@ abbrev pub point_by : Float → Float → List ℕ → Point
 point_by x y r = record { id = field r 0 id_size; fixed = eqb (field r point_flags_at 1) 1; x = x; y = y }
 
 abbrev pub point_of : List ℕ → Point
-point_of r = point_by (float_at r point_XAt) (float_at r point_YAt) r
+point_of r = point_by (float_at r point_x_at) (float_at r point_y_at) r
 
 -- ---- a curve: id, kind, flags, degree, eight slots for ids, number 8
 

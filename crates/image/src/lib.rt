@@ -1,4 +1,6 @@
 // Images of sketches: the format, and one record of it as a value.
+#![tactic(auto)]
+
 mod checks;
 pub mod layout;
 mod records;

@@ -1,8 +1,8 @@
 -- Messages there and back.
 use mathlib.Core.Path.{◌≡◌, refl, sym, ap, ◌∙◌}
-use mathlib.Core.Bool.{true, and_true}
+use mathlib.Core.Bool.{true, and-true}
 use mathlib.Core.List.{List, [], ◌++◌, append_assoc, append-nil}
-use Prim.Native.Nat.{ℕ, zero, suc, ◌+◌, ◌-◌, ◌≤◌, ◌<◌}
+use Prim.Native.Nat.{ℕ, zero, suc, ◌-◌, ◌≤◌, ◌<◌}
 use native.Mathlib.Omega.{arith}
 use lib.ListN.{length, length-append}
 use lib.Seq.{take_all}
@@ -50,15 +50,15 @@ length_message mark m = simp (length-append, length_bytes)
 -- ---- there: the bytes of a message under a mark are foreign at any other, refused by 6 where its number is 0, and give the message where it is not
 
 -- the mark stands in its field, whatever comes behind it
-mark-in :
+mark_in_lem :
     (mark : ℕ) → Mark mark → (s rest : List ℕ) → s ≡ bytes length_size message_length ++ (bytes 1 version ++ (bytes mark_size mark ++ rest))
     → mark_of s ≡ mark
-mark-in mark k s rest e =
+mark_in_lem mark k s rest e =
     field_in s (bytes length_size message_length ++ bytes 1 version) rest mark_at mark_size mark (e ∙ simp append_assoc) (simp (length-append, length_bytes)) k
 
 pub mark_written : (mark : ℕ) → Mark mark → (m : Message) → mark_of (encode mark m) ≡ mark
 unfolding encode
-mark_written mark k m = mark-in mark k (encode mark m) _ refl
+mark_written mark k m = mark_in_lem mark k (encode mark m) _ refl
 
 module _ (mark : ℕ) (k : Mark mark) (m : Message) (w : StoredMessage m) (s : List ℕ)
     (e : s ≡ bytes length_size message_length ++ (bytes 1 version ++ (bytes mark_size mark ++ (bytes edit_number_size m.number ++ (bytes 1 (operation_byte m.operation) ++ (bytes id_size m.curve ++ (bytes 8 m.x ++ bytes 8 m.y))))))) where
@@ -77,7 +77,7 @@ module _ (mark : ℕ) (k : Mark mark) (m : Message) (w : StoredMessage m) (s : L
       let l : length s ≡ message_size = ap length e ∙ simp (length-append, length_bytes) in
       let f0 : field s 0 length_size ≡ message_length = field_in s [] (b1 ++ (b2 ++ (b3 ++ (b4 ++ (b5 ++ (b6 ++ b7)))))) 0 length_size message_length e refl (lit< tt) in
       let f1 : field s version_at 1 ≡ version = field_in s b0 (b2 ++ (b3 ++ (b4 ++ (b5 ++ (b6 ++ b7))))) version_at 1 version e (length_bytes length_size _) (lit< tt) in
-      let f2 = mark-in mark k s (b3 ++ (b4 ++ (b5 ++ (b6 ++ b7)))) e in
+      let f2 = mark_in_lem mark k s (b3 ++ (b4 ++ (b5 ++ (b6 ++ b7)))) e in
       let f3 : field s edit_number_at edit_number_size ≡ m.number =
       field_in s (b0 ++ (b1 ++ b2)) (b4 ++ (b5 ++ (b6 ++ b7))) edit_number_at edit_number_size m.number (e ∙ simp append_assoc) (simp (length-append, length_bytes)) w.number_fits in
       let f4 : field s operation_at 1 ≡ operation_byte m.operation =
@@ -85,7 +85,7 @@ module _ (mark : ℕ) (k : Mark mark) (m : Message) (w : StoredMessage m) (s : L
       let f5 : field s curve_at id_size ≡ m.curve = field_in s (b0 ++ (b1 ++ (b2 ++ (b3 ++ b4)))) (b6 ++ b7) curve_at id_size m.curve (e ∙ simp append_assoc) (simp (length-append, length_bytes)) w.curve_fits_lem in
       let f6 : field s x_at 8 ≡ m.x = field_in s (b0 ++ (b1 ++ (b2 ++ (b3 ++ (b4 ++ b5))))) b7 x_at 8 m.x (e ∙ simp append_assoc) (simp (length-append, length_bytes)) w.x_fits in
       let f7 : field s y_at 8 ≡ m.y = field_in s (b0 ++ (b1 ++ (b2 ++ (b3 ++ (b4 ++ (b5 ++ b6)))))) [] y_at 8 m.y (e ∙ simp (append_assoc, append-nil)) (simp (length-append, length_bytes)) w.y_fits in
-      rw (l, f0, f1, f2, f3, f4, f5, f6, f7, o.low, o.high, o.again, and_true (leb 1 m.number))
+      rw (l, f0, f1, f2, f3, f4, f5, f6, f7, o.low, o.high, o.again, and-true (leb 1 m.number))
 
 -- at its own mark
 pub parse_encode : (mark : ℕ) → Mark mark → (m : Message) → StoredMessage m → parse mark (encode mark m) ≡ result_of (guard_number (leb 1 m.number) 6 0) m

@@ -1,4 +1,6 @@
 // Edit messages: bytes read and written.
+#![tactic(auto)]
+
 mod layout;
 mod messages;
 
@@ -18,7 +20,7 @@ pub type EditNumber = u32;
 pub const MAX_EDIT_NUMBER: EditNumber = 4294967295;
 
 // What a person does to a curve.
-#[derive(Drop)]
+#[derive(Clone, Copy)]
 pub enum Operation {
     Trim,
     Split,
@@ -26,7 +28,7 @@ pub enum Operation {
 }
 
 // One edit. The pick's coordinates are patterns of bits: a NaN's are kept, so that they can be refused later.
-#[derive(Drop)]
+#[derive(Clone, Copy)]
 pub struct Message {
     pub number: EditNumber,
     pub operation: Operation,
@@ -35,7 +37,7 @@ pub struct Message {
     pub y: u64,
 }
 
-#[derive(Drop)]
+#[derive(Clone, Copy)]
 pub enum MessageRead {
     Accepted(Message),
     Refused(u8),

@@ -166,7 +166,7 @@ module _ (m : Limits) (d : Drawing) (p : Vec2) (d' : Drawing) (r : Removed) wher
       let l = line_goes d p c plan c.kind h in
       let g = l.goes in
       let w = (extend_moves_end d c p plan h).1 in
-      let e : P.Move w.at_end_lem w.place w.pin ≡ P.Move l.at_b g.place g.pin = sym w.is ∙ g.is in
+      let e : P.Move w.at_end w.place w.pin ≡ P.Move l.at_b g.place g.pin = sym w.is ∙ g.is in
       let same : w.pin ≡ g.pin = cc in
       move_pinned all_met m d' r d c.id (ite l.at_b l.j l.i) g.place l.alone g.pin (subst (PinHolds d c.id) same w.held)
       (sym (ap (apply_plan_to all_met m d c) g.is ∙ ap (λ (k : CurveKind). move_end all_met m d l.at_b g.place g.pin (ends_of k)) l.line) ∙ q)

@@ -1,13 +1,13 @@
 -- An edit of an image, one law for each way out of the code. Assumes nothing.
 use mathlib.Core.Path.{◌≡◌, refl, sym, ap, ◌∙◌, subst}
-use mathlib.Core.Bool.{Bool, true, false, ◌&&◌, not}
+use mathlib.Core.Bool.{Bool, true, false, ◌&&◌}
 use mathlib.Core.List.{List}
 use mathlib.Core.Option.{some}
 use Prim.Native.Nat.{ℕ, ◌/◌, ◌≤◌, ◌<◌}
 use native.Mathlib.Omega.{arith}
 use lib.ListN.{length}
 use lib.Dec.{eqb, leb}
-use borrow.Author.Tests.{ne_eqb, not-true, not-false}
+use borrow.Author.Tests.{ne_eqb}
 use Rattle.big_endian.specs.Laws.{Bytes}
 use Rattle.geom.specs.declared.Vec2.{Vec2}
 use Rattle.sketch.specs.declared.Curve.{Curve}
@@ -178,15 +178,15 @@ module _ (op : Operation) (s : List ℕ) (t : ℕ) (p : Vec2) (l : List ℕ) whe
     good : I.image_fault s ≡ 0
     good = sym h ∙ z
 
-    pub pick_edit : {x y : Bool} → x ≡ ok_coordinate p.x → y ≡ ok_coordinate p.y → not (x && y) ≡ true → EditWritten op s t p l l (refused_at 9 0)
+    pub pick_edit : {x y : Bool} → x ≡ ok_coordinate p.x → y ≡ ok_coordinate p.y → x && y ≡ false → EditWritten op s t p l l (refused_at 9 0)
     unfolding guard guard_plan apply_planned
     pick_edit {x} {y} ex ey o =
-        let q : ok_position p ≡ false = sym (rw (ex, ey)) ∙ not-true (x && y) o in
+        let q : ok_position p ≡ false = sym (rw (ex, ey)) ∙ o in
         refused_edit 9 (rw (good, q)) (omega arith)
 
-    module _ {x y : Bool} (ex : x ≡ ok_coordinate p.x) (ey : y ≡ ok_coordinate p.y) (o : not (x && y) ≡ false) {curves : List ℕ} (ec : curves ≡ curve_table s) {k : ℕ} (f : Found t (ids_in curve_size curves) k) where
+    module _ {x y : Bool} (ex : x ≡ ok_coordinate p.x) (ey : y ≡ ok_coordinate p.y) (o : x && y ≡ true) {curves : List ℕ} (ec : curves ≡ curve_table s) {k : ℕ} (f : Found t (ids_in curve_size curves) k) where
       picked : ok_position p ≡ true
-      picked = sym (rw (ex, ey)) ∙ not-false (x && y) o
+      picked = sym (rw (ex, ey)) ∙ o
 
       at_table : Found t (ids_in curve_size (curve_table s)) k
       at_table = subst (λ (u : List ℕ). Found t (ids_in curve_size u) k) ec f

@@ -41,10 +41,10 @@ module _ (e : EditedImage) (out b : List ℕ) where
   pub front_put : e.refusal ≡ 0 → e.size ≤ length b → {run b' : List ℕ} → run ≡ take e.size out → b' ≡ over_if_fits b 0 run → FrontReplaced e out b b' e
   front_put z h q p = record { when_refused = λ y. absurd (y z); when_short = λ y l. absurd (omega arith); when_put = λ y l. (refl, p ∙ ap (over_if_fits b 0) q) }
 
-pub edited-through :
+pub edited_through :
     {op : Operation} {t : ℕ} {p : Vec2} (n : ℕ) {room : ℕ} (b : List ℕ) {b' image : List ℕ} {e r : EditedImage} → image ≡ take n b → (out out' : List ℕ) → EditWritten op image t p out out' e → length out ≡ room
     → FrontReplaced e out' b b' r → EditedThrough op (take n b) t p room b b' r
-edited-through {op = op} {t = t} {p = p} n b {e = e} is out out' w l f =
+edited_through {op = op} {t = t} {p = p} n b {e = e} is out out' w l f =
     record { out = out; out' = out'; edited = e; room_is = l; written = subst (λ (s : List ℕ). EditWritten op s t p out out' e) is w; replaced = f }
 
 -- ---- the edit
@@ -123,9 +123,9 @@ module _ (op : Operation) (s : List ℕ) (t : ℕ) (p : Vec2) where
               by_room d q g (subst (λ (k : Bool). OutcomeWritten (guard k 25 (accepted d q)) x.out x.out' e) (le-leb _ _ h) w) (leb (length (encode d)) (length b)) refl
 
 -- a refusal leaves the buffer
-pub through-kept :
+pub through_kept :
     {op : Operation} {s : List ℕ} {t : ℕ} {p : Vec2} {room : ℕ} {b b' : List ℕ} {r : EditedImage} → EditedThrough op s t p room b b' r → (r.refusal ≡ 0 → ⊥) → b' ≡ b
-through-kept {b = b} {b' = b'} {r = r} x z = go x.edited.refusal refl (leb x.edited.size (length b)) refl
+through_kept {b = b} {b' = b'} {r = r} x z = go x.edited.refusal refl (leb x.edited.size (length b)) refl
   where
     go : (k : ℕ) → x.edited.refusal ≡ k → (f : Bool) → leb x.edited.size (length b) ≡ f → b' ≡ b
     go zero e true h = absurd (z (ap (λ (r : EditedImage). r.refusal) (x.replaced.when_put e (leb-true _ _ h)).0 ∙ e))
@@ -133,14 +133,14 @@ through-kept {b = b} {b' = b'} {r = r} x z = go x.edited.refusal refl (leb x.edi
     go (suc k) e f h = (x.replaced.when_refused (λ y. omega arith)).1
 
 -- with room for any, at once or once more
-pub edited-at-once :
+pub edited_at_once :
     (op : Operation) (t : ℕ) (p : Vec2) (n : ℕ) (b : List ℕ) {b' : List ℕ} {r : EditedImage} → EditedThrough op (take n b) t p I.max_image_size b b' r → Bytes b → EditWritten op (take n b) t p b b' r
-edited-at-once op t p n b w are = edited_in_place op (take n b) t p w (fits_any op (take n b) t p w (bytes_take n b are) refl)
+edited_at_once op t p n b w are = edited_in_place op (take n b) t p w (fits_any op (take n b) t p w (bytes_take n b are) refl)
 
-pub edited-again :
+pub edited_again :
     (op : Operation) (t : ℕ) (p : Vec2) (n : ℕ) (b : List ℕ) {room : ℕ} {b' b'' : List ℕ} {r r' : EditedImage} → EditedThrough op (take n b) t p room b b' r → r.refusal ≡ 25
     → Bytes b → EditedThrough op (take n b') t p I.max_image_size b' b'' r' → EditWritten op (take n b) t p b b'' r'
-edited-again op t p n b {b'' = b''} {r' = r'} x z are y =
-    let same = through-kept x (λ h. omega arith) in
+edited_again op t p n b {b'' = b''} {r' = r'} x z are y =
+    let same = through_kept x (λ h. omega arith) in
     let w : EditedThrough op (take n b) t p I.max_image_size b b'' r' = subst (λ (l : List ℕ). EditedThrough op (take n l) t p I.max_image_size l b'' r') same y in
-    edited-at-once op t p n b w are
+    edited_at_once op t p n b w are

@@ -31,7 +31,7 @@ use Rattle.edit_plan.specs.Outcome.{refused, accepted, guard}
 use Rattle.edit_plan.specs.Tables.{ok_position}
 use Rattle.edit_plan.specs.Steps.{is_line, nothing}
 use Rattle.edit_plan.specs.ApplyPlan.{apply_plan}
-use Rattle.chains.proofs.Refusals.{By, cutting, moving, suited_refusals, move_refusals, move-fails}
+use Rattle.chains.proofs.Refusals.{By, cutting, moving, suited_refusals, move_refusals, move_fails}
 use Rattle.planning.specs.declared.PlanResult.{PlanResult}
 use Rattle.planning.specs.declared.PlanResult.TheVariants.{Refused, Accepted}
 use Rattle.planning.specs.Planning.{guard_plan, cuts_of, param_of_pick, split_full, at_end, split_plan, trim_curve, split_curve}
@@ -163,10 +163,10 @@ module _ (d : Drawing) (t : ℕ) (p : Vec2) where
     pub curve : Curve
     pub found : curve_in d.curves t ≡ some curve
     pub line : is_line curve.kind ≡ true
-    pub at_end_lem : Bool
+    pub at_b : Bool
     pub to : Vec2
     pub pin : Pin
-    pub is : plan ≡ P.Move at_end_lem to pin
+    pub is : plan ≡ P.Move at_b to pin
 
   moves_line : (plan : Plan) → plan_edit Extend d t p ≡ Accepted plan → MovesLine plan
   unfolding plan_on_found plan_on_curve
@@ -176,12 +176,12 @@ module _ (d : Drawing) (t : ℕ) (p : Vec2) where
       go none f h = let z : ◌≡◌ {A = ℕ} 0 1 = cc in absurd (omega arith)
       go (some c) f h =
           let w = extend_moves_end d c p plan h in
-          record { curve = c; found = f; line = w.0; at_end_lem = w.1.at_end_lem; to = w.1.place; pin = w.1.pin; is = w.1.is }
+          record { curve = c; found = f; line = w.0; at_b = w.1.at_end; to = w.1.place; pin = w.1.pin; is = w.1.is }
 
   extend_applied : (plan : Plan) → plan_edit Extend d t p ≡ Accepted plan → By moving (apply_plan all_met limits d t plan)
   extend_applied plan e =
       let w = moves_line plan e in
-      subst (λ (x : Plan). By moving (apply_plan all_met limits d t x)) (sym w.is) (move_refusals limits all_met d t w.curve w.at_end_lem w.to w.pin w.found w.line)
+      subst (λ (x : Plan). By moving (apply_plan all_met limits d t x)) (sym w.is) (move_refusals limits all_met d t w.curve w.at_b w.to w.pin w.found w.line)
 
   -- ---- the edit
 
@@ -213,7 +213,7 @@ module _ (d : Drawing) (t : ℕ) (p : Vec2) where
       left : (plan : Plan) → plan_edit Extend d t p ≡ Accepted plan → apply_plan all_met limits d t plan ≡ refused 19 → (d' : Drawing) × (edit_untested Extend limits d t p ≡ accepted d' nothing) × (all_met d' ≡ false)
       left plan e q =
           let w = moves_line plan e in
-          let (d', here, fails) = move-fails limits all_met d t w.curve w.at_end_lem w.to w.pin w.found w.line (ap (apply_plan all_met limits d t) (sym w.is) ∙ q) in
+          let (d', here, fails) = move_fails limits all_met d t w.curve w.at_b w.to w.pin w.found w.line (ap (apply_plan all_met limits d t) (sym w.is) ∙ q) in
           (d', ap (apply_planned (λ x. true) limits d t) e ∙ ap (apply_plan (λ x. true) limits d t) w.is ∙ here, fails)
 
       go : (o : PlanResult) → plan_edit Extend d t p ≡ o → PlanNumber (ExtendPlanNumber d) o → apply_planned all_met limits d t o ≡ refused n → ExtendNumber n

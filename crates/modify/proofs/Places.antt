@@ -29,7 +29,7 @@ use Rattle.extend.proofs.ImageMoves.{image_valid}
 use Rattle.modify.specs.Edits.{edit_of, edit_untested, edit_place}
 use Rattle.modify.specs.ImageEdits.{EditWritten}
 use Rattle.modify.proofs.ImageFaults.{image_fault_low}
-use Rattle.modify.proofs.Planned.{edit-valid}
+use Rattle.modify.proofs.Planned.{edit_valid}
 use Rattle.modify.proofs.Numbered.{cut_number, extend_refused_lem}
 
 -- the relation at a place is not met, and those before it are
@@ -71,7 +71,7 @@ module _ (op : Operation) (d : Drawing) (t : ℕ) (p : Vec2) where
     where
       left : (o : Outcome Drawing Removed) → edit_untested op limits d t p ≡ o → first_unmet_in o ≤ limits.relations
       left (refused k) e = omega arith
-      left (accepted d' r) e = within d' (edit-valid (λ x. true) op limits d t p d' r v e)
+      left (accepted d' r) e = within d' (edit_valid (λ x. true) op limits d t p d' r v e)
 
       go : (a b : Bool) → ite a (first_unmet d) (ite b (first_unmet_in (edit_untested op limits d t p)) 0) ≤ limits.relations
       go true b = within d v
@@ -79,10 +79,10 @@ module _ (op : Operation) (d : Drawing) (t : ℕ) (p : Vec2) where
       go false false = omega arith
 
 -- of an edit of any bytes: the refusal of an image that is none comes with no place
-pub image-place-within :
+pub image_place_within :
     (op : Operation) (s : List ℕ) (t : ℕ) (p : Vec2) {before after : List ℕ} {r : EditedImage} → EditWritten op s t p before after r → Bytes s → r.place ≤ limits.relations
 unfolding guard
-image-place-within op s t p {before} {after} {r} w b = go (I.image_fault s) refl (image_fault_low s) w.written.refusal
+image_place_within op s t p {before} {after} {r} w b = go (I.image_fault s) refl (image_fault_low s) w.written.refusal
   where
     go : (k : ℕ) → I.image_fault s ≡ k → k ≤ 5 → r.refusal ≡ number_in (if_fits (length before) (guard (eqb k 0) k (edit_of op limits (I.drawing_of s) t p))) → r.place ≤ limits.relations
     go zero e low is = omega (arith, w.place, place_within op (I.drawing_of s) t p (image_valid s e b) r.refusal)

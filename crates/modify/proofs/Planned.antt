@@ -45,16 +45,16 @@ found_pinned op d t p plan h = go (curve_in d.curves t) refl h
     go none e h = let z : ◌≡◌ {A = ℕ} 0 1 = cc in absurd (omega arith)
     go (some c) e h = subst (λ (i : ℕ). Pinned d i plan) (look_some d.curves t c e).1 (curve_pinned op d p c plan h)
 
-pub edit-planned :
+pub edit_planned :
     (met : Drawing → Bool) (op : Operation) (m : Limits) (d : Drawing) (t : ℕ) (p : Vec2) (d' : Drawing) (r : Removed) → apply_planned met m d t (plan_edit op d t p) ≡ accepted d' r
     → (plan : Plan) × Pinned d t plan × (apply_plan met m d t plan ≡ accepted d' r)
 unfolding apply_planned
-edit-planned met op m d t p d' r q = go (plan_edit op d t p) refl q
+edit_planned met op m d t p d' r q = go (plan_edit op d t p) refl q
   where
     go : (c : PlanResult) → plan_edit op d t p ≡ c → apply_planned met m d t c ≡ accepted d' r → (plan : Plan) × Pinned d t plan × (apply_plan met m d t plan ≡ accepted d' r)
     go (Refused n) e q = let z : ◌≡◌ {A = ℕ} 0 1 = cc in absurd (omega arith)
     go (Accepted plan) e q = (plan, found_pinned op d t p plan (guard_plan_accepted (ok_position p) 9 (plan_on_found op d p (curve_in d.curves t)) plan e).1, q)
 
-pub edit-valid :
+pub edit_valid :
     (met : Drawing → Bool) (op : Operation) (m : Limits) (d : Drawing) (t : ℕ) (p : Vec2) (d' : Drawing) (r : Removed) → Valid m d → apply_planned met m d t (plan_edit op d t p) ≡ accepted d' r → Valid m d'
-edit-valid met op m d t p d' r v q = let (plan, h, o) = edit-planned met op m d t p d' r q in plan_valid met m d v t plan d' r o h
+edit_valid met op m d t p d' r v q = let (plan, h, o) = edit_planned met op m d t p d' r q in plan_valid met m d v t plan d' r o h

@@ -20,7 +20,7 @@ use Rattle.extend.specs.declared.EditedImage.{EditedImage}
 use Rattle.extend.specs.ImageExtend.{if_fits, OutcomeWritten}
 use Rattle.modify.specs.Edits.{edit_of}
 use Rattle.modify.specs.ImageEdits.{edit_image, EditWritten}
-use Rattle.modify.proofs.Planned.{edit-valid}
+use Rattle.modify.proofs.Planned.{edit_valid}
 
 module _ (op : Operation) (s : List ℕ) (t : ℕ) (p : Vec2) {before after : List ℕ} {x : EditedImage} (w : EditWritten op s t p before after x)
     (e : I.image_fault s ≡ 0) (v : Valid limits (I.drawing_of s))
@@ -30,7 +30,7 @@ module _ (op : Operation) (s : List ℕ) (t : ℕ) (p : Vec2) {before after : Li
     good_edit = rw e
 
     pub fits_largest : (d : Drawing) (q : Removed) → edit_of op limits (I.drawing_of s) t p ≡ accepted d q → length (encode d) ≤ I.max_image_size
-    fits_largest d q o = omega (arith, (w.sound d q (good_edit ∙ o)).0, image_size d (edit-valid all_met op limits (I.drawing_of s) t p d q v o))
+    fits_largest d q o = omega (arith, (w.sound d q (good_edit ∙ o)).0, image_size d (edit_valid all_met op limits (I.drawing_of s) t p d q v o))
 
     module _ (room : I.max_image_size ≤ length before) where
       pub whole_outcome : OutcomeWritten (edit_of op limits (I.drawing_of s) t p) before after x

@@ -1,4 +1,6 @@
 // Trim, split and extend, of an image and of a sketch by value: the tests, the plan, and applying it.
+#![tactic(auto)]
+
 mod edits;
 mod image_edits;
 mod in_place;

@@ -55,9 +55,9 @@ refused_written v k place r g z n p b a =
 
 -- an old message, or a new image: the answer has what is left
 module _ (m : Memory) (v : CallOutcome) (sound : OutcomeSound v) (left : Memory) (is : left ≡ memory_after v m) where
-  pub old-written :
+  pub old_written :
       (s : State Drawing) → v ≡ old s → (a a' : List ℕ) (r : ℕ) → r ≡ 0 → a' ≡ answer_with a left.count left.size nothing → CallWritten v m.buffer left.buffer a a' r
-  old-written s g a a' r z e =
+  old_written s g a a' r z e =
       let l : left ≡ memory_after (old s) m = is ∙ ap (λ (v : CallOutcome). memory_after v m) g in
       record {
         number = ap (λ (k : ℕ). k % 65536) z ∙ sym (ap number_of g);
@@ -67,9 +67,9 @@ module _ (m : Memory) (v : CallOutcome) (sound : OutcomeSound v) (left : Memory)
         numbers = e ∙ ap (λ (t : Memory). answer_with a t.count t.size nothing) l ∙ sym (ap (λ (v : CallOutcome). answer_after v a) g);
       }
 
-  pub updated-written :
+  pub updated_written :
       (s : State Drawing) (q : Removed) → v ≡ updated s q → (a a' : List ℕ) (r : ℕ) → r ≡ 0 → a' ≡ answer_with a left.count left.size q → CallWritten v m.buffer left.buffer a a' r
-  updated-written s q g a a' r z e =
+  updated_written s q g a a' r z e =
       let l : left ≡ memory_after (updated s q) m = is ∙ ap (λ (v : CallOutcome). memory_after v m) g in
       record {
         number = ap (λ (k : ℕ). k % 65536) z ∙ sym (ap number_of g);
@@ -190,10 +190,11 @@ module _ (b : List ℕ) (len count mark operation : ℕ) (e : Edit) (l kept a : 
       window_is : kept' ≡ window_after outcome kept l'
       window_is = w.window_is ∙ sym (ap (λ (v : CallOutcome). window_after v kept l') same)
 
-      pub desk_refused_lem : (n place : ℕ) → reply ≡ Desk.Refused n place → Bytes b → (r : ℕ) → r % 65536 ≡ n → r / 65536 ≡ place % 65536 → DeskCallWritten len count mark operation e b left.buffer l l' kept kept a a r
+      pub desk_refused_lem : (n place : ℕ) → reply ≡ Desk.Refused n place → Bytes left.buffer → (r : ℕ) → r % 65536 ≡ n → r / 65536 ≡ place % 65536 → DeskCallWritten len count mark operation e b left.buffer l l' kept kept a a r
       desk_refused_lem n place q are r low high =
           let g = desk_reply_refused desks n place (desk_not_old m e (length l)) (sym q ∙ w.reply_is) in
-          let c = refused_written outcome n place r (same ∙ g) (subst OutcomeSound g w.sound) low (whole_place desks n place r g (desk_place_within m are e (length l)) high) b a in
+          let were = subst (λ (t : Memory). Bytes t.buffer) (refused_buffer m desks w.sound left w.left_is n place g) are in
+          let c = refused_written outcome n place r (same ∙ g) (subst OutcomeSound g w.sound) low (whole_place desks n place r g (desk_place_within m were e (length l)) high) b a in
           record {
             served = subst (λ (t : List ℕ). CallWritten outcome b t a a r) (sym (ap (λ (t : Memory). t.buffer) (refused_buffer m desks w.sound left w.left_is n place g))) c;
             written = message_is;
@@ -210,7 +211,7 @@ module _ (b : List ℕ) (len count mark operation : ℕ) (e : Edit) (l kept a : 
         pub desk_accepted_lem : (a' : List ℕ) (r : ℕ) → (r ≡ 0) × (a' ≡ answer_with a left.count left.size q) → DeskCallWritten len count mark operation e b left.buffer l l' kept kept' a a' r
         desk_accepted_lem a' r (z, n) =
             record {
-              served = subst (λ (v : CallOutcome). CallWritten v b left.buffer a a' r) (sym same) (updated-written m desks w.sound left w.left_is done.0 q done.1 a a' r z n);
+              served = subst (λ (v : CallOutcome). CallWritten v b left.buffer a a' r) (sym same) (updated_written m desks w.sound left w.left_is done.0 q done.1 a a' r z n);
               written = message_is;
               kept = window_is;
             }
@@ -271,10 +272,11 @@ module _ (b : List ℕ) (len count mark : ℕ) (bytes a : List ℕ) (left : Memo
   abbrev walls : CallOutcome
   walls = R.wall_call_outcome found bytes
 
-  pub wall_refused_lem : (n place : ℕ) → reply ≡ Wall.Refused n place → Bytes b → (r : ℕ) → r % 65536 ≡ n → r / 65536 ≡ place % 65536 → WallCallWritten len count mark bytes b left.buffer a a r
+  pub wall_refused_lem : (n place : ℕ) → reply ≡ Wall.Refused n place → Bytes left.buffer → (r : ℕ) → r % 65536 ≡ n → r / 65536 ≡ place % 65536 → WallCallWritten len count mark bytes b left.buffer a a r
   wall_refused_lem n place q are r low high =
       let g = wall_reply_refused walls n place (sym q ∙ w.reply_is) in
-      let c = refused_written walls n place r g (subst OutcomeSound g w.sound) low (whole_place walls n place r g (wall_place_within found are bytes) high) b a in
+      let were = subst (λ (t : Memory). Bytes t.buffer) (refused_buffer found walls w.sound left w.left_is n place g) are in
+      let c = refused_written walls n place r g (subst OutcomeSound g w.sound) low (whole_place walls n place r g (wall_place_within found were bytes) high) b a in
       subst (λ (t : List ℕ). CallWritten walls b t a a r) (sym (ap (λ (t : Memory). t.buffer) (refused_buffer found walls w.sound left w.left_is n place g))) c
 
   module _ (is : reply ≡ Wall.Old) where
@@ -287,7 +289,7 @@ module _ (b : List ℕ) (len count mark : ℕ) (bytes a : List ℕ) (left : Memo
         omega (arith, l, old_size found bytes was_old.0 was_old.1)
 
     pub wall_old_lem : (a' : List ℕ) (r : ℕ) → (r ≡ 0) × (a' ≡ answer_with a left.count left.size nothing) → WallCallWritten len count mark bytes b left.buffer a a' r
-    wall_old_lem a' r (z, n) = old-written found walls w.sound left w.left_is was_old.0 was_old.1 a a' r z n
+    wall_old_lem a' r (z, n) = old_written found walls w.sound left w.left_is was_old.0 was_old.1 a a' r z n
 
   module _ (q : Removed) (is : reply ≡ Wall.Applied q) where
     was_applied : (s : State Drawing) × (walls ≡ updated s q)
@@ -297,4 +299,4 @@ module _ (b : List ℕ) (len count mark : ℕ) (bytes a : List ℕ) (left : Memo
     wall_size = updated_size found walls w.sound left w.left_is was_applied.0 q was_applied.1
 
     pub wall_applied_lem : (a' : List ℕ) (r : ℕ) → (r ≡ 0) × (a' ≡ answer_with a left.count left.size q) → WallCallWritten len count mark bytes b left.buffer a a' r
-    wall_applied_lem a' r (z, n) = updated-written found walls w.sound left w.left_is was_applied.0 q was_applied.1 a a' r z n
+    wall_applied_lem a' r (z, n) = updated_written found walls w.sound left w.left_is was_applied.0 q was_applied.1 a a' r z n

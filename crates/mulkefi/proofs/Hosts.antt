@@ -1,6 +1,6 @@
 -- Demand 3 over the calls that a host links: any list of the desk's, and any life of the wall, each call on the memory that the device's last one
--- left (`host-demand-3`); what a catch-up by the desk's window answers and writes (`host-catch-up`), by which a wall becomes level with the desk
--- (`host-level-with-desk`). The calls are those of `replication`, as a host sees them. Assumes nothing.
+-- left (`host_demand_3`); what a catch-up by the desk's window answers and writes (`host_catch_up`), by which a wall becomes level with the desk
+-- (`host_level_with_desk`). The calls are those of `replication`, as a host sees them. Assumes nothing.
 use mathlib.Core.Path.{◌≡◌, refl, sym, ap, ap₂, ◌∙◌, subst, subst₂}
 use mathlib.Core.Bool.{Bool, true, false}
 use mathlib.Core.List.{List, [], ◌∷◌, ◌++◌, map, append_assoc, Memᴰ}
@@ -33,8 +33,8 @@ use Rattle.replication.specs.Outcomes.{CallOutcome, refused, old, updated, messa
 use Rattle.replication.specs.Transitions.{Memory, image_in, state_in, Ready, StartsWith, memory_after, desk_reply, DeskCall, desk_step, desk_reply_to, desk_call_outcome, DeskEdits, DeskCalls, memory_left, window_left, WallCall, wall_reply, wall_step, wall_reply_to, wall_call_outcome, WallDelivers, WallCalls, WallUse, starts, delivers, WallUses, uses_left, UsesFromDesk, wall_event}
 use Rattle.replication.specs.Replication.{ReplicationCorrect}
 use Rattle.replication.specs.CatchUps.{messages_in, calls_left, DeliversDue, LevelWithDesk}
-use Rattle.replication.proofs.Demand3.{started_had, calls-demand-3}
-use Rattle.replication.proofs.StartCases.{held-at-start}
+use Rattle.replication.proofs.Demand3.{started_had, calls_demand_3}
+use Rattle.replication.proofs.StartCases.{held_at_start}
 use Rattle.replication.proofs.Steps.{Leaves, DeliveryCase, delivery_refused, delivery_old, delivery_updated, delivery_case, wall_step_lem}
 use Rattle.replication.proofs.CatchUps.{desk_count, desk_window_lem, level_with_desk}
 use Rattle.mulkefi.specs.Calls.{answer_for, CallWritten, desk_outcome_by_number, DeskCallWritten, WallCallWritten}
@@ -66,10 +66,10 @@ Counted m (updated s q) = s.count ≡ m.count + 1
 
 module _ (m : Memory) (b a a' : List ℕ) (r : ℕ) (l : length a ≡ 5) where
   -- an answer 0: the size and count in it
-  taken-over :
+  taken_over :
       (t : State Drawing) (q : Removed) → r % 65536 ≡ 0 → r / 65536 ≡ 0 → a' ≡ answer_for a t q → (b' : List ℕ) → b ≡ b'
       → after_call m b a' r ≡ record { buffer = b'; size = E.drawing_size t.drawing; mark = m.mark; count = t.count }
-  taken-over t q low high f b' e =
+  taken_over t q low high f b' e =
       let none : r ≡ 0 = omega arith in
       let g = f ∙ five a t q l in
       ap (after_call m b a') none ∙ (λ i. record { buffer = e i; size = ap (λ (x : List ℕ). get_or x 1 0) g i; mark = m.mark; count = ap (λ (x : List ℕ). get_or x 0 0) g i })
@@ -87,8 +87,8 @@ module _ (m : Memory) (b a a' : List ℕ) (r : ℕ) (l : length a ≡ 5) where
   -- the memory is the outcome's
   memory_after_lem : (v : CallOutcome) → CallWritten v m.buffer b a a' r → after_call m b a' r ≡ memory_after v m
   memory_after_lem (refused k place) w = memory_kept m b a' r (some k place w) w.image
-  memory_after_lem (old s) w = taken-over s nothing w.number w.place w.numbers m.buffer w.image
-  memory_after_lem (updated s q) w = taken-over s q w.number w.place w.numbers (over m.buffer 0 (E.encode s.drawing)) w.image
+  memory_after_lem (old s) w = taken_over s nothing w.number w.place w.numbers m.buffer w.image
+  memory_after_lem (updated s q) w = taken_over s q w.number w.place w.numbers (over m.buffer 0 (E.encode s.drawing)) w.image
 
   -- and so is the reply, at the desk
   desk_reply_lem : (v : CallOutcome) → CallWritten v m.buffer b a a' r → ite (eqb (r % 65536) 0) (Desk.Accepted (report_in a')) (Desk.Refused (r % 65536) (r / 65536)) ≡ desk_reply_to v
@@ -97,12 +97,12 @@ module _ (m : Memory) (b a a' : List ℕ) (r : ℕ) (l : length a ≡ 5) where
   desk_reply_lem (updated s q) w = rw (eq-eqb (r % 65536) 0 w.number) (ap Desk.Accepted (report_told s q w.numbers))
 
   -- and at the wall
-  wall-reply :
+  wall_reply_lem :
       (v : CallOutcome) → CallWritten v m.buffer b a a' r → Counted m v
       → ite (eqb (r % 65536) 0) (ite (eqb (get_or a' 0 0) m.count) Wall.Old (Wall.Applied (report_in a'))) (Wall.Refused (r % 65536) (r / 65536)) ≡ wall_reply_to v
-  wall-reply (refused k place) w n = rw (ne_eqb (r % 65536) 0 (some k place w)) (ap₂ Wall.Refused w.number w.place)
-  wall-reply (old s) w n = rw (eq-eqb (r % 65536) 0 w.number, eq-eqb (get_or a' 0 0) m.count (count_told s nothing w.numbers ∙ n))
-  wall-reply (updated s q) w n =
+  wall_reply_lem (refused k place) w n = rw (ne_eqb (r % 65536) 0 (some k place w)) (ap₂ Wall.Refused w.number w.place)
+  wall_reply_lem (old s) w n = rw (eq-eqb (r % 65536) 0 w.number, eq-eqb (get_or a' 0 0) m.count (count_told s nothing w.numbers ∙ n))
+  wall_reply_lem (updated s q) w n =
       let count = count_told s q w.numbers in
       rw (eq-eqb (r % 65536) 0 w.number, ne_eqb (get_or a' 0 0) m.count (λ y. omega (arith, n, count, y))) (ap Wall.Applied (report_told s q w.numbers))
 
@@ -235,13 +235,13 @@ events_in m (host_delivers u ∷ us) =
     ap₂ (λ (x : M.WallStep Drawing Removed) (l : List (WallEvent Drawing Removed)). delivered x ∷ l) (delivery_step_in m u) (events_in (after_wall m u) us)
 
 -- a delivery to a memory that is ready
-delivery-made :
+delivery_made :
     (m : Memory) → Ready m → (u : WallDelivery) → WallCallWritten m.size m.count m.mark u.bytes m.buffer u.buffer u.before u.answer u.result → length u.before ≡ 5
     → WallDelivers m (delivery_in m u)
-delivery-made m h u w l =
+delivery_made m h u w l =
     let v = wall_call_outcome m u.bytes in
     record {
-      reply_is = wall-reply m u.buffer u.before u.answer u.result l v w (counted (delivery_case m h u.bytes));
+      reply_is = wall_reply_lem m u.buffer u.before u.answer u.result l v w (counted (delivery_case m h u.bytes));
       left_is = memory_after_lem m u.buffer u.before u.answer u.result l v w;
       sound = w.sound;
     }
@@ -274,32 +274,32 @@ module _ (d : Memory) (kept : List ℕ) (desk : List DeskUse) (h : Ready d) (du 
   uses_made m (host_starts t ∷ us) l w f =
       uses_made t us (started_had d kept (calls_in d desk) h (made d kept desk du).calls t (uses_from m (host_starts t ∷ us) f).0).0 w f.1
   uses_made m (host_delivers u ∷ us) l w f =
-      let called = delivery-made m l.0 u w.0 w.1 in
+      let called = delivery_made m l.0 u w.0 w.1 in
       let (valid, left) = wall_step_lem m l.0 (delivery_in m u) called in
       let (rest, last) = uses_made (after_wall m u) us (left.0, left.1 ∙ l.1) w.2 f.1 in
       ((called, rest), last)
 
 -- ---- demand 3
 
-pub host-demand-3 :
+pub host_demand_3 :
     (image : List ℕ) → Bytes image → (mark : ℕ) → Mark mark → (start : Drawing) → I.parse image ≡ I.accepted start
     → (d w : Memory) → StartsWith image mark 0 d → StartsWith image mark 0 w
     → (kept : List ℕ) (desk : List DeskUse) (wall : List HostWallUse) → DeskUses d kept desk → HostWallUses w wall → HostUsesFromDesk d desk wall
     → ReplicationCorrect mark start (desk_steps_in d desk) (wall_events_in w wall)
-host-demand-3 image b mark k start e d w hd hw kept desk wall du wu uf =
-    let sd = held-at-start image b mark 0 start e d hd in
-    let sw = held-at-start image b mark 0 start e w hw in
+host_demand_3 image b mark k start e d w hd hw kept desk wall du wu uf =
+    let sd = held_at_start image b mark 0 start e d hd in
+    let sw = held_at_start image b mark 0 start e w hw in
     subst₂ (ReplicationCorrect mark start) (steps_in d desk) (events_in w wall)
-    (calls-demand-3 image b mark k start e d w hd hw kept (calls_in d desk) (uses_in w wall) (made d kept desk du).calls
+    (calls_demand_3 image b mark k start e d w hd hw kept (calls_in d desk) (uses_in w wall) (made d kept desk du).calls
     (uses_made d kept desk sd.ready du w wall (sw.ready, sw.mark_is ∙ sym sd.mark_is) wu uf).0 (uses_from d kept desk sd.ready du w wall uf))
 
 -- ---- catching up
 
 -- by a window that answers for these messages
-due-written :
+due_written :
     (mark : ℕ) (w : List ℕ) (ms : List (List ℕ)) → CatchUpOf mark w ms → (k : ℕ) (before later : List ℕ) (r : ℕ) → CatchesUp mark w (length ms) k before later r → DueWritten ms k before later r
 unfolding guard_number
-due-written mark w ms h k before later r c =
+due_written mark w ms h k before later r c =
     record {
       number = c.number ∙ h.fault k (length before);
       buffer =
@@ -317,19 +317,19 @@ due-written mark w ms h k before later r c =
     go false p b q e = refl
 
 -- a desk that started with an empty window, and keeps it along its calls
-pub host-catch-up :
+pub host_catch_up :
     (image : List ℕ) → Bytes image → (start : Drawing) → I.parse image ≡ I.accepted start → (d : Memory) → Mark d.mark → StartsWith image d.mark 0 d
     → (desk : List DeskUse) → DeskUses d empty_window desk
     → (k : ℕ) (before later : List ℕ) (r : ℕ) → CatchesUp d.mark (desk_window empty_window desk) (desk_left d desk).count k before later r
     → DueWritten (messages (desk_steps_in d desk)) k before later r
-host-catch-up image b start e d fits s desk du k before later r c =
-    let ready = (held-at-start image b d.mark 0 start e d s).ready in
+host_catch_up image b start e d fits s desk du k before later r c =
+    let ready = (held_at_start image b d.mark 0 start e d s).ready in
     let m = made d empty_window desk du in
     let cs = calls_in d desk in
     let ms = messages (map desk_step cs) in
     let n : (desk_left d desk).count ≡ length ms = ap (λ (t : Memory). t.count) (sym m.memory_is) ∙ desk_count d ready fits s.count_is cs m.calls in
     subst (λ (l : List (DeskStep Drawing Edit Removed)). DueWritten (messages l) k before later r) (steps_in d desk)
-    (due-written d.mark (window_left empty_window cs) ms (desk_window_lem d ready fits s.count_is cs m.calls) k before later r
+    (due_written d.mark (window_left empty_window cs) ms (desk_window_lem d ready fits s.count_is cs m.calls) k before later r
     (subst₂ (λ (w : List ℕ) (n : ℕ). CatchesUp d.mark w n k before later r) (sym m.window_is) n c))
 
 -- ---- a wall that is delivered what is due
@@ -346,7 +346,7 @@ deliveries_in m (u ∷ us) = delivery_in m u ∷ deliveries_in (after_wall m u) 
 deliveries_made : (m : Memory) (us : List WallDelivery) → Ready m → HostWallUses m (map host_delivers us) → WallCalls m (deliveries_in m us)
 deliveries_made m [] h w = tt
 deliveries_made m (u ∷ us) h w =
-    let called = delivery-made m h u w.0 w.1 in
+    let called = delivery_made m h u w.0 w.1 in
     (called, deliveries_made (after_wall m u) us (wall_step_lem m h (delivery_in m u) called).1.0 w.2)
 
 deliveries_left : (m : Memory) (us : List WallDelivery) → calls_left m (deliveries_in m us) ≡ wall_left m (map host_delivers us)
@@ -358,13 +358,13 @@ deliveries_bytes m [] = refl
 deliveries_bytes m (u ∷ us) = ap (λ (l : List (List ℕ)). u.bytes ∷ l) (deliveries_bytes (after_wall m u) us)
 
 -- at whatever point of its life
-pub host-level-with-desk :
+pub host_level_with_desk :
     (image : List ℕ) → Bytes image → (start : Drawing) → I.parse image ≡ I.accepted start → (d w : Memory) → Mark d.mark → StartsWith image d.mark 0 d → StartsWith image d.mark 0 w
     → (front later : List DeskUse) (wall : List HostWallUse) → DeskUses d empty_window (front ++ later) → HostWallUses w wall → HostUsesFromDesk d (front ++ later) wall
     → (before buffer : List ℕ) (us : List WallDelivery) → HostDeliversDue d front (wall_left w wall) before buffer us → HostLevelWithDesk d front (wall_left w wall) us
-host-level-with-desk image b start e d w fits sd sw front later wall du wu uf before buffer us due =
-    let hd = held-at-start image b d.mark 0 start e d sd in
-    let hw = held-at-start image b d.mark 0 start e w sw in
+host_level_with_desk image b start e d w fits sd sw front later wall du wu uf before buffer us due =
+    let hd = held_at_start image b d.mark 0 start e d sd in
+    let hw = held_at_start image b d.mark 0 start e w sw in
     let m = wall_left w wall in
     let here = made d empty_window front (uses_front d empty_window front later du) in
     let join = calls_join d front later in

@@ -1,4 +1,6 @@
 // The engine for a host in C or Rust: calls in C's convention on memory that is lent for the call.
+#![tactic(auto)]
+
 mod buffers;
 mod catching_up;
 mod desk;

@@ -7,8 +7,6 @@ use Prim.Native.Nat.{ℕ}
 use lib.Dec.{eqb}
 use lib.ListN.{length}
 use lib.Ieee.{Float, lt, le}
-use types.Run.{OneOf, miss}
-use denote.Enum.Declared.{tag_of}
 use Rattle.float.specs.Numbers.{◌⊕◌, ◌⊖◌, 1e-9}
 use Rattle.float.specs.Thresholds.{least_of, at_1e-6}
 use Rattle.float.proofs.Lengths.{exact_1e-6}
@@ -22,13 +20,11 @@ use Rattle.sketch.specs.declared.Point.{Point}
 use Rattle.sketch.specs.declared.Curve.{Curve}
 use Rattle.sketch.specs.declared.CurveKind.{CurveKind}
 use Rattle.sketch.specs.declared.CurveKind.TheVariants.{Line, Arc, Circle, Bezier, Conic}
-use Rattle.sketch.specs.contracts.CurveKind as K
 use Rattle.sketch.specs.Lists.{ite}
 use Rattle.sketch_geometry.specs.Geometry.{position_of}
 use Rattle.cuts.specs.declared.Cut.{Cut}
 use Rattle.cuts.specs.declared.Neighbours.{Neighbours}
 use Rattle.cuts.specs.declared.Neighbours.TheVariants.{Zero, One, Two}
-use Rattle.cuts.specs.contracts.Neighbours as N
 use Rattle.cuts.specs.Bracket.{neighbours}
 use Rattle.edit_plan.specs.declared.Pin.{Pin}
 use Rattle.edit_plan.specs.declared.Pin.TheVariants.{On, At}
@@ -50,14 +46,11 @@ pub is_circle_lem : {k : CurveKind} {o : ℕ} {r : Float} → k ≡ Circle o r �
 unfolding is_circle
 is_circle_lem e = rw e
 
-abbrev rest : List ℕ
-rest = 0 ∷ 1 ∷ 3 ∷ 4 ∷ []
-
-pub no_circle : (k : CurveKind) → OneOf rest (tag_of K.the_type k) → false ≡ is_circle k
+pub no_circle : (k : CurveKind) → ((o : ℕ) (r : Float) → k ≡ Circle o r → ⊥) → false ≡ is_circle k
 unfolding is_circle
 no_circle (Line a b) h = refl
 no_circle (Arc c a b) h = refl
-no_circle (Circle c r) h = absurd (miss rest 2 tt h)
+no_circle (Circle c r) h = absurd (h c r refl)
 no_circle (Bezier n) h = refl
 no_circle (Conic a p b rho) h = refl
 
@@ -102,14 +95,11 @@ module _ (sh : Shape) (p : Vec2) (os : List Cutter) where
 
 -- ---- split
 
-abbrev fewer : List ℕ
-fewer = 0 ∷ 1 ∷ []
-
-pub full_few : (sh : Shape) (r : Neighbours) {cuts : List Cut} → OneOf fewer (tag_of N.the_type r) → neighbours r ≡ cuts → Refused 12 ≡ split_full sh cuts
+pub full_few : (sh : Shape) (r : Neighbours) {cuts : List Cut} → ((k j : Cut) → r ≡ Two k j → ⊥) → neighbours r ≡ cuts → Refused 12 ≡ split_full sh cuts
 unfolding split_full
 full_few sh Zero h e = ap (split_full sh) e
 full_few sh (One k) h e = ap (split_full sh) e
-full_few sh (Two k j) h e = absurd (miss fewer 2 tt h)
+full_few sh (Two k j) h e = absurd (h k j refl)
 
 pub full_two : (sh : Shape) {r : Neighbours} {cuts : List Cut} {k j : Cut} {p q : Vec2} → r ≡ Two k j → neighbours r ≡ cuts → p ≡ point sh k.t → q ≡ point sh j.t → Accepted (P.DivideTwo p q) ≡ split_full sh cuts
 unfolding split_full
@@ -154,16 +144,13 @@ pub ends_arc : {k : CurveKind} {c a b : ℕ} → k ≡ Arc c a b → ends_of k �
 unfolding ends_of
 ends_arc e = rw e
 
-abbrev endless : List ℕ
-endless = 2 ∷ 3 ∷ 4 ∷ []
-
-pub ends_none : (k : CurveKind) → OneOf endless (tag_of K.the_type k) → ends_of k ≡ none
+pub ends_none : (k : CurveKind) → ((a b : ℕ) → k ≡ Line a b → ⊥) → ((c a b : ℕ) → k ≡ Arc c a b → ⊥) → ends_of k ≡ none
 unfolding ends_of
-ends_none (Line a b) h = absurd (miss endless 0 tt h)
-ends_none (Arc c a b) h = absurd (miss endless 1 tt h)
-ends_none (Circle c r) h = refl
-ends_none (Bezier n) h = refl
-ends_none (Conic a p b rho) h = refl
+ends_none (Line a b) l h = absurd (l a b refl)
+ends_none (Arc c a b) l h = absurd (h c a b refl)
+ends_none (Circle c r) l h = refl
+ends_none (Bezier n) l h = refl
+ends_none (Conic a p b rho) l h = refl
 
 module _ (ps : List Point) (cs : List Curve) (q : Vec2) (by : ℕ) where
   pub pin_of : {c : Curve} {e : Option (ℕ × ℕ)} {r : Pin} → curve_in cs by ≡ some c → ends_of c.kind ≡ e → r ≡ pin_to ps q by e → r ≡ pin_to ps q by (ends_at (curve_in cs by))

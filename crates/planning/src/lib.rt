@@ -1,4 +1,6 @@
 // The plan of a trim or a split: which pieces of a curve go, where it is cut, and what its new ends are pinned to.
+#![tactic(auto)]
+
 pub mod image_pins;
 pub mod image_plans;
 mod planning;
@@ -6,7 +8,7 @@ mod planning;
 use edit_plan::Plan;
 
 // What is to be done with the curve that was picked, or the number of a refusal.
-#[derive(Drop)]
+#[derive(Clone, Copy)]
 pub enum PlanResult {
     Refused(u8),
     Accepted(Plan),

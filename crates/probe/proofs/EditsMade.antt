@@ -24,9 +24,9 @@ pub place_is : (p : ℕ) → p < 65536 → p % 65536 ≡ p
 place_is p l = omega arith
 
 -- so does that of a typed edit
-place-whole :
+place_whole :
     (op : Operation) (sk : Sketch) (t : ℕ) (p : Vec2) → sketch_fault sk ≡ 0 → (r : Edited) → EditAnswer op sk t p r → r.place % 65536 ≡ edit_place op (view sk) t p r.refusal
-place-whole op sk t p f r a =
+place_whole op sk t p f r a =
     let h = place_within op (view sk) t p (sketch_valid sk f).1 r.refusal in
     place_is r.place (omega (arith, a.place)) ∙ a.place
 
@@ -75,7 +75,7 @@ module _ (op : ℕ) (s : List ℕ) (t : ℕ) (p : Vec2) (before : List ℕ) wher
           record {
             number = rw q number_is;
             buffer = rw q;
-            place = place_above ∙ place-whole (operation_of op) sk t p f r a ∙ ap₂ (λ (d : Drawing) (j : ℕ). edit_place (operation_of op) d t p j) v (sym number_is);
+            place = place_above ∙ place_whole (operation_of op) sk t p f r a ∙ ap₂ (λ (d : Drawing) (j : ℕ). edit_place (operation_of op) d t p j) v (sym number_is);
           }
 
       pub edit_written : r.refusal ≡ 0 → (later : List ℕ) (n : ℕ) → Wrote (accepted (view r.sketch) r.removed) before later n → EditMade op s t p before later n
@@ -123,15 +123,15 @@ module _ (op : Operation) (sk : Sketch) (t : ℕ) (p : Vec2) (f : sketch_fault s
   unfolding outcome_adds
   adds_number z is =
       let q : outcome_of r ≡ refused r.refusal = rw (ne_eqb r.refusal 0 z) in
-      is ∙ ap (λ (j : ℕ). r.refusal + j * 65536) (place-whole op sk t p f r a) ∙ sym (ap adds (sym made ∙ q))
+      is ∙ ap (λ (j : ℕ). r.refusal + j * 65536) (place_whole op sk t p f r a) ∙ sym (ap adds (sym made ∙ q))
 
   pub adds_sum : r.refusal ≡ 0 → {n : ℕ} → n ≡ (r.sketch.next + r.removed.curve) % 2 ^ 32 → n ≡ edit_adds op (view sk) t p
   unfolding outcome_adds
   adds_sum z e = let q : outcome_of r ≡ accepted (view r.sketch) r.removed = rw (eq-eqb r.refusal 0 z) in e ∙ sym (ap adds (sym made ∙ q))
 
 -- so many edits of an image's drawing are so many of the drawing that its bytes give
-pub adds-read :
+pub adds_read :
     (op : ℕ) (s : List ℕ) (t : ℕ) (p : Vec2) (times : ℕ) {d : Drawing} {o : Operation} {n : ℕ} → d ≡ drawing_of s → o ≡ operation_of op
     → n ≡ repeated times (edit_adds o d t p) → n ≡ repeated times (edit_adds (operation_of op) (drawing_of s) t p)
-adds-read op s t p times {d} {o} v e q =
+adds_read op s t p times {d} {o} v e q =
     q ∙ ap (λ x. repeated times (edit_adds x d t p)) e ∙ ap (λ x. repeated times (edit_adds (operation_of op) x t p)) v

@@ -21,11 +21,11 @@ use Rattle.modify.specs.ImageEdits as M
 use Rattle.modify.specs.ImageEdits.{EditWritten}
 use Rattle.modify.proofs.ImageFaults.{image_fault_low}
 use Rattle.modify.proofs.WholeOutcomes.{good_edit, whole_outcome}
-use Rattle.modify.proofs.Places.{image-place-within}
+use Rattle.modify.proofs.Places.{image_place_within}
 use Rattle.probe.specs.Edits.{image_edit_by, number_of, left_in, fitting, Wrote, EditMade, with_place, outcome_adds, edit_adds}
 use Rattle.probe.specs.EditContracts.{ReportEnd, ReportPut}
 use Rattle.probe.proofs.EditsMade.{place_is}
-use Rattle.probe.proofs.ReportedImages.{nothing_written, image-and-report}
+use Rattle.probe.proofs.ReportedImages.{nothing_written, image_and_report}
 
 pub fault_low : (s : List ℕ) {r : ℕ} → r ≡ image_fault s → r < 256
 fault_low s e = omega (arith, image_fault_low s)
@@ -53,12 +53,12 @@ module _ (op : ℕ) (s : List ℕ) (t : ℕ) (p : Vec2) (xs : List ℕ) (o : is_
         record {
           number = number_is ∙ made_number w;
           buffer = made_buffer w;
-          place = place_above ∙ place_is r.place (omega (arith, image-place-within op' s t p a b)) ∙ a.place ∙ ap₂ (λ (x : Operation) (k : ℕ). edit_place x (drawing_of s) t p k) named (sym number_is);
+          place = place_above ∙ place_is r.place (omega (arith, image_place_within op' s t p a b)) ∙ a.place ∙ ap₂ (λ (x : Operation) (k : ℕ). edit_place x (drawing_of s) t p k) named (sym number_is);
         }
 
     pub edit_written : (r.size ≡ 0 → ⊥) → {k : List ℕ} → ReportPut r.removed (take start xs ++ (ys ++ drop (length xs - start) (drop start xs))) k → EditMade op s t p xs k 0
     edit_written z {k} put =
-        let w = image-and-report xs start end ys r k put (M.edit_image op' s t p) (λ d gone q. (a.sound d gone q).0) a.written z in
+        let w = image_and_report xs start end ys r k put (M.edit_image op' s t p) (λ d gone q. (a.sound d gone q).0) a.written z in
         record {
           number = made_number w;
           buffer = made_buffer w;
@@ -99,7 +99,7 @@ module _ (op : Operation) (s : List ℕ) (t : ℕ) (p : Vec2) {before after : Li
   adds_number z {k} is i room = go outcome refl (written i room)
     where
       placed : r.place % 65536 ≡ edit_place op (drawing_of s) t p r.refusal
-      placed = place_is r.place (omega (arith, image-place-within op s t p a b)) ∙ a.place
+      placed = place_is r.place (omega (arith, image_place_within op s t p a b)) ∙ a.place
 
       go : (o : Outcome Drawing Removed) → outcome ≡ o → OutcomeWritten o before after r → k ≡ outcome_adds (edit_place op (drawing_of s) t p) o
       go (refused n) e w = is ∙ ap (λ (j : ℕ). r.refusal + j * 65536) placed ∙ ap (λ (j : ℕ). with_place j (edit_place op (drawing_of s) t p j)) w.refusal

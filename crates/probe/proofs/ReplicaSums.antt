@@ -48,15 +48,15 @@ module _ (mark : ℕ) (d : Drawing) (v : Valid limits d) (e : Edit) (m : List �
       let z : ◌≡◌ {A = ℕ} 0 1 = cc in
       absurd (omega arith)
 
-  pub desk-done :
+  pub desk_done :
       (o : Outcome (State Drawing) Removed) (was now : State Drawing) (gone : Removed) → reply ≡ Desk.Accepted gone → desk_reply reply m ≡ M.reply_to (protocol mark) d e o → now ≡ state_after was o
       → {k : ℕ} → k ≡ (now.count + 256) % 2 ^ 32 → k ≡ desk_tally ((protocol mark).place d e) o
   unfolding desk_tally
-  desk-done (refused k) was now gone q h g f =
+  desk_done (refused k) was now gone q h g f =
       let w : ◌≡◌ {A = M.DeskReply Removed} (M.desk_accepted gone m) (M.desk_refused k ((protocol mark).place d e k)) = ap (λ x. desk_reply x m) (sym q) ∙ h in
       let z : ◌≡◌ {A = ℕ} 0 1 = cc in
       absurd (omega arith)
-  desk-done (accepted t r) was now gone q h g f = f ∙ ap (λ (x : State Drawing). (x.count + 256) % 2 ^ 32) g
+  desk_done (accepted t r) was now gone q h g f = f ∙ ap (λ (x : State Drawing). (x.count + 256) % 2 ^ 32) g
 
 module _ (reply : WallReply) where
   pub wall_refused_lem :
@@ -136,10 +136,10 @@ module _ (image : List ℕ) (are : Bytes image) (good : image_fault image ≡ 0)
   pub wall_valid : (c : WallCall) → WallDelivers found c → WallStepValid (protocol mark) (image_state image count) (wall_step c)
   wall_valid c w = subst (λ (s : State Drawing). WallStepValid (protocol mark) s (wall_step c)) held.state (wall_step_lem found held.ready c w).0
 
-pub desk-read :
+pub desk_read :
     (s : List ℕ) (count op t : ℕ) (x y : Float) (times : ℕ) {op' : Operation} {n : ℕ} → op' ≡ operation_of op
     → n ≡ repeated times (desk_adds op' t x y (image_state s count)) → n ≡ repeated times (desk_adds (operation_of op) t x y (image_state s count))
-desk-read s count op t x y times e q = q ∙ ap (λ o. repeated times (desk_adds o t x y (image_state s count))) e
+desk_read s count op t x y times e q = q ∙ ap (λ o. repeated times (desk_adds o t x y (image_state s count))) e
 
 -- ---- the wall's program looks at 65,536 bytes
 

@@ -97,12 +97,12 @@ module _ (xs : List ℕ) (start : ℕ) (b : ReportEnd (length xs) start) (ys : L
   -- ---- the image and the report
 
   module _ (k : List ℕ) (put : ReportPut r.removed front k) where
-    pub image-and-report :
+    pub image_and_report :
         (o : Outcome Drawing Removed) → ((d : Drawing) (gone : Removed) → o ≡ accepted d gone → length (encode d) ≡ drawing_size d) → OutcomeWritten (if_fits (length lent) o) lent ys r
         → (r.size ≡ 0 → ⊥) → Wrote o xs k 0
     unfolding guard number_of left_in over
-    image-and-report (refused n) sound w z = absurd (z w.size)
-    image-and-report (accepted d gone) sound w z = go (leb (length (encode d)) (length lent)) refl w
+    image_and_report (refused n) sound w z = absurd (z w.size)
+    image_and_report (accepted d gone) sound w z = go (leb (length (encode d)) (length lent)) refl w
       where
         is : length (encode d) ≡ drawing_size d
         is = sound d gone refl

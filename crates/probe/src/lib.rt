@@ -1,4 +1,6 @@
 // Entry points in C's convention, through which the comparison and the benchmarks reach the engine.
+#![tactic(auto)]
+
 mod catching_up;
 mod edits;
 mod numbers;
@@ -17,7 +19,7 @@ use message::{Mark, MessageRead};
 use sketch::Id;
 
 // A sketch that no image gives, by its number; else that all relations are met, or the place of the first that is not.
-#[derive(Drop)]
+#[derive(Clone, Copy)]
 enum Verdict {
     Refused(u8),
     Met,

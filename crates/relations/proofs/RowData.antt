@@ -1,18 +1,15 @@
 -- Curves read from an image's records, as far as relations measure them. Assumes nothing.
 use mathlib.Core.Path.{◌≡◌, ap, ◌∙◌}
-use mathlib.Core.List.{List, [], ◌∷◌}
+use mathlib.Core.List.{List}
 use Prim.Native.Nat.{ℕ, ◌≤◌, ◌<◌}
 use native.Mathlib.Omega.{arith}
 use lib.ListN.{length, get_or}
 use lib.Ieee.{Float}
-use types.Run.{OneOf}
-use denote.Enum.Declared.{tag_of}
 use Rattle.sketch.specs.declared.Point.{Point}
 use Rattle.sketch.specs.declared.Curve.{Curve}
 use Rattle.sketch.specs.declared.CurveKind.{CurveKind}
 use Rattle.sketch.specs.declared.CurveKind.TheVariants.{Line, Arc, Circle}
 use Rattle.sketch.specs.Blanks.{no_curve}
-use Rattle.sketch.specs.contracts.CurveKind.{the_type}
 use Rattle.image.specs.Decode.{read_curve}
 use Rattle.image.specs.Records.{curve_size}
 use Rattle.rows.specs.Rows.{HoldsCurves, RecordOf}
@@ -39,9 +36,9 @@ module _ (ps : List Point) (s : CurveData) (kind : CurveKind) where
   unfolding whole shape_of
   data_circle e k f g = whole_circle_lem s k ∙ rw (e, f, g)
 
-  pub data_freeform : OneOf (3 ∷ 4 ∷ []) (tag_of the_type kind) → s.kind ≡ 4 → whole_of s ≡ whole (shape_of ps kind)
+  pub data_freeform : ((a b : ℕ) → kind ≡ Line a b → ⊥) → ((c a b : ℕ) → kind ≡ Arc c a b → ⊥) → ((c : ℕ) (r : Float) → kind ≡ Circle c r → ⊥) → s.kind ≡ 4 → whole_of s ≡ whole (shape_of ps kind)
   unfolding whole
-  data_freeform h k = whole_none s (λ z. omega arith) (λ z. omega arith) (λ z. omega arith) ∙ ap whole (of_freeform ps kind h)
+  data_freeform l a o k = whole_none s (λ z. omega arith) (λ z. omega arith) (λ z. omega arith) ∙ ap whole (of_freeform ps kind l a o)
 
 -- ---- by id
 

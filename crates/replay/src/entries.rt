@@ -9,7 +9,7 @@ use big_endian::{get1, get4};
 const HEAD: usize = 5;
 
 // An entry's outcome, and where its input lies. One that runs past the list's end is not whole, and is the list's last.
-#[derive(Drop)]
+#[derive(Clone, Copy)]
 pub(crate) struct Entry {
     pub outcome: u8,
     pub start: usize,

@@ -1,4 +1,6 @@
 // Replays the oracle's recorded answers on the engine and writes how many came out alike.
+#![tactic(auto)]
+
 mod catch_ups;
 mod edits;
 mod entries;
@@ -14,38 +16,41 @@ mod tally;
 mod walk;
 mod written;
 
+use std::rt::Files;
+use std::{fs, io};
 use walk::Subject;
 
-// Room for a list, and some more.
+// The most bytes that a list may have. A list is read into a vector: an array of that size is more than the check can take.
 const ROOM: usize = 655360;
 
-// Reads a list, replays it and writes what came of it. A further read tells a whole list from one that is longer than
-// the buffer or that can't be read to its end.
-fn replay_file(name: &[u8], path: &[u8], subject: Subject) {
-    let fd = os::open_read(path);
-    if fd < 0 {
-        report::unread(name);
-        return;
+// Reads a list, replays it and writes what came of it.
+fn replay_file(
+    rt: &(impl Files + Print + AllocGlobal),
+    name: &str,
+    path: &str,
+    subject: Subject,
+) -> io::Result<()> {
+    let Ok(list) = fs::read(rt, path) else {
+        return report::unread(rt, name);
+    };
+    if ROOM < list.len() {
+        return report::unread(rt, name);
     }
-    let mut list = [0u8; ROOM];
-    let mut past = [0u8; 1];
-    let n = io::read_full(fd, &mut list);
-    let more = libc::read(fd, &mut past);
-    libc::close(fd);
-    if more != 0 {
-        report::unread(name);
-        return;
-    }
-    report::result(name, walk::replay(subject, &list[..n]));
+    report::result(rt, name, walk::replay(subject, &list))
 }
 
-fn main() {
-    replay_file(b"images", b"images.bin", Subject::Images);
-    replay_file(b"messages", b"messages.bin", Subject::Messages);
-    replay_file(b"catch-ups", b"catch_ups.bin", Subject::CatchUps);
-    replay_file(b"square roots", b"square_roots.bin", Subject::SquareRoots);
-    replay_file(b"magnitudes", b"magnitudes.bin", Subject::Magnitudes);
-    replay_file(b"roots", b"roots.bin", Subject::Roots);
-    replay_file(b"edits", b"edits.bin", Subject::Edits);
-    replay_file(b"runs", b"runs.bin", Subject::Runs);
+fn main(rt: HostRuntime) -> io::Result<()> {
+    replay_file(&rt, "images", "images.bin", Subject::Images)?;
+    replay_file(&rt, "messages", "messages.bin", Subject::Messages)?;
+    replay_file(&rt, "catch-ups", "catch_ups.bin", Subject::CatchUps)?;
+    replay_file(
+        &rt,
+        "square roots",
+        "square_roots.bin",
+        Subject::SquareRoots,
+    )?;
+    replay_file(&rt, "magnitudes", "magnitudes.bin", Subject::Magnitudes)?;
+    replay_file(&rt, "roots", "roots.bin", Subject::Roots)?;
+    replay_file(&rt, "edits", "edits.bin", Subject::Edits)?;
+    replay_file(&rt, "runs", "runs.bin", Subject::Runs)
 }

@@ -1,74 +1,57 @@
 // What came of a list, in words on standard output.
 use crate::tally::{OUTCOMES, Tally};
-use libc::STDOUT_FILENO;
-
-fn text(words: &[u8]) {
-    io::write_all(STDOUT_FILENO, words);
-}
-
-fn number(n: usize) {
-    io::print_decimal(STDOUT_FILENO, n as u64);
-}
+use std::io;
 
 // A list that can't be replayed: missing, unreadable or too long.
-pub(crate) fn unread(name: &[u8]) {
-    text(name);
-    text(b": not read whole\n");
+pub(crate) fn unread(rt: &impl Print, name: &str) -> io::Result<()> {
+    println!(rt; "{name}: not read whole")
 }
 
-pub(crate) fn result(name: &[u8], tally: Tally) {
+pub(crate) fn result(rt: &impl Print, name: &str, tally: Tally) -> io::Result<()> {
+    let entries = tally.entries;
+    let alike = tally.alike;
+    println!(rt; "{name}: {entries} recorded, {alike} alike")?;
     let outcomes = tally.outcomes;
-    text(name);
-    text(b": ");
-    number(tally.entries);
-    text(b" recorded, ");
-    number(tally.alike);
-    text(b" alike\n");
-    if outcomes[0] != tally.entries {
-        by_outcome(outcomes);
+    if outcomes[0] != entries {
+        by_outcome(rt, outcomes)?;
     }
-    difference(tally.prefix, tally.entries);
+    difference(rt, tally.prefix, entries)
 }
 
 // Of a list whose inputs are all accepted there is no more to say.
-fn by_outcome(outcomes: [usize; OUTCOMES]) {
-    text(b"  accepted ");
-    number(outcomes[0]);
-    refused(outcomes);
-    text(b"\n");
+fn by_outcome(rt: &impl Print, outcomes: [usize; OUTCOMES]) -> io::Result<()> {
+    let accepted = outcomes[0];
+    print!(rt; "  accepted {accepted}")?;
+    refused(rt, outcomes)?;
+    println!(rt; "")
 }
 
 // The refusals that came up, each with its number of entries.
-fn refused(outcomes: [usize; OUTCOMES]) {
+fn refused(rt: &impl Print, outcomes: [usize; OUTCOMES]) -> io::Result<()> {
     let mut is_first = true;
-    let mut refusal: usize = 1;
-    while refusal < OUTCOMES {
-        is_first = refused_by(refusal, outcomes[refusal], is_first);
-        refusal += 1;
+    for refusal in 1..OUTCOMES {
+        is_first = refused_by(rt, refusal, outcomes[refusal], is_first)?;
     }
+    Ok(())
 }
 
 // Writes one of them, where there are entries, and answers whether the next would be the first that is written.
-fn refused_by(refusal: usize, entries: usize, is_first: bool) -> bool {
+fn refused_by(rt: &impl Print, refusal: usize, entries: usize, is_first: bool) -> io::Result<bool> {
     if entries == 0 {
-        return is_first;
+        return Ok(is_first);
     }
     if is_first {
-        text(b", refused by ");
+        print!(rt; ", refused by {refusal}: {entries}")?;
     } else {
-        text(b", ");
+        print!(rt; ", {refusal}: {entries}")?;
     }
-    number(refusal);
-    text(b": ");
-    number(entries);
-    false
+    Ok(false)
 }
 
 // The place, from 0, of the first entry that differs, where one does.
-fn difference(prefix: usize, entries: usize) {
+fn difference(rt: &impl Print, prefix: usize, entries: usize) -> io::Result<()> {
     if prefix < entries {
-        text(b"  first difference at ");
-        number(prefix);
-        text(b"\n");
+        println!(rt; "  first difference at {prefix}")?;
     }
+    Ok(())
 }

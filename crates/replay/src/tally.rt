@@ -5,7 +5,7 @@ ghost use Rattle.replay.specs.Tally.{Kept};
 // Outcomes are 0 for acceptance and the numbers of the refusals, up to 28.
 pub(crate) const OUTCOMES: usize = 29;
 
-#[derive(Drop)]
+#[derive(Clone, Copy)]
 pub(crate) struct Tally {
     pub entries: usize,
     pub alike: usize,

@@ -7,7 +7,7 @@ use crate::tally::{Tally, counted, empty};
 use crate::{catch_ups, edits, images, magnitudes, messages, roots, runs, square_roots};
 
 // What a list records answers of.
-#[derive(Drop)]
+#[derive(Clone, Copy)]
 pub(crate) enum Subject {
     Images,
     Messages,

@@ -88,12 +88,12 @@ abbrev pub applied : ℕ → ℕ → (ℕ → ℕ) → O.Outcome Drawing Removed
 applied room n place (O.refused k) = refused k (place k)
 applied room n place (O.accepted d q) = if_image_fits room (record { drawing = d; count = n }) q
 
-pub on-image :
+pub on_image_lem :
     (s : List ℕ) (count : ℕ) (f : State Drawing → CallOutcome) (room n : ℕ) (e : Edit)
     → f (record { drawing = I.drawing_of s; count = count }) ≡ applied room n (place (I.drawing_of s) e) (edit_of e.operation limits (I.drawing_of s) e.curve e.at)
     → on_image (I.parse s) count f ≡ applied room n (place (I.drawing_of s) e) (edit_image e.operation s e.curve e.at)
 unfolding I.result_of guard
-on-image s count f room n e g = go (I.image_fault s) (image_fault_low s)
+on_image_lem s count f room n e g = go (I.image_fault s) (image_fault_low s)
   where
     go : (k : ℕ) → k ≤ 5 → on_image (I.result_of k (I.drawing_of s)) count f ≡ applied room n (place (I.drawing_of s) e) (guard (eqb k 0) k (edit_of e.operation limits (I.drawing_of s) e.curve e.at))
     go zero h = g

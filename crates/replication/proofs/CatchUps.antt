@@ -1,7 +1,7 @@
 -- The desk's window holds its last messages (`desk_window_lem`), and a wall that is delivered just what a catch-up wrote has the desk's drawing and count (`level_with_desk`).
 use mathlib.Core.Path.{◌≡◌, refl, sym, ap, ap₂, ◌∙◌, subst, subst₂}
 use mathlib.Core.Bool.{Bool, true, false, ◌&&◌}
-use mathlib.Core.List.{List, [], ◌∷◌, ◌++◌, map, map_append, append-nil, append_assoc}
+use mathlib.Core.List.{List, [], ◌∷◌, ◌++◌, map, map-append, append-nil, append_assoc}
 use Prim.Native.Nat.{ℕ, zero, suc, ◌+◌, ◌-◌, ◌*◌, ◌≤◌, ◌<◌}
 use native.Mathlib.Omega.{arith}
 use lib.ListN.{length, take, drop, get_or, length-append, length-drop}
@@ -22,7 +22,7 @@ use Rattle.message.specs.Stored.{Mark}
 use Rattle.message.proofs.MessageRoundTrips.{length_message}
 use Rattle.window.specs.Window.{window_messages, empty_window, slid, all_held, due_bytes, CatchesUp}
 use Rattle.window.specs.KeptMessages.{concat, Numbered, KeepsLast, CatchUpOf}
-use Rattle.window.proofs.KeptMessages.{numbered_none, numbered_more, numbered_sized, keeps_none, keeps-slid, catch_up_of}
+use Rattle.window.proofs.KeptMessages.{numbered_none, numbered_more, numbered_sized, keeps_none, keeps_slid, catch_up_of}
 use Rattle.relations.specs.Met.{all_met}
 use Rattle.edit_plan.specs.declared.Removed.{Removed}
 use Rattle.edit_plan.specs.Outcome as O
@@ -39,7 +39,7 @@ use Rattle.replication.specs.Outcomes.{CallOutcome, refused, updated, message_af
 use Rattle.replication.specs.Transitions.{Memory, state_in, Ready, StartsWith, memory_after, desk_call_outcome, DeskCall, desk_reply, desk_reply_to, desk_step, DeskEdits, DeskCalls, memory_left, window_left, WallCall, wall_step, WallCalls, WallUse, starts, delivers, WallUses, uses_left, UsesFromDesk, wall_event}
 use Rattle.replication.specs.CatchUps.{messages_in, calls_left, DeliversDue, LevelWithDesk}
 use Rattle.replication.proofs.Decoding.{planned, read}
-use Rattle.replication.proofs.StartCases.{held-at-start}
+use Rattle.replication.proofs.StartCases.{held_at_start}
 use Rattle.replication.proofs.Steps.{Holding, Leaves, DeskCase, desk_refused_lem, desk_updated, desk_case, message_front, desk_step_lem, wall_step_lem}
 use Rattle.replication.proofs.Demand3.{desk_run, desk_left_lem, desk_after_lem, desk_calls_front, started_had, wall_life, from_desk}
 
@@ -87,17 +87,17 @@ kept_next m h fits w ms k c d = go (desk_case m h c.edit (length c.before))
         by (updated t q) g
         (record {
           numbered = numbered_more m.mark ms (take message_size c.after) k.numbered (ap (message_fault m.mark) sent ∙ fault) (ap (λ (s : List ℕ). field s edit_number_at edit_number_size) sent ∙ number ∙ n);
-          keeps = subst (λ (j : ℕ). KeepsLast (slid w j c.after) (ms ++ (take message_size c.after ∷ []))) (sym n) (keeps-slid w ms c.after k.keeps long);
+          keeps = subst (λ (j : ℕ). KeepsLast (slid w j c.after) (ms ++ (take message_size c.after ∷ []))) (sym n) (keeps_slid w ms c.after k.keeps long);
           many = n ∙ sym (length-append ms (take message_size c.after ∷ []) ∙ omega arith);
         })
 
-kept-along :
+kept_along :
     (m : Memory) → Ready m → Mark m.mark → (w : List ℕ) (ms : List (List ℕ)) → Kept m w ms → (cs : List DeskCall) → DeskCalls m w cs
     → Kept (memory_left m cs) (window_left w cs) (ms ++ messages (map desk_step cs))
-kept-along m h fits w ms k [] d = subst (Kept m w) (sym (append-nil ms)) k
-kept-along m h fits w ms k (c ∷ cs) d =
+kept_along m h fits w ms k [] d = subst (Kept m w) (sym (append-nil ms)) k
+kept_along m h fits w ms k (c ∷ cs) d =
     let (valid, left) = desk_step_lem m h w c d.0 in
-    let next = kept-along c.left left.0 (subst Mark (sym left.1) fits) c.window (ms ++ M.prepend_message (desk_step c).reply []) (kept_next m h fits w ms k c d.0) cs d.1 in
+    let next = kept_along c.left left.0 (subst Mark (sym left.1) fits) c.window (ms ++ M.prepend_message (desk_step c).reply []) (kept_next m h fits w ms k c d.0) cs d.1 in
     subst (Kept (memory_left c.left cs) (window_left c.window cs)) (append_assoc ms (M.prepend_message (desk_step c).reply []) (messages (map desk_step cs)) ∙ ap (λ (l : List (List ℕ)). ms ++ l) (joined (desk_step c).reply (messages (map desk_step cs)))) next
   where
     joined : (r : M.DeskReply Removed) (l : List (List ℕ)) → M.prepend_message r [] ++ l ≡ M.prepend_message r l
@@ -107,7 +107,7 @@ kept-along m h fits w ms k (c ∷ cs) d =
 -- a desk that started with an empty window, after some calls
 module _ (d : Memory) (h : Ready d) (fits : Mark d.mark) (z : d.count ≡ 0) (cs : List DeskCall) (dc : DeskCalls d empty_window cs) where
   desk_kept : Kept (memory_left d cs) (window_left empty_window cs) (messages (map desk_step cs))
-  desk_kept = kept-along d h fits empty_window [] (record { numbered = numbered_none d.mark; keeps = keeps_none; many = z }) cs dc
+  desk_kept = kept_along d h fits empty_window [] (record { numbered = numbered_none d.mark; keeps = keeps_none; many = z }) cs dc
 
   desk_numbered : Numbered d.mark (messages (map desk_step cs))
   desk_numbered = subst (λ (k : ℕ). Numbered k (messages (map desk_step cs))) (desk_left_lem d empty_window cs h dc).1 desk_kept.numbered
@@ -195,23 +195,23 @@ module _
     events = map wall_event us
 
     at_desk : Holding d.mark d (initial start)
-    at_desk = held-at-start image b d.mark 0 start e d sd
+    at_desk = held_at_start image b d.mark 0 start e d sd
 
     at_wall : Holding d.mark w (initial start)
-    at_wall = held-at-start image b d.mark 0 start e w sw
+    at_wall = held_at_start image b d.mark 0 start e w sw
 
     leaves : Leaves d m
     leaves = uses_left_lem d empty_window (front ++ later) at_desk.ready dc w us (at_wall.ready, at_wall.mark_is) wu uf
 
     run : DeskRun (protocol d.mark) (initial start) steps
-    run = subst₂ (DeskRun (protocol d.mark)) at_desk.state (map_append desk_step front later) (desk_run d empty_window (front ++ later) at_desk.ready dc)
+    run = subst₂ (DeskRun (protocol d.mark)) at_desk.state (map-append desk_step front later) (desk_run d empty_window (front ++ later) at_desk.ready dc)
 
     life : WallLife (protocol d.mark) (initial start) events
     life = subst (λ (t : State Drawing). WallLife (protocol d.mark) t events) at_wall.state (wall_life d empty_window (front ++ later) at_desk.ready dc w us (at_wall.ready, at_wall.mark_is) wu uf)
 
     from : FromDesk (protocol d.mark) (initial start) steps events
     from =
-        subst₂ (λ (t : State Drawing) (l : List (DeskStep Drawing Edit Removed)). FromDesk (protocol d.mark) t l events) at_desk.state (map_append desk_step front later)
+        subst₂ (λ (t : State Drawing) (l : List (DeskStep Drawing Edit Removed)). FromDesk (protocol d.mark) t l events) at_desk.state (map-append desk_step front later)
         (from_desk d empty_window (front ++ later) at_desk.ready dc us uf)
 
     at : session_state (session_at start events) ≡ state_in m

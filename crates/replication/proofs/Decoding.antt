@@ -18,7 +18,7 @@ use Rattle.relations.specs.Met.{all_met}
 use Rattle.edit_plan.specs.declared.Removed.{Removed}
 use Rattle.edit_plan.specs.Outcome.{accepted}
 use Rattle.modify.specs.Edits.{edit_of}
-use Rattle.modify.proofs.Planned.{guard_accepted, edit-planned}
+use Rattle.modify.proofs.Planned.{guard_accepted, edit_planned}
 use Rattle.chains.proofs.Edits.{Planned, plan_target}
 use Rattle.agreement.specs.Machines.{message, max_edit_number}
 use Rattle.agreement.proofs.Wall.{Read}
@@ -34,7 +34,7 @@ pub literal : (d : Drawing) (e : Edit) (d' : Drawing) (r : Removed) → edit d e
 literal d e d' r q = (guard_accepted (is_pick e.at) 9 (edit_of e.operation limits d e.curve e.at) d' r q).1
 
 pub planned : Planned target all_met limits edit
-planned d e d' r v q = edit-planned all_met e.operation limits d e.curve e.at d' r (literal d e d' r q)
+planned d e d' r v q = edit_planned all_met e.operation limits d e.curve e.at d' r (literal d e d' r q)
 
 -- a pick's bits give it back
 edit_in_message : (n : ℕ) (e : Edit) → T (fits binary64 e.at.x) → T (fits binary64 e.at.y) → edit_in (message_for n e) ≡ e

@@ -1,7 +1,7 @@
 -- The claim from bytes: one accepted image and one mark, any list of the desk's calls, any life of the wall: starts, each from an image and count that the desk had, and deliveries, of
 -- which each is one of its messages or is not read, as whatever bears another mark (`foreign_unread`).
 use mathlib.Core.Path.{◌≡◌, refl, sym, ap, ◌∙◌, subst, subst₂}
-use mathlib.Core.List.{List, [], ◌∷◌, ◌++◌, map, map_append}
+use mathlib.Core.List.{List, [], ◌∷◌, ◌++◌, map, map-append}
 use Prim.Native.Nat.{ℕ}
 use native.Mathlib.Omega.{arith}
 use lib.ListN.{length, take}
@@ -20,31 +20,31 @@ use Rattle.agreement.specs.Machines.{State, initial, DeskStep, calls, desk_after
 use Rattle.agreement.specs.Agreement.{state_at, desk_log}
 use Rattle.agreement.specs.Families.{reports}
 use Rattle.agreement.proofs.Reference.{linked, last_entry}
-use Rattle.chains.proofs.Edits.{planned-demand-3}
+use Rattle.chains.proofs.Edits.{planned_demand_3}
 use Rattle.replication.specs.Protocol.{Edit, protocol, target}
 use Rattle.replication.specs.Transitions.{Memory, image_in, state_in, Ready, StartsWith, DeskCall, desk_step, DeskCalls, memory_left, wall_step, WallUse, starts, delivers, WallUses, StartsFromDesk, UsesFromDesk, wall_event}
 use Rattle.replication.specs.Replication.{ReplicationCorrect}
 use Rattle.replication.proofs.Decoding.{planned, read}
 use Rattle.replication.proofs.Folded.{folded}
-use Rattle.replication.proofs.StartCases.{held_valid, held-at-start}
+use Rattle.replication.proofs.StartCases.{held_valid, held_at_start}
 use Rattle.replication.proofs.Steps.{Holding, Leaves, desk_step_lem, wall_step_lem}
 
 -- from a valid drawing
-pub replication-correct :
+pub replication_correct :
     (mark : ℕ) → Mark mark → (start : Drawing) (desk : List (DeskStep Drawing Edit Removed)) (life : List (WallEvent Drawing Removed)) → Valid limits start
     → DeskRun (protocol mark) (initial start) desk → WallLife (protocol mark) (initial start) life → FromDesk (protocol mark) (initial start) desk life
     → ReplicationCorrect mark start desk life
-replication-correct mark k start desk life v dr wl fd =
-    let g = planned-demand-3 target all_met limits (protocol mark) planned (read mark k) start desk v dr life wl fd in
+replication_correct mark k start desk life v dr wl fd =
+    let g = planned_demand_3 target all_met limits (protocol mark) planned (read mark k) start desk v dr life wl fd in
     record {
       demand = g;
-      desk-drawing = λ before later q.
+      desk_drawing = λ before later q.
           let l = desk_log (protocol mark) start before in
           let ends : state_at (initial start) l (length l) ≡ desk_after (initial start) before = last_entry (protocol mark) (initial start) (calls before) ∙ sym (g.agreement.desk_state before later q) in
           let whole : take (length l) l ≡ l = take_all (length l) l (omega arith) in
           rw whole at (folded mark (initial start) l (length l) (linked (protocol mark) (initial start) (calls before)))
           ∙ ap (λ (t : State Drawing). accepted t.drawing (reports l)) ends;
-      wall-drawing = λ before later q.
+      wall_drawing = λ before later q.
           let l = desk_log (protocol mark) start desk in
           let n = (session_state (session_at start before)).count in
           folded mark (initial start) l n (linked (protocol mark) (initial start) (calls desk))
@@ -57,7 +57,7 @@ pub demand_3 :
     → (desk : List (DeskStep Drawing Edit Removed)) (life : List (WallEvent Drawing Removed))
     → DeskRun (protocol mark) (initial start) desk → WallLife (protocol mark) (initial start) life → FromDesk (protocol mark) (initial start) desk life
     → ReplicationCorrect mark start desk life
-demand_3 image b mark k start e desk life = replication-correct mark k start desk life (fault_valid limits start (T.valid image start b e))
+demand_3 image b mark k start e desk life = replication_correct mark k start desk life (fault_valid limits start (T.valid image start b e))
 
 -- ---- the same over what the functions ensure: the desk
 
@@ -87,17 +87,17 @@ desk_calls_front m kept (c ∷ cs) ds h = (h.0, desk_calls_front c.left c.window
 
 module _ (d : Memory) (kept : List ℕ) (desk : List DeskCall) (v : Ready d) (dc : DeskCalls d kept desk) where
   -- a start from what the desk had
-  pub started-holds :
+  pub started_holds :
       (t : Memory) (front later : List DeskCall) → desk ≡ front ++ later → StartsWith (image_in (memory_left d front)) d.mark (memory_left d front).count t
       → Holding d.mark t (state_in (memory_left d front))
-  started-holds t front later q h =
+  started_holds t front later q h =
       let (r, same) = desk_left_lem d kept front v (desk_calls_front d kept front later (subst (DeskCalls d kept) q dc)) in
       held_valid (image_in (memory_left d front)) d.mark (memory_left d front).count (state_in (memory_left d front)).drawing r.valid r.image_is t h
 
   pub started_had : (t : Memory) → StartsFromDesk d desk t → Leaves d t × DeskHad (state_in d) (map desk_step desk) (state_in t)
   started_had t (front, later, q, h) =
-      let s = started-holds t front later q h in
-      ((s.ready, s.mark_is), (map desk_step front, map desk_step later, ap (map desk_step) q ∙ map_append desk_step front later, s.state ∙ sym (desk_after_lem d front)))
+      let s = started_holds t front later q h in
+      ((s.ready, s.mark_is), (map desk_step front, map desk_step later, ap (map desk_step) q ∙ map-append desk_step front later, s.state ∙ sym (desk_after_lem d front)))
 
   pub wall_life : (m : Memory) (us : List WallUse) → Leaves d m → WallUses m us → UsesFromDesk d desk us → WallLife (protocol d.mark) (state_in m) (map wall_event us)
   wall_life m [] l h f = tt
@@ -112,14 +112,14 @@ module _ (d : Memory) (kept : List ℕ) (desk : List DeskCall) (v : Ready d) (dc
   from_desk (delivers c ∷ us) f = (f.0, from_desk us f.1)
 
 -- from a start
-pub calls-demand-3 :
+pub calls_demand_3 :
     (image : List ℕ) → Bytes image → (mark : ℕ) → Mark mark → (start : Drawing) → I.parse image ≡ I.accepted start
     → (d w : Memory) → StartsWith image mark 0 d → StartsWith image mark 0 w
     → (kept : List ℕ) (desk : List DeskCall) (wall : List WallUse) → DeskCalls d kept desk → WallUses w wall → UsesFromDesk d desk wall
     → ReplicationCorrect mark start (map desk_step desk) (map wall_event wall)
-calls-demand-3 image b mark k start e d w sd sw kept desk wall dc wu uf =
-    let h = held-at-start image b mark 0 start e d sd in
-    let g = held-at-start image b mark 0 start e w sw in
+calls_demand_3 image b mark k start e d w sd sw kept desk wall dc wu uf =
+    let h = held_at_start image b mark 0 start e d sd in
+    let g = held_at_start image b mark 0 start e w sw in
     demand_3 image b mark k start e (map desk_step desk) (map wall_event wall)
     (subst₂ (λ (k : ℕ) (t : State Drawing). DeskRun (protocol k) t (map desk_step desk)) h.mark_is h.state (desk_run d kept desk h.ready dc))
     (subst₂ (λ (k : ℕ) (t : State Drawing). WallLife (protocol k) t (map wall_event wall)) h.mark_is g.state

@@ -35,7 +35,7 @@ use Rattle.replication.specs.Outcomes.{CallOutcome, refused, desk_outcome, desk_
 use Rattle.replication.specs.Transitions.{Memory, memory, image_in, first_fault, memory_after, desk_reply_to, desk_call_outcome, DeskEdits}
 use Rattle.replication.specs.Clauses.{desk_refusing}
 use Rattle.replication.proofs.Picks.{is_number, decided_place}
-use Rattle.replication.proofs.CallOutcomes.{first_some, on_first, applied, on-image, EditOutcome, edit_outcome}
+use Rattle.replication.proofs.CallOutcomes.{first_some, on_first, applied, on_image_lem, EditOutcome, edit_outcome}
 
 module _ (s : Replica) (kept : Window) (b : List ℕ) (e : Edit) (l : List ℕ) where
   abbrev m : Memory
@@ -89,7 +89,7 @@ module _ (s : Replica) (kept : Window) (b : List ℕ) (e : Edit) (l : List ℕ) 
       unfolding guard
       came =
           edit_outcome (image_in m) e b b' x w (s.count + 1) outcome
-          (on-image (image_in m) s.count (desk_on s.mark (length b) call) (length b) (s.count + 1) e
+          (on_image_lem (image_in m) s.count (desk_on s.mark (length b) call) (length b) (s.count + 1) e
           (rw (le-leb message_size (length l) room, lt-ltb s.count max_edit_number low, pick) (counted (s.count + 1) (place (I.drawing_of (image_in m)) e) (edit_of e.operation limits (I.drawing_of (image_in m)) e.curve e.at))))
 
       pub desk_declined : (x.refusal ≡ 0 → ⊥) → {r : DeskTransition} → r ≡ desk_refusing s kept x.refusal x.place → Answers b' l r
@@ -108,11 +108,11 @@ module _ (s : Replica) (kept : Window) (b : List ℕ) (e : Edit) (l : List ℕ) 
           let (p, q) = and_both (ok_coordinate e.at.x) (ok_coordinate e.at.y) p in
           (is_number e.at.x p, is_number e.at.y q)
 
-      pub desk-done :
+      pub desk_done :
           x.refusal ≡ 0 → (l' : List ℕ) (k : ℕ) → MessageWritten s.mark (message_for (s.count + 1) e) l l' k → (next : Window) → next.bytes ≡ slid kept.bytes (s.count + 1) l'
           → Answers b' l' (record { replica = record { size = x.size; mark = s.mark; count = s.count + 1 }; window = next; reply = Desk.Accepted x.removed })
       unfolding guard_number
-      desk-done z l' k u next slides =
+      desk_done z l' k u next slides =
           let t = came.when_done z in
           let g = t.outcome in
           let sent : l' ≡ over l 0 (encode s.mark (message_for (s.count + 1) e)) = u.buffer ∙ rw (le-leb 1 (s.count + 1) (omega arith), le-leb message_size (length l) room) in

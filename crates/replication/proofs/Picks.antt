@@ -81,11 +81,11 @@ nan_of b h = go (of_bits binary64 b) (sym (nan_bits_is binary64 b)) (nan_bits bi
 pub nan_computed : (b : ℕ) → not (nan_bits binary64 b) ≡ false → div binary64 (of_bits binary64 0) (of_bits binary64 0) ≡ of_bits binary64 b
 nan_computed b h = no_number ∙ nan_of b h
 
-pub nan-refused :
+pub nan_refused :
     (d : Drawing) (e : Edit) (a b : ℕ) → e.at ≡ record { x = of_bits binary64 a; y = of_bits binary64 b }
     → (not (nan_bits binary64 a) && not (nan_bits binary64 b)) ≡ false → edit d e ≡ refused 9
 unfolding guard apply_planned guard_plan
-nan-refused d e a b q h = go (is_pick e.at) (ap ok_position q ∙ nan_place a b h)
+nan_refused d e a b q h = go (is_pick e.at) (ap ok_position q ∙ nan_place a b h)
   where
     go : (p : Bool) → ok_position e.at ≡ false → guard p 9 (edit_of e.operation limits d e.curve e.at) ≡ refused 9
     go true h = rw h

@@ -105,7 +105,7 @@ held_valid image mark count d v e m h =
     let is : I.parse (image_in m) ≡ I.accepted d = ap I.parse h.image_is ∙ e in
     record { ready = ready_by m d is v h.room; mark_is = h.mark_is; state = λ i. record { drawing = ap drawing_in is i; count = h.count_is i } }
 
-pub held-at-start :
+pub held_at_start :
     (image : List ℕ) → Bytes image → (mark count : ℕ) (start : Drawing) → I.parse image ≡ I.accepted start → (m : Memory) → StartsWith image mark count m
     → Holding mark m (record { drawing = start; count = count })
-held-at-start image b mark count start e = held_valid image mark count start (fault_valid limits start (valid image start b e)) e
+held_at_start image b mark count start e = held_valid image mark count start (fault_valid limits start (valid image start b e)) e

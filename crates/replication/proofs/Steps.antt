@@ -145,10 +145,10 @@ abbrev pub Leaves : Memory → Memory → Type 0
 Leaves m t = Ready t × (t.mark ≡ m.mark)
 
 -- a call is by its parts
-pub same-edit :
+pub same_edit :
     (m : Memory) (w b a : List ℕ) (y : Memory) (w' : List ℕ) (t : DeskReply) (e e' : Edit) → e.operation ≡ e'.operation → e.curve ≡ e'.curve → e.at.x ≡ e'.at.x → e.at.y ≡ e'.at.y
     → DeskEdits m w (record { edit = e; before = b; after = a; left = y; window = w'; reply = t }) → DeskEdits m w (record { edit = e'; before = b; after = a; left = y; window = w'; reply = t })
-same-edit m w b a y w' t e e' o c x z =
+same_edit m w b a y w' t e e' o c x z =
     subst (λ (e : Edit). DeskEdits m w (record { edit = e; before = b; after = a; left = y; window = w'; reply = t })) (λ i. record { operation = o i; curve = c i; at = record { x = x i; y = z i } })
 
 pub desk_step_lem : (m : Memory) → Ready m → (kept : List ℕ) (c : DeskCall) → DeskEdits m kept c → DeskStepValid (protocol m.mark) (state_in m) (desk_step c) × Leaves m c.left

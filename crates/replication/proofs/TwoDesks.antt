@@ -15,8 +15,8 @@ use Rattle.agreement.proofs.Runs.{written, desk_messages}
 use Rattle.replication.specs.Protocol.{Edit, message_for, decoded_of, protocol}
 use Rattle.replication.specs.Transitions.{Memory, WallUse, starts, delivers, StartsFromDesk, UsesFromDesk}
 use Rattle.replication.specs.TwoDesks.{DeskAndWall, desk_steps, StartedAlike, Hears, HearsBoth, AgreesWithOwn}
-use Rattle.replication.proofs.StartCases.{held-at-start}
-use Rattle.replication.proofs.Demand3.{desk_run, calls-demand-3}
+use Rattle.replication.proofs.StartCases.{held_at_start}
+use Rattle.replication.proofs.Demand3.{desk_run, calls_demand_3}
 
 -- ---- what is faulty at a mark is not read, and so what bears another, whatever else it is
 
@@ -33,12 +33,12 @@ entry_unread mark other k ne x =
     let m = message_for x.after.count x.edit in
     foreign_unread mark (encode other m) (λ e. ne (sym (mark_written other k m) ∙ e))
 
-log-unread :
+log_unread :
     (mark other : ℕ) → Mark other → (other ≡ mark → ⊥) → (l : List (Entry Drawing Edit Removed)) (m : List ℕ) → Memᴰ m (map (written (protocol other)) l)
     → Unread (protocol mark) m
-log-unread mark other k ne [] m q = absurd (Memᴰ.not-nil q)
-log-unread mark other k ne (x ∷ l) m q =
-    ⊎_elim (λ e. subst (Unread (protocol mark)) (sym e) (entry_unread mark other k ne x)) (log-unread mark other k ne l m) (Memᴰ.cases_cons q)
+log_unread mark other k ne [] m q = absurd (Memᴰ.not-nil q)
+log_unread mark other k ne (x ∷ l) m q =
+    ⊎_elim (λ e. subst (Unread (protocol mark)) (sym e) (entry_unread mark other k ne x)) (log_unread mark other k ne l m) (Memᴰ.cases_cons q)
 
 -- ---- a wall that hears a second desk
 
@@ -52,13 +52,13 @@ heard p others f (delivers c ∷ us) g h = (⊎_elim inl (λ q. inr (f c.bytes q
 
 pub hears_a_neighbour : (p q : DeskAndWall) → StartedAlike p → StartedAlike q → (q.mark ≡ p.mark → ⊥) → HearsBoth p q → AgreesWithOwn p
 hears_a_neighbour p q sp sq ne h =
-    let at = held-at-start q.image sq.image_bytes q.mark 0 q.start sq.image_is q.desk sq.desk_starts in
+    let at = held_at_start q.image sq.image_bytes q.mark 0 q.start sq.image_is q.desk sq.desk_starts in
     let run = subst₂ (λ (k : ℕ) (t : State Drawing). DeskRun (protocol k) t (desk_steps q)) at.mark_is at.state (desk_run q.desk empty_window q.desk_calls at.ready sq.desk_called) in
     let written_as = desk_messages (protocol q.mark) (initial q.start) (desk_steps q) run in
     let apart : q.mark ≡ p.desk.mark → ⊥ = λ e. ne (e ∙ sp.desk_starts.mark_is) in
     let foreign : (m : List ℕ) → Memᴰ m (messages (desk_steps q)) → Unread (protocol p.desk.mark) m = λ m e.
-    log-unread p.desk.mark q.mark sq.mark_fits apart (accepted_log (protocol q.mark) (initial q.start) (calls (desk_steps q))) m (subst (Memᴰ m) written_as e) in
-    calls-demand-3 p.image sp.image_bytes p.mark sp.mark_fits p.start sp.image_is p.desk p.wall sp.desk_starts sp.wall_starts
+    log_unread p.desk.mark q.mark sq.mark_fits apart (accepted_log (protocol q.mark) (initial q.start) (calls (desk_steps q))) m (subst (Memᴰ m) written_as e) in
+    calls_demand_3 p.image sp.image_bytes p.mark sp.mark_fits p.start sp.image_is p.desk p.wall sp.desk_starts sp.wall_starts
     empty_window p.desk_calls p.wall_uses sp.desk_called sp.wall_used
     (heard p (messages (desk_steps q)) foreign p.wall_uses sp.started_from h)
 

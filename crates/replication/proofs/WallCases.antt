@@ -9,7 +9,7 @@ use Rattle.sketch.specs.Drawing.{Drawing, limits}
 use Rattle.sketch.specs.Facts.{Valid}
 use Rattle.edit_plan.specs.declared.Removed.{Removed}
 use Rattle.edit_plan.specs.Outcome as O
-use Rattle.modify.proofs.Planned.{edit-valid}
+use Rattle.modify.proofs.Planned.{edit_valid}
 use Rattle.relations.specs.Met.{all_met}
 use Rattle.agreement.specs.Machines as M
 use Rattle.agreement.specs.Machines.{State, Decoded, invalid, message, wall_transition}
@@ -17,7 +17,7 @@ use Rattle.replication.specs.Protocol.{Edit, edit, place, protocol}
 use Rattle.replication.proofs.Decoding.{literal}
 
 pub edit_keeps_valid : (d : Drawing) (e : Edit) (d' : Drawing) (r : Removed) → Valid limits d → edit d e ≡ O.accepted d' r → Valid limits d'
-edit_keeps_valid d e d' r v q = edit-valid all_met e.operation limits d e.curve e.at d' r v (literal d e d' r q)
+edit_keeps_valid d e d' r v q = edit_valid all_met e.operation limits d e.curve e.at d' r v (literal d e d' r q)
 
 pub data WallCase (s : State Drawing) (x : State Drawing × M.WallReply Removed) : Type 0 where
   is_refused : (k place : ℕ) → x ≡ (s, M.wall_refused k place) → WallCase s x

@@ -30,8 +30,8 @@ use Rattle.replication.specs.Protocol.{edit, place, edit_in, decoded_of, protoco
 use Rattle.replication.specs.Outcomes.{CallOutcome, refused, old, on_image, wall_outcome, wall_on, OutcomeSound}
 use Rattle.replication.specs.Transitions.{Memory, memory, image_in, first_fault, memory_after, wall_call, wall_call_outcome, wall_reply_to, WallDelivers}
 use Rattle.replication.specs.Clauses.{wall_refusing, OldAnswered, MessageApplied, DeliversMessage}
-use Rattle.replication.proofs.Picks.{is_pick_lem, nan-refused}
-use Rattle.replication.proofs.CallOutcomes.{first_fault_own, first_some, on_fault, on_first, applied, on-image, EditOutcome, edit_outcome}
+use Rattle.replication.proofs.Picks.{is_pick_lem, nan_refused}
+use Rattle.replication.proofs.CallOutcomes.{first_fault_own, first_some, on_fault, on_first, applied, on_image_lem, EditOutcome, edit_outcome}
 
 -- ---- an old message, at an image
 
@@ -133,7 +133,7 @@ module _ (s : Replica) (b : List ℕ) where
         pub wall_nan : (not (nan_bits binary64 x.x) && not (nan_bits binary64 x.y)) ≡ false → {n : ℕ} → n ≡ first_fault (image_in m) 9 → {r : WallTransition} → r ≡ wall_refusing s n 0 → DeliversMessage m x b r
         wall_nan h f q bytes is =
             first bytes 9 (λ z. omega arith)
-            (came bytes is (O.refused 9) (nan-refused (I.drawing_of (image_in m)) (edit_in x) x.x x.y refl h) ∙ ap (refused 9) (sym (place_none (I.drawing_of (image_in m)) _ (placeless_below (omega arith))))) f q
+            (came bytes is (O.refused 9) (nan_refused (I.drawing_of (image_in m)) (edit_in x) x.x x.y refl h) ∙ ap (refused 9) (sym (place_none (I.drawing_of (image_in m)) _ (placeless_below (omega arith))))) f q
 
         applied_is : (o : O.Outcome Drawing Removed) → wall_outcome (length b) (wall_apply (protocol s.mark) found x.number (edit_in x) o).0 (wall_apply (protocol s.mark) found x.number (edit_in x) o).1 ≡ applied (length b) x.number (place (I.drawing_of (image_in m)) (edit_in x)) o
         applied_is (O.refused k) = refl
@@ -145,7 +145,7 @@ module _ (s : Replica) (b : List ℕ) where
         outcome_is : (bytes : List ℕ) → parse s.mark bytes ≡ Accepted x → wall_call_outcome m bytes ≡ applied (length b) x.number (place (I.drawing_of (image_in m)) (edit_in x)) (edit_image x.operation (image_in m) x.curve (edit_in x).at)
         unfolding guard
         outcome_is bytes is =
-            on-image (image_in m) s.count (wall_on s.mark (length b) bytes) (length b) x.number (edit_in x)
+            on_image_lem (image_in m) s.count (wall_on s.mark (length b) bytes) (length b) x.number (edit_in x)
             (came bytes is asked (rw (is_pick_lem x.x x.y)) ∙ applied_is asked)
 
         module _ (b' : List ℕ) (t : EditedImage) (w : EditWritten x.operation (image_in m) x.curve (edit_in x).at b b' t) (bytes : List ℕ) (is : parse s.mark bytes ≡ Accepted x) where

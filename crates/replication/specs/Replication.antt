@@ -23,11 +23,11 @@ edits l = map (λ x. x.edit) l
 pub record ReplicationCorrect (mark : ℕ) (start : Drawing) (desk : List (DeskStep Drawing Edit Removed)) (life : List (WallEvent Drawing Removed)) : Type 0 where
   pub demand : Demand3 (protocol mark) curve_view target start desk life
   -- at its start and after each call the desk has the drawing of the edits accepted so far
-  pub desk-drawing :
+  pub desk_drawing :
       (before later : List (DeskStep Drawing Edit Removed)) → desk ≡ before ++ later
       → apply_edits start (edits (desk_log (protocol mark) start before)) ≡ accepted (desk_after (initial start) before).drawing (reports (desk_log (protocol mark) start before))
   -- at each start and after each delivery the wall has the drawing of the first of the desk's accepted edits, as many as it counts
-  pub wall-drawing :
+  pub wall_drawing :
       (before later : List (WallEvent Drawing Removed)) → life ≡ before ++ later
       → let t = session_state (session_at start before) in
       apply_edits start (edits (take t.count (desk_log (protocol mark) start desk))) ≡ accepted t.drawing (reports (take t.count (desk_log (protocol mark) start desk)))

@@ -1,6 +1,6 @@
 -- The desk makes its calls one after the other: its messages stand one after the other in the log, and the last of them in its window.
 use mathlib.Core.Path.{◌≡◌, refl, sym, ap, ap₂, ◌∙◌, subst, subst₂}
-use mathlib.Core.List.{List, [], ◌∷◌, ◌++◌, map_append, append-nil, append_assoc}
+use mathlib.Core.List.{List, [], ◌∷◌, ◌++◌, map-append, append-nil, append_assoc}
 use Prim.Native.Nat.{ℕ, ◌+◌, ◌*◌, ◌-◌, ◌≤◌}
 use native.Mathlib.Omega.{arith}
 use native.Mathlib.Nat.{zero-add}
@@ -58,11 +58,11 @@ room_of mark s c t q e =
     (leb-true message_size c.room (guard_accepted (leb message_size c.room) 25 _ t q e).0, k)
 
 -- a message written over the front of a part leaves what lies behind it
-rest-after :
+rest_after :
     (log msg : List ℕ) (from room : ℕ) (p : List ℕ) → from ≤ length log → length msg ≤ length (mid_of from room log) → p ≡ over (mid_of from room log) 0 msg
     → drop (from + length msg) (put_mid from room log p) ≡ drop (from + length msg) log
 unfolding over
-rest-after log msg from room p h k e =
+rest_after log msg from room p h k e =
     let part = take room (drop from log) in
     let behind = drop room (drop from log) in
     let n : length (take from log) ≡ from = length-take from log ∙ omega arith in
@@ -114,20 +114,20 @@ module _
     (r : DeskRan mark start steps cs before log w kept)
   where
     -- the call is known by its step, and by what it sent, which is nothing or its message
-    by-step :
+    by_step :
         (c : DeskCall) → DeskEdits w kept c → (sent : List (List ℕ)) → prepend_message (desk_step c).reply [] ≡ sent
         → (l : List ℕ) → concat (messages steps) ++ concat sent ≡ take (message_size * c.left.count) l
         → drop (message_size * c.left.count) l ≡ drop (message_size * c.left.count) before → message_size * c.left.count ≤ length l
         → length (messages steps) + length sent ≡ c.left.count → c.left.count ≤ length cs + 1
         → DeskRan mark start (steps ++ (desk_step c ∷ [])) (cs ++ ((desk_step c).call ∷ [])) before l c.left c.window
-    by-step c step sent e l lg rs ft mn fw =
+    by_step c step sent e l lg rs ft mn fw =
         let mm : messages (steps ++ (desk_step c ∷ [])) ≡ messages steps ++ sent = messages_join steps (desk_step c ∷ []) ∙ ap (λ (l : List (List ℕ)). messages steps ++ l) e in
         let (valid, left) = desk_step_lem w r.ready kept c step in
         let known = kept_next w r.ready (subst Mark (sym r.mark_is) k) kept (messages steps) (record { numbered = subst (λ (n : ℕ). Numbered n (messages steps)) (sym r.mark_is) r.numbered; keeps = r.keeps; many = sym r.many }) c step in
         let mk = messages_join steps (desk_step c ∷ []) in
         record {
           run = desk_more mark (initial start) steps (desk_step c) r.run (subst₂ (λ (k : ℕ) (u : State Drawing). DeskStepValid (protocol k) u (desk_step c)) r.mark_is (sym r.ends) valid);
-          fed = map_append (λ (x : DeskStep Drawing Edit Removed). x.call) steps (desk_step c ∷ []) ∙ ap (λ (l : List (Call Edit)). l ++ ((desk_step c).call ∷ [])) r.fed;
+          fed = map-append (λ (x : DeskStep Drawing Edit Removed). x.call) steps (desk_step c ∷ []) ∙ ap (λ (l : List (Call Edit)). l ++ ((desk_step c).call ∷ [])) r.fed;
           ends = desk_after_more (initial start) steps (desk_step c);
           mark_is = left.1 ∙ r.mark_is;
           ready = left.0;
@@ -151,11 +151,11 @@ module _
       abbrev call_of : Memory → DeskReply → List ℕ → List ℕ → DeskCall
       call_of y t p w' = record { edit = e; before = lent; after = p; left = y; window = w'; reply = t }
 
-      pub desk-ran-more :
+      pub desk_ran_more :
           (y : Memory) (t : DeskReply) (p w' : List ℕ) (step : DeskEdits w kept (call_of y t p w'))
           → DeskRan mark start (steps ++ (desk_step (call_of y t p w') ∷ [])) (cs ++ (record { edit = e; room = length lent } ∷ [])) before (put_mid from room log p) y w'
           × (length (put_mid from room log p) ≡ length log)
-      desk-ran-more y t p w' step = go (desk_case w r.ready e (length lent))
+      desk_ran_more y t p w' step = go (desk_case w r.ready e (length lent))
         where
           go :
               DeskCase w r.ready e (length lent)
@@ -166,7 +166,7 @@ module _
               let reply = step.reply_is ∙ ap desk_reply_to g in
               let c : y.count ≡ w.count = ap (λ (m : Memory). m.count) left in
               let l : put_mid from room log p ≡ log = ap (put_mid from room log) (step.message_is ∙ ap (λ (v : CallOutcome). message_after w.mark v e lent) g) ∙ put_same from room log in (
-                by-step (call_of y t p w') step [] (ap (λ (r : DeskReply). prepend_message (desk_reply r (take message_size p)) []) reply) (put_mid from room log p)
+                by_step (call_of y t p w') step [] (ap (λ (r : DeskReply). prepend_message (desk_reply r (take message_size p)) []) reply) (put_mid from room log p)
                     (append-nil (concat (messages steps)) ∙ r.logged ∙ ap₂ (λ (n : ℕ) (l : List ℕ). take (message_size * n) l) (sym c) (sym l))
                     (ap₂ (λ (n : ℕ) (l : List ℕ). drop (message_size * n) l) c l ∙ r.rest ∙ sym (ap (λ (n : ℕ). drop (message_size * n) before) c))
                     (omega (arith, ap length l, r.fits)) (omega (arith, r.many)) (omega (arith, r.few)),
@@ -185,10 +185,10 @@ module _
               let ll : length (put_mid from room log p) ≡ length log = same_len_mid from room log p lp in
               let n2 : from + message_size ≡ message_size * y.count = omega arith in
               let n3 : from + length msg ≡ message_size * y.count = omega arith in (
-                by-step (call_of y t p w') step (take message_size p ∷ []) (ap (λ (r : DeskReply). prepend_message (desk_reply r (take message_size p)) []) reply) (put_mid from room log p)
+                by_step (call_of y t p w') step (take message_size p ∷ []) (ap (λ (r : DeskReply). prepend_message (desk_reply r (take message_size p)) []) reply) (put_mid from room log p)
                     (ap₂ (λ (a b : List ℕ). a ++ b) r.logged (append-nil (take message_size p)) ∙ sym (front_after log p from room message_size r.fits (omega arith))
                     ∙ ap (λ (n : ℕ). take n (put_mid from room log p)) n2)
-                    (ap (λ (n : ℕ). drop n (put_mid from room log p)) (sym n3) ∙ rest-after log msg from room p r.fits (omega arith) wr
+                    (ap (λ (n : ℕ). drop n (put_mid from room log p)) (sym n3) ∙ rest_after log msg from room p r.fits (omega arith) wr
                     ∙ sym (drop-drop (length msg) from log) ∙ ap (drop (length msg)) r.rest ∙ drop-drop (length msg) from before ∙ ap (λ (n : ℕ). drop n before) n3)
                     (omega (arith, part_long log from room fits)) (omega (arith, r.many)) (omega (arith, r.few)),
                 ll,

@@ -22,7 +22,7 @@ use Rattle.agreement.specs.Machines.{State, initial}
 use Rattle.replication.specs.declared.Started.{Started}
 use Rattle.replication.specs.Transitions.{memory, state_in, first_nonzero, Starts, first_fault}
 use Rattle.replication.proofs.Steps.{Holding}
-use Rattle.replication.proofs.StartCases.{nonzero_first, nonzero_second, above_first, starts_with, held-at-start}
+use Rattle.replication.proofs.StartCases.{nonzero_first, nonzero_second, above_first, starts_with, held_at_start}
 use Rattle.replication.proofs.Demand3.{demand_3}
 use Rattle.replication_runs.specs.declared.Run.{Run}
 use Rattle.replication_runs.specs.declared.RunResult.{RunResult}
@@ -108,20 +108,20 @@ module _ (image : List ℕ) (mark : ℕ) (entries order others before desk wall 
       image_read = result_none (I.image_fault image) start (sym fault_is ∙ z)
 
       at_desk : Holding mark (memory d.replica desk₀) (initial start)
-      at_desk = held-at-start image are mark 0 start image_read (memory d.replica desk₀) (starts_with image mark 0 desk desk₀ d sd z)
+      at_desk = held_at_start image are mark 0 start image_read (memory d.replica desk₀) (starts_with image mark 0 desk desk₀ d sd z)
 
       at_wall : Holding mark (memory w.replica wall₀) (initial start)
-      at_wall = held-at-start image are mark 0 start image_read (memory w.replica wall₀) (starts_with image mark 0 wall wall₀ w sw wall_started)
+      at_wall = held_at_start image are mark 0 start image_read (memory w.replica wall₀) (starts_with image mark 0 wall wall₀ w sw wall_started)
 
       -- the state that the desk's memory shows is the image's
       same : (state_in (memory d.replica desk₀)).drawing ≡ start
       same = ap (λ (t : State Drawing). t.drawing) at_desk.state
 
       -- before the first number the run came to nothing yet
-      pub run-begins :
+      pub run_begins :
           (window : Window) → window.bytes ≡ empty_window
           → Ran d.replica.mark (state_in (memory d.replica desk₀)).drawing entries others before [] (record { desk = d.replica; window = window; wall = w.replica; made = 0 }) before desk₀ wall₀
-      run-begins window e =
+      run_begins window e =
           subst₂ (λ (m : ℕ) (u : Drawing). Ran m u entries others before [] (record { desk = d.replica; window = window; wall = w.replica; made = 0 }) before desk₀ wall₀) (sym at_desk.mark_is) (sym same)
           (record {
             mark_fits = k;
@@ -145,7 +145,7 @@ module _ (image : List ℕ) (mark : ℕ) (entries order others before desk wall 
             held = λ y. record {
               start = start;
               image_is = image_read;
-              desk_steps_lem = r.steps;
+              steps_of_desk = r.steps;
               life = r.of_wall.life;
               desk_run = r.of_desk.run;
               wall_life = r.of_wall.lived;

@@ -19,7 +19,7 @@ use Rattle.image.proofs.RoundTrips.{result_accepted}
 use Rattle.message.specs.Message.{message_size}
 use Rattle.window.specs.declared.Window.{Window}
 use Rattle.window.specs.KeptMessages.{concat}
-use Rattle.window.proofs.KeptMessages.{due-part}
+use Rattle.window.proofs.KeptMessages.{due_part}
 use Rattle.cuts.specs.Columns.{rows}
 use Rattle.cuts.proofs.Rows.{rows_length}
 use Rattle.edit_plan.specs.declared.Removed.{Removed}
@@ -36,7 +36,7 @@ use Rattle.replication_runs.specs.declared.Run.{Run}
 use Rattle.replication_runs.specs.RunBoth.{edit_at, call_at, calls_in, room_at, call_size, made_by, made_after, other_at, if_unread, delivery_at, WallInput, receives, state_after_calls, messages_after_calls, inputs_by, inputs_after}
 use Rattle.replication_runs.specs.Clauses.{DeskRan, WallRan, Ran, RunsOn, WallGiven, one_given}
 use Rattle.replication_runs.proofs.WallInputs.{delivery_from, wall_ran_later, wall_ran_started, wall_ran_given}
-use Rattle.replication_runs.proofs.DeskCalls.{part_long, desk-ran-more}
+use Rattle.replication_runs.proofs.DeskCalls.{part_long, desk_ran_more}
 
 -- ---- one number more
 
@@ -44,14 +44,14 @@ made_more : (c i : ℕ) (os : List ℕ) (o : ℕ) → made_after c i (os ++ (o �
 made_more c i [] o = refl
 made_more c i (u ∷ os) o = made_more c (made_by c i u) os o
 
-inputs-more :
+inputs_more :
     (mark : ℕ) (start : Drawing) (cs : List (Call Edit)) (others : List ℕ) (i : ℕ) (os : List ℕ) (o : ℕ)
     → inputs_after mark start cs others i (os ++ (o ∷ [])) ≡ inputs_after mark start cs others i os ++ inputs_by mark start cs others (made_after (length cs) i os) o
-inputs-more mark start cs others i [] o = append-nil (inputs_by mark start cs others i o)
-inputs-more mark start cs others i (u ∷ os) o =
+inputs_more mark start cs others i [] o = append-nil (inputs_by mark start cs others i o)
+inputs_more mark start cs others i (u ∷ os) o =
     let first = inputs_by mark start cs others i u in
     let next = made_by (length cs) i u in
-    ap (λ (l : List WallInput). first ++ l) (inputs-more mark start cs others next os o)
+    ap (λ (l : List WallInput). first ++ l) (inputs_more mark start cs others next os o)
     ∙ sym (append_assoc first (inputs_after mark start cs others next os) (inputs_by mark start cs others (made_after (length cs) next os) o))
 
 take_rows : {A : Type 0} (n i : ℕ) (f : ℕ → A) → i ≤ n → take i (rows n f) ≡ rows i f
@@ -89,7 +89,7 @@ module _
     message_at : (o : ℕ) → o < t.count → part log (message_size * o) message_size ≡ get_or (messages steps) o []
     message_at o q =
         ap (λ (l : List ℕ). part l (message_size * o) message_size) log_after
-        ∙ due-part mark (messages steps) r.numbered before 0 o (omega (arith, r.many))
+        ∙ due_part mark (messages steps) r.numbered before 0 o (omega (arith, r.many))
         ∙ ap (λ (k : ℕ). get_or (messages steps) k []) (zero-add o)
 
 -- ---- a run goes on
@@ -107,12 +107,12 @@ module _ (mark : ℕ) (start : Drawing) (entries others before order : List ℕ)
   made_by_lem : (o : ℕ) → made_after (length cs) 0 (order ++ (o ∷ [])) ≡ made_by (length cs) s.made o
   made_by_lem o = made_more (length cs) 0 order o ∙ ap (λ (i : ℕ). made_by (length cs) i o) (sym r.made_is)
 
-  wall-by :
+  wall_by :
       (o : ℕ) (steps : List (DeskStep Drawing Edit Removed)) (t : Memory) → WallRan mark start steps (inputs ++ inputs_by mark start cs others s.made o) t
       → WallRan mark start steps (inputs_after mark start cs others 0 (order ++ (o ∷ []))) t
-  wall-by o steps t =
+  wall_by o steps t =
       subst (λ (l : List WallInput). WallRan mark start steps l t)
-      (sym (inputs-more mark start cs others 0 order o ∙ ap (λ (i : ℕ). inputs ++ inputs_by mark start cs others i o) (sym r.made_is)))
+      (sym (inputs_more mark start cs others 0 order o ∙ ap (λ (i : ℕ). inputs ++ inputs_by mark start cs others i o) (sym r.made_is)))
 
   -- where no call is left, all stays as it was
   pub ran_idle : length entries / call_size ≤ s.made → Ran mark start entries others before (order ++ (0 ∷ [])) s log desk wall
@@ -123,7 +123,7 @@ module _ (mark : ℕ) (start : Drawing) (entries others before order : List ℕ)
         made_is = sym (made_by_lem 0 ∙ rw (le-ltb s.made (length cs) (omega (arith, many_calls))));
         steps = r.steps;
         of_desk = r.of_desk;
-        of_wall = wall-by 0 r.steps (memory s.wall wall) (subst (λ (l : List WallInput). WallRan mark start r.steps l (memory s.wall wall)) (sym (append-nil inputs)) r.of_wall);
+        of_wall = wall_by 0 r.steps (memory s.wall wall) (subst (λ (l : List WallInput). WallRan mark start r.steps l (memory s.wall wall)) (sym (append-nil inputs)) r.of_wall);
       }
 
   -- where one is left, the desk makes it
@@ -144,7 +144,7 @@ module _ (mark : ℕ) (start : Drawing) (entries others before order : List ℕ)
         let e = edit_at entries (s.made * call_size) in
         let from = message_size * s.desk.count in
         let fits : from + k ≤ length log = omega arith in
-        let (ran, long) = desk-ran-more mark r.mark_fits start r.steps (rows s.made (call_at entries)) before log (memory s.desk desk) s.window.bytes r.of_desk e k fits (memory y desk') t p kept.bytes step in
+        let (ran, long) = desk_ran_more mark r.mark_fits start r.steps (rows s.made (call_at entries)) before log (memory s.desk desk) s.window.bytes r.of_desk e k fits (memory y desk') t p kept.bytes step in
         let x = desk_step (record { edit = e; before = mid_of from k log; after = p; left = memory y desk'; window = kept.bytes; reply = t }) in
         let next_made : suc s.made ≡ s.made + 1 = omega arith in
         let ran2 : DeskRan mark start (r.steps ++ (x ∷ [])) (rows (s.made + 1) (call_at entries)) before (put_mid from k log p) (memory y desk') kept.bytes =
@@ -156,7 +156,7 @@ module _ (mark : ℕ) (start : Drawing) (entries others before order : List ℕ)
           made_is = sym (made_by_lem 0 ∙ rw (lt-ltb s.made (length cs) (omega (arith, many_calls))) next_made);
           steps = r.steps ++ (x ∷ []);
           of_desk = ran2;
-          of_wall = wall-by 0 (r.steps ++ (x ∷ [])) (memory s.wall wall)
+          of_wall = wall_by 0 (r.steps ++ (x ∷ [])) (memory s.wall wall)
               (subst (λ (l : List WallInput). WallRan mark start (r.steps ++ (x ∷ [])) l (memory s.wall wall)) (sym (append-nil inputs))
               (wall_ran_later mark start r.steps inputs (memory s.wall wall) r.of_wall (x ∷ [])));
         }
@@ -175,7 +175,7 @@ module _ (mark : ℕ) (start : Drawing) (entries others before order : List ℕ)
         made_is = sym (made_by_lem (suc o));
         steps = r.steps;
         of_desk = r.of_desk;
-        of_wall = wall-by (suc o) r.steps (memory y wall') w;
+        of_wall = wall_by (suc o) r.steps (memory y wall') w;
       }
 
   -- a start from the desk's image and count is not refused, and gives the desk's state
@@ -204,36 +204,36 @@ module _ (mark : ℕ) (start : Drawing) (entries others before order : List ℕ)
 
   -- a number names a delivery of what `delivery_at` says
   module _ (o : ℕ) (y : Replica) (wall' : List ℕ) where
-    ran-given :
+    ran_given :
         (ds : List (List ℕ)) → ds ≡ delivery_at mark (messages r.steps) others o → WallGiven (memory s.wall wall) ds (memory y wall')
         → Ran mark start entries others before (order ++ (suc (suc o) ∷ [])) (record { desk = s.desk; window = s.window; wall = y; made = s.made }) log desk wall'
-    ran-given ds e g =
+    ran_given ds e g =
         let are = messages_are mark start entries others before log s.made r.log_fits.within r.steps (memory s.desk desk) s.window.bytes r.of_desk in
         let given : WallGiven (memory s.wall wall) (delivery_at mark (messages r.steps) others o) (memory y wall') = subst (λ (l : List (List ℕ)). WallGiven (memory s.wall wall) l (memory y wall')) e g in
         goes_on (suc o) y wall'
         (subst (λ (ms : List (List ℕ)). WallRan mark start r.steps (inputs ++ map receives (delivery_at mark ms others o)) (memory y wall')) are
         (wall_ran_given mark start r.steps inputs (memory s.wall wall) r.of_wall (delivery_at mark (messages r.steps) others o) (memory y wall') (delivery_from mark (messages r.steps) others o) given))
 
-    pub ran-other :
+    pub ran_other :
         s.desk.count ≤ o → {other : List ℕ} → other ≡ other_at others (o - s.desk.count) → WallGiven (memory s.wall wall) (if_unread s.wall.mark other) (memory y wall')
         → Ran mark start entries others before (order ++ (suc (suc o) ∷ [])) (record { desk = s.desk; window = s.window; wall = y; made = s.made }) log desk wall'
-    ran-other h {other} e g =
+    ran_other h {other} e g =
         let many = r.of_desk.many in
         let n : o - s.desk.count ≡ o - length (messages r.steps) = omega arith in
-        ran-given (if_unread s.wall.mark other)
+        ran_given (if_unread s.wall.mark other)
         (ap₂ if_unread r.of_wall.mark_is (e ∙ ap (other_at others) n) ∙ sym (rw (le-ltb o (length (messages r.steps)) (omega arith)))) g
 
-    pub ran-own :
+    pub ran_own :
         o < s.desk.count → (from : ℕ) (c : WallCall) → from ≡ o * message_size → c.bytes ≡ take (from + message_size - from) (drop from log) → c.left ≡ memory y wall' → WallDelivers (memory s.wall wall) c
         → Ran mark start entries others before (order ++ (suc (suc o) ∷ [])) (record { desk = s.desk; window = s.window; wall = y; made = s.made }) log desk wall'
-    ran-own h from c f b l w =
+    ran_own h from c f b l w =
         let many = r.of_desk.many in
         let n : from + message_size - from ≡ message_size = omega arith in
         let g : from ≡ message_size * o = omega arith in
         let m : c.bytes ≡ get_or (messages r.steps) o [] =
         b ∙ ap₂ (λ (k l : ℕ). take k (drop l log)) n g
         ∙ message_at mark start entries others before log s.made r.log_fits.within r.steps (memory s.desk desk) s.window.bytes r.of_desk o h in
-        ran-given (c.bytes ∷ []) (ap (λ (m : List ℕ). m ∷ []) m ∙ sym (rw (lt-ltb o (length (messages r.steps)) (omega arith))))
+        ran_given (c.bytes ∷ []) (ap (λ (m : List ℕ). m ∷ []) m ∙ sym (rw (lt-ltb o (length (messages r.steps)) (omega arith))))
         (subst (WallGiven (memory s.wall wall) (c.bytes ∷ [])) l (one_given c w))
 
 -- ---- along the order

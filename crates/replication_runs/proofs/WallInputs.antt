@@ -1,7 +1,7 @@
 -- What the wall is given, and its life with it.
 use mathlib.Core.Path.{◌≡◌, refl, sym, ap, ap₂, ◌∙◌, subst}
 use mathlib.Core.Bool.{Bool, true, false}
-use mathlib.Core.List.{List, [], ◌∷◌, ◌++◌, map, map_append, append-nil, Memᴰ}
+use mathlib.Core.List.{List, [], ◌∷◌, ◌++◌, map, map-append, append-nil, Memᴰ}
 use mathlib.Core.Logic.{◌⊎◌, inl, inr}
 use Prim.Native.Nat.{ℕ, zero, suc, ◌+◌, ◌-◌, ◌<◌}
 use native.Mathlib.Omega.{arith}
@@ -24,13 +24,13 @@ use Rattle.replication.proofs.TwoDesks.{fault_unread}
 use Rattle.replication.proofs.Steps.{Holding, wall_step_lem}
 use Rattle.replication_runs.specs.RunBoth.{other_at, if_unread, delivery_at, WallInput, starts_with, receives, input_of}
 use Rattle.replication_runs.specs.Clauses.{WallRan, WallGiven, nothing_given, one_given}
-use Rattle.replication_runs.proofs.WallLives.{session_join, life-join, from-desk-join, from-desk-later}
+use Rattle.replication_runs.proofs.WallLives.{session_join, life_join, from_desk_join, from_desk_later}
 
 -- ---- other bytes, by their parts
 
-pub other-is :
+pub other_is :
     (others : List ℕ) (at : ℕ) {from body r : List ℕ} {k : ℕ} → from ≡ drop at others → body ≡ drop 2 from → k ≡ field from 0 2 → r ≡ take k body → r ≡ other_at others at
-other-is others at e f g h = h ∙ ap₂ (λ (k : ℕ) (l : List ℕ). take k l) g f ∙ ap (λ (l : List ℕ). part l 2 (field l 0 2)) e
+other_is others at e f g h = h ∙ ap₂ (λ (k : ℕ) (l : List ℕ). take k l) g f ∙ ap (λ (l : List ℕ). part l 2 (field l 0 2)) e
 
 -- they are passed over where they are read, else delivered
 pub given_read : (s : Memory) (m : List ℕ) (x : Message) → parse s.mark m ≡ Accepted x → WallGiven s (if_unread s.mark m) s
@@ -79,7 +79,7 @@ module _ (mark : ℕ) (start : Drawing) where
     -- the wall's half stays as it is where the desk goes on
     pub wall_ran_later : (later : List (DeskStep Drawing Edit Removed)) → WallRan mark start (steps ++ later) inputs s
     wall_ran_later later =
-        record { life = r.life; lived = r.lived; from = from-desk-later (protocol mark) (initial start) steps later r.life r.from; fed = r.fed; ends = r.ends; mark_is = r.mark_is; ready = r.ready }
+        record { life = r.life; lived = r.lived; from = from_desk_later (protocol mark) (initial start) steps later r.life r.from; fed = r.fed; ends = r.ends; mark_is = r.mark_is; ready = r.ready }
 
     more :
         (e : WallEvent Drawing Removed) (t : Memory) → WallLife (protocol mark) (session_state (session_at start r.life)) (e ∷ []) → FromDesk (protocol mark) (initial start) steps (e ∷ [])
@@ -87,9 +87,9 @@ module _ (mark : ℕ) (start : Drawing) where
     more e t l f n m v =
         record {
           life = r.life ++ (e ∷ []);
-          lived = life-join (protocol mark) first_session r.life (e ∷ []) r.lived l;
-          from = from-desk-join (protocol mark) (initial start) steps r.life (e ∷ []) r.from f;
-          fed = map_append input_of r.life (e ∷ []) ∙ ap (λ (l : List WallInput). l ++ (input_of e ∷ [])) r.fed;
+          lived = life_join (protocol mark) first_session r.life (e ∷ []) r.lived l;
+          from = from_desk_join (protocol mark) (initial start) steps r.life (e ∷ []) r.from f;
+          fed = map-append input_of r.life (e ∷ []) ∙ ap (λ (l : List WallInput). l ++ (input_of e ∷ [])) r.fed;
           ends = ap session_state (session_join first_session r.life (e ∷ [])) ∙ n;
           mark_is = m;
           ready = v;

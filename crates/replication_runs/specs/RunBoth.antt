@@ -111,21 +111,21 @@ run_both_fault image size log desk wall = first_nonzero (I.image_fault image) (g
 pub record RunHolds (image : List ℕ) (mark : ℕ) (entries order others before log desk wall : List ℕ) (r : RunResult) : Type 0 where
   pub start : Drawing
   pub image_is : I.parse image ≡ I.accepted start
-  pub desk_steps_lem : List (DeskStep Drawing Edit Removed)
+  pub steps_of_desk : List (DeskStep Drawing Edit Removed)
   pub life : List (WallEvent Drawing Removed)
-  pub desk_run : DeskRun (protocol mark) (initial start) desk_steps_lem
+  pub desk_run : DeskRun (protocol mark) (initial start) steps_of_desk
   pub wall_life : WallLife (protocol mark) (initial start) life
-  pub desk_fed : calls desk_steps_lem ≡ take (made_after (length (calls_in entries)) 0 order) (calls_in entries)
+  pub desk_fed : calls steps_of_desk ≡ take (made_after (length (calls_in entries)) 0 order) (calls_in entries)
   pub wall_fed : map input_of life ≡ inputs_after mark start (calls_in entries) others 0 order
-  pub desk_ends : desk_after (initial start) desk_steps_lem ≡ state_in (memory r.desk desk)
+  pub desk_ends : desk_after (initial start) steps_of_desk ≡ state_in (memory r.desk desk)
   pub wall_ends : session_state (session_at start life) ≡ state_in (memory r.wall wall)
   pub desk_mark : r.desk.mark ≡ mark
   pub wall_mark : r.wall.mark ≡ mark
   -- the desk's messages stand at the log's front, one after the other, and the rest is as it was
-  pub log_is : log ≡ over before 0 (concat (messages desk_steps_lem))
+  pub log_is : log ≡ over before 0 (concat (messages steps_of_desk))
   -- by its window the desk answers any wall's count as it should
-  pub window_of : CatchUpOf mark r.window.bytes (messages desk_steps_lem)
-  pub correct : ReplicationCorrect mark start desk_steps_lem life
+  pub window_of : CatchUpOf mark r.window.bytes (messages steps_of_desk)
+  pub correct : ReplicationCorrect mark start steps_of_desk life
 
 -- the log, and the two buffers, before and after
 pub record RunsBoth (image : List ℕ) (mark : ℕ) (entries order others before log desk desk' wall wall' : List ℕ) (r : RunResult) : Type 0 where

@@ -1,4 +1,6 @@
 // A run of desk and wall: the desk's calls, and between them the wall's deliveries and its starts from what the desk has then.
+#![tactic(auto)]
+
 mod desk_calls;
 mod run_lists;
 mod wall_inputs;
@@ -8,7 +10,7 @@ pub use run_lists::run_both;
 use window::Window;
 
 // The two replicas and the desk's window, and how many of the desk's calls were made.
-#[derive(Drop)]
+#[derive(Clone, Copy)]
 pub(crate) struct Run {
     pub desk: Replica,
     pub window: Window,
@@ -17,7 +19,7 @@ pub(crate) struct Run {
 }
 
 // The result of a run: the two replicas and the desk's window, or the number of a refusal.
-#[derive(Drop)]
+#[derive(Clone, Copy)]
 pub struct RunResult {
     pub desk: Replica,
     pub window: Window,

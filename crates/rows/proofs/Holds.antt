@@ -1,5 +1,5 @@
 -- Tables that hold points or curves: a record by its place, and what a look-up by id finds.
-use mathlib.Core.Path.{◌≡◌, refl, sym, ap, subst, ◌∙◌}
+use mathlib.Core.Path.{◌≡◌, refl, sym, ap, ◌∙◌}
 use mathlib.Core.Bool.{false}
 use mathlib.Core.List.{List, [], ◌∷◌, map}
 use mathlib.Core.Option.{some, none}
@@ -8,16 +8,15 @@ use native.Mathlib.Omega.{arith}
 use lib.ListN.{length, get_or, length-map}
 use Rattle.sketch.specs.declared.Point.{Point}
 use Rattle.sketch.specs.declared.Curve.{Curve}
-use Rattle.sketch.specs.declared.Relation.{Relation}
 use Rattle.sketch.specs.Blanks.{no_point, no_curve}
 use Rattle.sketch.specs.Lookup.{among, Ascends, Found}
 use Rattle.sketch.specs.Drawing.{point_ids, curve_ids, curve_in}
-use Rattle.sketch.proofs.Facts.{get_D_mapped, curve_at_lem, curve_nowhere}
-use Rattle.image.specs.Records.{point_size, curve_size, relation_size}
+use Rattle.sketch.proofs.Facts.{get_or_mapped, curve_at_lem, curve_nowhere}
+use Rattle.image.specs.Records.{point_size, curve_size}
 use Rattle.image.specs.Image.{row_id, drawing_of, image_fault}
-use Rattle.image.specs.Decode.{read_point, read_curve, read_relation}
+use Rattle.image.specs.Decode.{read_point, read_curve}
 use Rattle.image.proofs.RoundTrips.{image_kept}
-use Rattle.rows.specs.Rows.{point_table, curve_table, rows_in, row_in, ids_in, points_in, curves_in, relations_in, HoldsPoints, HoldsCurves}
+use Rattle.rows.specs.Rows.{point_table, curve_table, rows_in, row_in, ids_in, HoldsPoints, HoldsCurves}
 use Rattle.rows.proofs.Rows.{length_rows_in, length_ids_in}
 use Rattle.rows.proofs.GoodTables.{point_rows_in, curve_rows_in, points_in_lem, curves_in_lem}
 
@@ -48,14 +47,14 @@ module _ {ps : List Point} {points : List ℕ} (w : HoldsPoints ps points) where
 
   pub held_point : (k : ℕ) → k < length points / point_size → read_point (row_in point_size points k) ≡ get_or ps k no_point
   held_point k q =
-      sym (get_D_mapped read_point no_point [] (rows_in point_size points) k (rw (length_rows_in point_size points) q)) ∙ ap (λ (l : List Point). get_or l k no_point) w.are
+      sym (get_or_mapped read_point no_point [] (rows_in point_size points) k (rw (length_rows_in point_size points) q)) ∙ ap (λ (l : List Point). get_or l k no_point) w.are
 
   -- a place that was found is that of the point, and past the last there is none
   module _ {id k : ℕ} (f : Found id (ids_in point_size points) k) where
     pub point_here : k < length points / point_size → (get_or ps k no_point).id ≡ id
     point_here q =
         let n : k < length ps = rw held_points q in
-        sym (get_D_mapped (λ (p : Point). p.id) 0 no_point ps k n) ∙ ap (λ (l : List ℕ). get_or l k 0) (sym held_point_ids) ∙ f.here (rw (length_ids_in point_size points) q)
+        sym (get_or_mapped (λ (p : Point). p.id) 0 no_point ps k n) ∙ ap (λ (l : List ℕ). get_or l k 0) (sym held_point_ids) ∙ f.here (rw (length_ids_in point_size points) q)
 
     pub point_nowhere : length points / point_size ≤ k → among id (point_ids ps) ≡ false
     point_nowhere q = rw (← held_point_ids) (f.nowhere w.rise (omega (arith, f.within, length_ids_in point_size points)))
@@ -78,14 +77,14 @@ module _ {cs : List Curve} {curves : List ℕ} (w : HoldsCurves cs curves) where
 
   pub held_curve : (k : ℕ) → k < length curves / curve_size → read_curve (row_in curve_size curves k) ≡ get_or cs k no_curve
   held_curve k q =
-      sym (get_D_mapped read_curve no_curve [] (rows_in curve_size curves) k (rw (length_rows_in curve_size curves) q)) ∙ ap (λ (l : List Curve). get_or l k no_curve) w.are
+      sym (get_or_mapped read_curve no_curve [] (rows_in curve_size curves) k (rw (length_rows_in curve_size curves) q)) ∙ ap (λ (l : List Curve). get_or l k no_curve) w.are
 
   module _ {id k : ℕ} (f : Found id (ids_in curve_size curves) k) where
     pub curve_here : k < length curves / curve_size → curve_in cs id ≡ some (get_or cs k no_curve)
     curve_here q =
         let n : k < length cs = rw held_curves q in
         let e : (get_or cs k no_curve).id ≡ id =
-        sym (get_D_mapped (λ (c : Curve). c.id) 0 no_curve cs k n) ∙ ap (λ (l : List ℕ). get_or l k 0) (sym held_curve_ids) ∙ f.here (rw (length_ids_in curve_size curves) q) in
+        sym (get_or_mapped (λ (c : Curve). c.id) 0 no_curve cs k n) ∙ ap (λ (l : List ℕ). get_or l k 0) (sym held_curve_ids) ∙ f.here (rw (length_ids_in curve_size curves) q) in
         ap (curve_in cs) (sym e) ∙ curve_at_lem no_curve cs k curve_ids_rise n
 
     pub curve_missing : length curves / curve_size ≤ k → curve_in cs id ≡ none

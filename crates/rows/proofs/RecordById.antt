@@ -1,19 +1,18 @@
 -- The record with an id: how code takes it, and what its length tells.
 use mathlib.Core.Path.{◌≡◌, refl, sym, ap, ◌∙◌}
-use mathlib.Core.List.{List, []}
+use mathlib.Core.List.{List}
 use Prim.Native.Nat.{ℕ, ◌+◌, ◌*◌, ◌-◌, ◌/◌, ◌≤◌, ◌<◌}
 use native.Mathlib.Nat.{le-div_iff_mul-le, add-mul, one-mul}
 use native.Mathlib.Omega.{arith}
 use mathlib.Core.Bool.{Bool, true, false}
 use borrow.Author.Tests.{ltb-true, ltb-false}
 use lib.Dec.{ltb}
-use lib.ListN.{length, take, drop, get_or, length-drop}
+use lib.ListN.{length, take, drop, length-drop}
 use lib.Seq.{length-take-le}
 use Rattle.big_endian.specs.Fields.{field, part}
 use Rattle.sketch.specs.Drawing.{id_size}
-use Rattle.sketch.specs.Lookup.{Found}
 use Rattle.sketch.proofs.Bisection.{found_here}
-use Rattle.rows.specs.Rows.{row_in, ids_in, RecordOf}
+use Rattle.rows.specs.Rows.{ids_in, RecordOf}
 use Rattle.rows.proofs.Rows.{length_ids_in, row_within, row_in_part, row_in_past, row_taken, field_part, id_in}
 
 -- a record that ends within the table is one of its rows

@@ -8,7 +8,7 @@ use lib.ListN.{length, take, drop, get_or, length-map, length-drop, drop_of_leng
 use lib.Seq.{drop-drop, get_or-take, get_or-drop, length-take-le, take_all}
 use Rattle.big_endian.specs.Fields.{field, part}
 use Rattle.sketch.specs.Drawing.{id_size}
-use Rattle.sketch.proofs.Facts.{get_D_mapped}
+use Rattle.sketch.proofs.Facts.{get_or_mapped}
 use Rattle.image.specs.Image.{rows_at, row_id}
 use Rattle.image.proofs.Tables.{length_rows, row_at}
 use Rattle.rows.specs.Rows.{rows_in, row_in, ids_in}
@@ -76,7 +76,7 @@ id_taken t at = ap (λ (l : List ℕ). field l 0 id_size) (part_taken t at id_si
 
 pub id_in : (size : ℕ) (t : List ℕ) (i : ℕ) → id_size ≤ size → i < length t / size → get_or (ids_in size t) i 0 ≡ field t (i * size) id_size
 id_in size t i z q =
-    get_D_mapped row_id 0 [] (rows_in size t) i (rw (length_rows_in size t) q) ∙ ap row_id (row_in_part size t i q) ∙ field_part t (i * size) size id_size z
+    get_or_mapped row_id 0 [] (rows_in size t) i (rw (length_rows_in size t) q) ∙ ap row_id (row_in_part size t i q) ∙ field_part t (i * size) size id_size z
 
 -- ---- a table is a part of an image
 

@@ -8,7 +8,7 @@ use Rattle.big_endian.specs.Fields.{field}
 use Rattle.sketch.specs.Lookup.{Ascends, Found, sort_among}
 use Rattle.sketch.specs.Valid.{sort_of}
 use Rattle.sketch.proofs.Bisection.{found_sort}
-use Rattle.sketch.proofs.Facts.{get_D_mapped}
+use Rattle.sketch.proofs.Facts.{get_or_mapped}
 use Rattle.image.specs.Image.{row_id}
 use Rattle.image.specs.Records.{curve_size, degree_at, curve_number_at, float_at, slots_of, kind_of}
 use Rattle.rows.specs.Rows.{rows_in, row_in, ids_in}
@@ -46,7 +46,7 @@ module _ (curves : List ℕ) (id k : ℕ) (f : Found id (ids_in curve_size curve
   looked_up = found_sort id (ids_in curve_size curves) k f up (sorts_in curves) (length-map (rows_in curve_size curves) row_id ∙ sym (length-map (rows_in curve_size curves) row_sort))
 
   pub sort_found : k < length curves / curve_size → row_sort (row_in curve_size curves k) ≡ sort_among id (ids_in curve_size curves) (sorts_in curves)
-  sort_found q = sym (get_D_mapped row_sort 0 [] (rows_in curve_size curves) k (rw (length_rows_in curve_size curves) q)) ∙ looked_up
+  sort_found q = sym (get_or_mapped row_sort 0 [] (rows_in curve_size curves) k (rw (length_rows_in curve_size curves) q)) ∙ looked_up
 
   pub sort_missing : length curves / curve_size ≤ k → 0 ≡ sort_among id (ids_in curve_size curves) (sorts_in curves)
   sort_missing q =

@@ -1,7 +1,7 @@
 -- Walks over an image's tables: what each keeps, and what each way out answers.
 use mathlib.Core.Path.{◌≡◌, refl, sym, ap, ◌∙◌}
-use mathlib.Core.Bool.{Bool, true, false, ◌&&◌, and_true}
-use mathlib.Core.List.{List, [], ◌∷◌, ◌++◌, map, map_append}
+use mathlib.Core.Bool.{Bool, true, false, ◌&&◌, and-true}
+use mathlib.Core.List.{List, [], ◌∷◌, ◌++◌, map, map-append}
 use Prim.Native.Nat.{ℕ, suc, ◌+◌, ◌%◌, ◌≤◌, ◌<◌}
 use native.Mathlib.Numerals.{add-one}
 use native.Mathlib.Omega.{arith}
@@ -22,7 +22,7 @@ whole rows = take_all (length rows) rows (omega arith)
 
 -- a record without references fits by its id alone
 pub alone : (x : Bool) {t : Bool} → x ≡ t → (x && true) ≡ t
-alone x e = and_true x ∙ e
+alone x e = and-true x ∙ e
 
 -- ---- guesses
 
@@ -89,7 +89,7 @@ module _ (good sound : List ℕ → Bool) (next : ℕ) where
         rows_on e {then} n =
             let q : id ≡ row_id (get_or rows i []) = k ∙ ap row_id at in
             let m : take (i + 1) (map row_id rows) ≡ take i (map row_id rows) ++ (id ∷ []) =
-            rw (add-one, take_map row_id (suc i) rows, take-suc rows i [] h, map_append, take_map row_id i rows, q) in
+            rw (add-one, take_map row_id (suc i) rows, take-suc rows i [] h, map-append, take_map row_id i rows, q) in
             let l : length (take i (map row_id rows)) ≡ i = ap length (take_map row_id i rows) ∙ rw length-map (length-take-le i rows (omega arith)) in
             let z : 0 + length (take i (map row_id rows)) ≡ i = omega arith in
             record {

@@ -1,5 +1,7 @@
 // The records of an image where they lie: its tables as byte slices, a record as a value on demand, the place of an id, runs of
 // records copied, and the test of the whole.
+#![tactic(auto)]
+
 mod faults;
 mod places;
 mod records;

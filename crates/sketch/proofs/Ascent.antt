@@ -1,6 +1,6 @@
 -- Ids that rise: their order by place, and what stands among them.
 use mathlib.Core.Path.{◌≡◌, refl, sym}
-use mathlib.Core.Bool.{true, false, or_true}
+use mathlib.Core.Bool.{true, false, or-true}
 use mathlib.Core.List.{List, [], ◌∷◌}
 use Prim.Native.Nat.{ℕ, zero, suc, ◌<◌}
 use native.Mathlib.Omega.{arith}
@@ -29,7 +29,7 @@ order (i ∷ is) (suc j) (suc k) h p q = order is j k (above_ascends i is h) (om
 pub among_at : (i : ℕ) (is : List ℕ) (k : ℕ) → k < length is → get_or is k 0 ≡ i → among i is ≡ true
 among_at i [] k q e = absurd (omega arith)
 among_at i (j ∷ js) zero q e = rw (eq-eqb i j (sym e))
-among_at i (j ∷ js) (suc k) q e = rw (among_at i js k (omega arith) e) (or_true (eqb i j))
+among_at i (j ∷ js) (suc k) q e = rw (among_at i js k (omega arith) e) (or-true (eqb i j))
 
 pub among_nowhere : (i : ℕ) (is : List ℕ) → ((k : ℕ) → k < length is → get_or is k 0 ≡ i → ⊥) → among i is ≡ false
 among_nowhere i [] h = refl

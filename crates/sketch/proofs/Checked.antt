@@ -1,6 +1,6 @@
 -- Walks over a sketch's tables: what each keeps, and what each way out answers.
 use mathlib.Core.Path.{◌≡◌, refl, ◌∙◌}
-use mathlib.Core.Bool.{Bool, true, false, ◌&&◌, and_true}
+use mathlib.Core.Bool.{Bool, true, false, ◌&&◌, and-true}
 use mathlib.Core.List.{List, map}
 use Prim.Native.Nat.{ℕ, ◌+◌, ◌≤◌, ◌<◌}
 use native.Mathlib.Omega.{arith}
@@ -58,12 +58,12 @@ module _ {next : ℕ} {points : List Point} {n : ℕ} {before ids : List ℕ} {l
     module _ (ok : ok_point point ≡ true) where
       pub points_five : (ltb last point.id && ltb point.id next) ≡ false → Points 5
       points_five e =
-          tell 5 (walk_five ok_point (point_fits next) point_id no_point points n last i w.walk h ok (and_true _ ∙ e)) (λ z. absurd (omega arith))
+          tell 5 (walk_five ok_point (point_fits next) point_id no_point points n last i w.walk h ok (and-true _ ∙ e)) (λ z. absurd (omega arith))
 
       pub points_on : (ltb last point.id && ltb point.id next) ≡ true → n ≤ length ids → PointsWalk next points n before (set ids i point.id) point.id (i + 1)
       points_on e k =
           record {
-            walk = walk_on ok_point (point_fits next) point_id no_point points n last i w.walk h ok (and_true _ ∙ e);
+            walk = walk_on ok_point (point_fits next) point_id no_point points n last i w.walk h ok (and-true _ ∙ e);
             column = column_on point_id points no_point before ids i point.id (omega arith) (omega arith) refl w.column;
           }
 
@@ -126,10 +126,10 @@ module _
       curves_five e =
           answered 5 (walk_five ok_curve (curve_fits next points) curve_id no_curve curves n last i w.walk h ok (rw (← g) e)) (λ z. absurd (omega arith))
 
-      pub curves-on :
+      pub curves_on :
           {sort : ℕ} → (ltb last curve.id && ltb curve.id next && s) ≡ true → sort ≡ curve_sort curve → n ≤ length ids → n ≤ length sorts
           → CurvesWalk next points curves n before was (set ids i curve.id) (set sorts i sort) curve.id (i + 1)
-      curves-on {sort} e f k l =
+      curves_on {sort} e f k l =
           record {
             walk = walk_on ok_curve (curve_fits next points) curve_id no_curve curves n last i w.walk h ok (rw (← g) e);
             column = column_on curve_id curves no_curve before ids i curve.id (omega arith) (omega arith) refl w.column;

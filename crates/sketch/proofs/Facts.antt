@@ -192,24 +192,24 @@ sort_among_lem (c ∷ cs) i = go (eqb i c.id) (sort_among_lem cs i)
     go true e = refl
     go false e = e
 
-pub curves-by-column :
+pub curves_by_column :
     (next : ℕ) {points : List ℕ} (ps : List Point) (cs : List Curve) (rest : ℕ)
     → points ≡ point_ids ps
     → table_fault (λ (c : Curve). c.id) ok_curve (sound_curve (λ i. among i points)) next 0 cs rest ≡ curves_fault next ps cs rest
-curves-by-column next ps cs rest e = simp e
+curves_by_column next ps cs rest e = simp e
 
-pub relations-by-columns :
+pub relations_by_columns :
     {points curves sorts : List ℕ} (ps : List Point) (cs : List Curve) (rs : List Relation)
     → points ≡ point_ids ps → curves ≡ curve_ids cs → sorts ≡ sorts_of cs
     → list_fault ok_relation (sound_relation (λ i. among i points) (λ i. sort_among i curves sorts)) rs ≡ relations_fault ps cs rs
-relations-by-columns ps cs rs e f g = simp (e, f, g, sort_among_lem)
+relations_by_columns ps cs rs e f g = simp (e, f, g, sort_among_lem)
 
 -- ---- a curve by its place
 
-pub get_D_mapped : {A B : Type 0} (f : A → B) (y : B) (z : A) (l : List A) (k : ℕ) → k < length l → get_or (map f l) k y ≡ f (get_or l k z)
-get_D_mapped f y z [] k q = absurd (omega arith)
-get_D_mapped f y z (a ∷ l) zero q = refl
-get_D_mapped f y z (a ∷ l) (suc k) q = get_D_mapped f y z l k (omega arith)
+pub get_or_mapped : {A B : Type 0} (f : A → B) (y : B) (z : A) (l : List A) (k : ℕ) → k < length l → get_or (map f l) k y ≡ f (get_or l k z)
+get_or_mapped f y z [] k q = absurd (omega arith)
+get_or_mapped f y z (a ∷ l) zero q = refl
+get_or_mapped f y z (a ∷ l) (suc k) q = get_or_mapped f y z l k (omega arith)
 
 -- ids rise, so that the curve at a place is the one that a look-up of its id finds
 pub curve_at_lem : (z : Curve) (cs : List Curve) (k : ℕ) → Ascends (curve_ids cs) → k < length cs → curve_in cs (get_or cs k z).id ≡ some (get_or cs k z)
@@ -218,7 +218,7 @@ curve_at_lem z [] k h q = absurd (omega arith)
 curve_at_lem z (c ∷ cs) zero h q = rw (eq-eqb c.id c.id refl)
 curve_at_lem z (c ∷ cs) (suc k) h q =
     let u = above_at c.id (curve_ids cs) k h (rw (length-map cs (λ (x : Curve). x.id)) (omega arith)) in
-    let e = get_D_mapped (λ (x : Curve). x.id) 0 z cs k (omega arith) in
+    let e = get_or_mapped (λ (x : Curve). x.id) 0 z cs k (omega arith) in
     rw (ne_eqb (get_or cs k z).id c.id (λ x. omega arith)) (curve_at_lem z cs k (above_ascends c.id (curve_ids cs) h) (omega arith))
 
 pub curve_nowhere : (i : ℕ) (cs : List Curve) → among i (curve_ids cs) ≡ false → curve_in cs i ≡ none

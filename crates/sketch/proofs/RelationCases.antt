@@ -1,44 +1,38 @@
 -- What the rules of a relation come to for each sort of it.
 use mathlib.Core.Path.{◌≡◌, refl}
-use mathlib.Core.Bool.{Bool, true, not, ◌&&◌, ◌||◌, and_true}
-use mathlib.Core.List.{List, [], ◌∷◌}
+use mathlib.Core.Bool.{Bool, true, not, ◌&&◌, ◌||◌, and-true}
 use Prim.Native.Nat.{ℕ}
 use lib.Dec.{eqb, ltb}
 use lib.Ieee.{Float}
-use types.Run.{OneOf, miss}
-use denote.Enum.Declared.{tag_of}
 use Rattle.sketch.specs.declared.Relation.{Relation}
 use Rattle.sketch.specs.declared.Relation.TheVariants.{Coincident, PointOnCurve, Collinear, Equal, Length, Distance, Midpoint, ArcLength, ArcSweep}
 use Rattle.sketch.specs.Drawing.{points_of}
 use Rattle.sketch.specs.Valid.{ok_relation, fits, apart, sound_relation}
-use Rattle.sketch.specs.contracts.Relation.{the_type}
 
 -- the tags of the relations without a measure
-abbrev unmeasured : List ℕ
-unmeasured = 0 ∷ 1 ∷ 2 ∷ 3 ∷ 6 ∷ []
-
-pub ok_unmeasured : (r : Relation) → OneOf unmeasured (tag_of the_type r) → true ≡ ok_relation r
+pub ok_unmeasured : (r : Relation) → ((l : ℕ) (v : Float) → r ≡ Length l v → ⊥) → ((p q : ℕ) (v : Float) → r ≡ Distance p q v → ⊥) → ((c : ℕ) (v : Float) → r ≡ ArcLength c v → ⊥)
+    → ((c : ℕ) (v : Float) → r ≡ ArcSweep c v → ⊥) → true ≡ ok_relation r
 unfolding ok_relation
-ok_unmeasured (Coincident p q) h = refl
-ok_unmeasured (PointOnCurve p c) h = refl
-ok_unmeasured (Collinear a b) h = refl
-ok_unmeasured (Equal a b) h = refl
-ok_unmeasured (Length l v) h = absurd (miss unmeasured 4 tt h)
-ok_unmeasured (Distance p q v) h = absurd (miss unmeasured 5 tt h)
-ok_unmeasured (Midpoint p l) h = refl
-ok_unmeasured (ArcLength c v) h = absurd (miss unmeasured 7 tt h)
-ok_unmeasured (ArcSweep c v) h = absurd (miss unmeasured 8 tt h)
+ok_unmeasured (Coincident p q) l d a s = refl
+ok_unmeasured (PointOnCurve p c) l d a s = refl
+ok_unmeasured (Collinear a b) l d a' s = refl
+ok_unmeasured (Equal a b) l d a' s = refl
+ok_unmeasured (Length x v) l d a s = absurd (l x v refl)
+ok_unmeasured (Distance p q v) l d a s = absurd (d p q v refl)
+ok_unmeasured (Midpoint p x) l d a s = refl
+ok_unmeasured (ArcLength c v) l d a s = absurd (a c v refl)
+ok_unmeasured (ArcSweep c v) l d a s = absurd (s c v refl)
 
 module _ (has : ℕ → Bool) (sort : ℕ → ℕ) (r : Relation) where
   module _ {p q : ℕ} {t u : Bool} where
     pub sound_coincident : r ≡ Coincident p q → t ≡ has p → u ≡ has q → (t && u && not (eqb p q)) ≡ sound_relation has sort r
     unfolding points_of fits apart
-    sound_coincident e f g = simp (e, f, g, and_true)
+    sound_coincident e f g = simp (e, f, g, and-true)
 
   module _ {p c s : ℕ} {t : Bool} where
     pub sound_on_curve : r ≡ PointOnCurve p c → t ≡ has p → s ≡ sort c → (t && ltb 0 s) ≡ sound_relation has sort r
     unfolding points_of fits apart
-    sound_on_curve e f g = simp (e, f, g, and_true)
+    sound_on_curve e f g = simp (e, f, g, and-true)
 
   module _ {a b s t : ℕ} where
     pub sound_collinear : r ≡ Collinear a b → s ≡ sort a → t ≡ sort b → (eqb s 1 && eqb t 1 && not (eqb a b)) ≡ sound_relation has sort r
@@ -52,22 +46,22 @@ module _ (has : ℕ → Bool) (sort : ℕ → ℕ) (r : Relation) where
   module _ {l s : ℕ} {v : Float} where
     pub sound_length : r ≡ Length l v → s ≡ sort l → eqb s 1 ≡ sound_relation has sort r
     unfolding points_of fits apart
-    sound_length e f = simp (e, f, and_true)
+    sound_length e f = simp (e, f, and-true)
 
     pub sound_arc_length : r ≡ ArcLength l v → s ≡ sort l → eqb s 2 ≡ sound_relation has sort r
     unfolding points_of fits apart
-    sound_arc_length e f = simp (e, f, and_true)
+    sound_arc_length e f = simp (e, f, and-true)
 
     pub sound_arc_sweep : r ≡ ArcSweep l v → s ≡ sort l → eqb s 2 ≡ sound_relation has sort r
     unfolding points_of fits apart
-    sound_arc_sweep e f = simp (e, f, and_true)
+    sound_arc_sweep e f = simp (e, f, and-true)
 
   module _ {p q : ℕ} {v : Float} {t u : Bool} where
     pub sound_distance : r ≡ Distance p q v → t ≡ has p → u ≡ has q → (t && u && not (eqb p q)) ≡ sound_relation has sort r
     unfolding points_of fits apart
-    sound_distance e f g = simp (e, f, g, and_true)
+    sound_distance e f g = simp (e, f, g, and-true)
 
   module _ {p l s : ℕ} {t : Bool} where
     pub sound_midpoint : r ≡ Midpoint p l → t ≡ has p → s ≡ sort l → (t && eqb s 1) ≡ sound_relation has sort r
     unfolding points_of fits apart
-    sound_midpoint e f g = simp (e, f, g, and_true)
+    sound_midpoint e f g = simp (e, f, g, and-true)

@@ -17,7 +17,7 @@ use Rattle.sketch.specs.Valid.{ok_point, ok_curve, sound_curve, has_point, point
 use Rattle.sketch.specs.Facts.{Sized, Valid}
 use Rattle.sketch.specs.Columns.{sorts_of, shapes_fault, PointsChecked, CurvesChecked, RelationsChecked}
 use Rattle.sketch.proofs.Bools.{all_three, or_left_false, or_right_false, leb_ltb}
-use Rattle.sketch.proofs.Facts.{guard_number_none, none_guard_number, table_first, table_later, table_ascends, curves-by-column, relations-by-columns, fault_valid, valid_fault}
+use Rattle.sketch.proofs.Facts.{guard_number_none, none_guard_number, table_first, table_later, table_ascends, curves_by_column, relations_by_columns, fault_valid, valid_fault}
 
 -- ---- three counts against three limits
 
@@ -134,7 +134,7 @@ module _ (s : Sketch) {points : List ℕ} (g : points ≡ point_ids (view s).poi
     sound = sound_curve (has_point (view s).points)
 
     number : c ≡ curves_fault s.next (view s).points (view s).curves 0
-    number = t.number ∙ curves-by-column s.next (view s).points (view s).curves 0 g
+    number = t.number ∙ curves_by_column s.next (view s).points (view s).curves 0 g
 
     pub fault_curves : (c ≡ 0 → ⊥) → c ≡ shapes_fault (view s)
     fault_curves h = sym (table_first curve_id ok_curve sound s.next 0 (view s).curves _ c number h)
@@ -149,7 +149,7 @@ module _ (s : Sketch) {points : List ℕ} (g : points ≡ point_ids (view s).poi
           rise = table_ascends curve_id ok_curve sound s.next 0 (view s).curves _ n (t.column e);
         }
 
-  pub fault-relations :
+  pub fault_relations :
       {ids sorts : List ℕ} {r : ℕ} → CurvesPassed s ids sorts → RelationsChecked points (take s.ncurves ids) (take s.ncurves sorts) (view s).relations r → r ≡ shapes_fault (view s)
-  fault-relations h t =
-      t.number ∙ relations-by-columns (view s).points (view s).curves (view s).relations g h.column h.beside ∙ sym h.rest
+  fault_relations h t =
+      t.number ∙ relations_by_columns (view s).points (view s).curves (view s).relations g h.column h.beside ∙ sym h.rest

@@ -1,4 +1,6 @@
 // A sketch: points, curves on them and relations between both, in tables of bounded size.
+#![tactic(auto)]
+
 mod lookup;
 mod validity;
 mod values;
@@ -17,7 +19,7 @@ pub const ID_SIZE: usize = 4;
 pub const MAX_NEXT_ID: Id = 4294967295;
 
 // Fields stand in an order that leaves no padding: a struct is laid out as it is written.
-#[derive(Drop)]
+#[derive(Clone, Copy)]
 pub struct Point {
     pub id: Id,
     pub fixed: bool,
@@ -27,7 +29,7 @@ pub struct Point {
 
 // A curve's points by id: a line's ends; an arc's centre, start and end; a circle's centre, and its radius; a
 // Bézier curve's degree, its points being in the slots beside it; a conic's start, apex and end, and its rho.
-#[derive(Drop)]
+#[derive(Clone, Copy)]
 pub enum CurveKind {
     Line(Id, Id),
     Arc(Id, Id, Id),
@@ -36,7 +38,7 @@ pub enum CurveKind {
     Conic(Id, Id, Id, f64),
 }
 
-#[derive(Drop)]
+#[derive(Clone, Copy)]
 pub struct Curve {
     pub id: Id,
     pub construction: bool,
@@ -46,7 +48,7 @@ pub struct Curve {
     pub slots: [Id; 8],
 }
 
-#[derive(Drop)]
+#[derive(Clone, Copy)]
 pub enum Relation {
     Coincident(Id, Id),
     PointOnCurve(Id, Id),
@@ -60,13 +62,13 @@ pub enum Relation {
 }
 
 // An array of enums can't be a field; one of structs that hold them can.
-#[derive(Drop)]
+#[derive(Clone, Copy)]
 pub struct RelationSlot {
     pub relation: Relation,
 }
 
 // What lies past a count is no part of the sketch.
-#[derive(Drop)]
+#[derive(Clone, Copy)]
 pub struct Sketch {
     pub next: Id,
     pub npoints: usize,

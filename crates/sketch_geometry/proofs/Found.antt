@@ -16,7 +16,7 @@ use Rattle.sketch.specs.Blanks.{no_point}
 use Rattle.sketch.specs.declared.Point.{Point}
 use Rattle.sketch.proofs.Bools.{or_left_false, or_right_false}
 use Rattle.sketch.proofs.Ascent.{above_at, above_ascends}
-use Rattle.sketch.proofs.Facts.{get_D_mapped}
+use Rattle.sketch.proofs.Facts.{get_or_mapped}
 use Rattle.sketch_geometry.specs.Geometry.{nowhere, position_of}
 
 -- what 0 / 0 gives
@@ -31,7 +31,7 @@ point_at_lem [] k h q = absurd (omega arith)
 point_at_lem (p ∷ ps) zero h q = rw (eq-eqb p.id p.id refl)
 point_at_lem (p ∷ ps) (suc k) h q =
     let u = above_at p.id (point_ids ps) k h (rw (length-map ps (λ (x : Point). x.id)) (omega arith)) in
-    let e = get_D_mapped (λ (x : Point). x.id) 0 no_point ps k (omega arith) in
+    let e = get_or_mapped (λ (x : Point). x.id) 0 no_point ps k (omega arith) in
     rw (ne_eqb (get_or ps k no_point).id p.id (λ x. omega arith)) (point_at_lem ps k (above_ascends p.id (point_ids ps) h) (omega arith))
 
 pub point_nowhere : (i : ℕ) (ps : List Point) → among i (point_ids ps) ≡ false → position_of ps i ≡ nowhere

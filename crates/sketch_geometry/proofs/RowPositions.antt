@@ -15,7 +15,7 @@ use Rattle.sketch.specs.Lists.{ite}
 use Rattle.sketch.specs.Lookup.{among, Found}
 use Rattle.sketch.specs.Drawing.{point_ids}
 use Rattle.sketch.proofs.Ascent.{among_at}
-use Rattle.sketch.proofs.Facts.{get_D_mapped}
+use Rattle.sketch.proofs.Facts.{get_or_mapped}
 use Rattle.image.specs.Records.{point_size}
 use Rattle.image.specs.Decode.{read_point}
 use Rattle.rows.specs.Rows.{row_in, ids_in, HoldsPoints}
@@ -77,7 +77,7 @@ module _ {ps : List Point} {points : List ℕ} (w : HoldsPoints ps points) {id k
         ap (λ (p : Point). vec p.x p.y) (H.held_point w k q) ∙ sym (point_at_lem ps k (H.point_ids_rise w) within) ∙ ap (position_of ps) (H.point_here w f q)
 
     there : among id (point_ids ps) ≡ true
-    there = among_at id (point_ids ps) k (rw (length-map ps (λ (p : Point). p.id)) within) (get_D_mapped (λ (p : Point). p.id) 0 no_point ps k within ∙ H.point_here w f q)
+    there = among_at id (point_ids ps) k (rw (length-map ps (λ (p : Point). p.id)) within) (get_or_mapped (λ (p : Point). p.id) 0 no_point ps k within ∙ H.point_here w f q)
 
     pub moved_there : {m : Moved} {i : ℕ} {v : Vec2} → m ≡ To i v → i ≡ id → v ≡ position_of (points_after_move m ps) id
     unfolding points_after_move

@@ -1,11 +1,9 @@
 -- The shape of a curve from where its points lie. Assumes nothing.
 use mathlib.Core.Path.{◌≡◌, refl}
-use mathlib.Core.List.{List, [], ◌∷◌}
+use mathlib.Core.List.{List}
 use mathlib.Core.Option.{some, none}
 use Prim.Native.Nat.{ℕ}
 use lib.Ieee.{Float}
-use types.Run.{OneOf, miss}
-use denote.Enum.Declared.{tag_of}
 use Rattle.geom.specs.declared.Vec2.{Vec2}
 use Rattle.shape.specs.declared.Shape.{Shape}
 use Rattle.shape.specs.declared.Shape.TheVariants as S
@@ -13,7 +11,6 @@ use Rattle.shape.specs.Measures.{arc, circle}
 use Rattle.sketch.specs.declared.Point.{Point}
 use Rattle.sketch.specs.declared.CurveKind.{CurveKind}
 use Rattle.sketch.specs.declared.CurveKind.TheVariants.{Line, Arc, Circle, Bezier, Conic}
-use Rattle.sketch.specs.contracts.CurveKind.{the_type}
 use Rattle.sketch_geometry.specs.Geometry.{position_of, shape_of}
 
 module _ (ps : List Point) {kind : CurveKind} {sh : Shape} where
@@ -29,13 +26,10 @@ module _ (ps : List Point) {kind : CurveKind} {sh : Shape} where
   unfolding shape_of
   of_circle e u h = rw (e, h, u)
 
-abbrev freeform : List ℕ
-freeform = 3 ∷ 4 ∷ []
-
-pub of_freeform : (ps : List Point) (k : CurveKind) → OneOf freeform (tag_of the_type k) → none ≡ shape_of ps k
+pub of_freeform : (ps : List Point) (k : CurveKind) → ((a b : ℕ) → k ≡ Line a b → ⊥) → ((c a b : ℕ) → k ≡ Arc c a b → ⊥) → ((c : ℕ) (r : Float) → k ≡ Circle c r → ⊥) → none ≡ shape_of ps k
 unfolding shape_of
-of_freeform ps (Line a b) h = absurd (miss freeform 0 tt h)
-of_freeform ps (Arc c a b) h = absurd (miss freeform 1 tt h)
-of_freeform ps (Circle c r) h = absurd (miss freeform 2 tt h)
-of_freeform ps (Bezier n) h = refl
-of_freeform ps (Conic a p b rho) h = refl
+of_freeform ps (Line a b) l r o = absurd (l a b refl)
+of_freeform ps (Arc c a b) l r o = absurd (r c a b refl)
+of_freeform ps (Circle c r) l a o = absurd (o c r refl)
+of_freeform ps (Bezier n) l r o = refl
+of_freeform ps (Conic a p b rho) l r o = refl

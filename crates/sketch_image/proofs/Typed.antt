@@ -39,12 +39,10 @@ use Rattle.sketch_image.proofs.Written.{SizeIs, ready, ready_size}
 
 -- ---- lists
 
-each_typed :
-    {A D : Type 0} (own : D → List Val → Fml) (to : A → D) (P : A → Type 0) → ((a : A) (u : List Val) → shadow (own (to a) u) → P a)
-    → (xs : List A) (us : List Val) → shadow (each D own (map to xs) us) → Each P xs
-each_typed own to P h [] us e = tt
-each_typed own to P h (x ∷ xs) [] e = absurd e
-each_typed own to P h (x ∷ xs) (u ∷ us) e = (h x (u ∷ []) e.0, each_typed own to P h xs us e.1)
+each_typed : {A : Type 0} (own : A → List Val → Fml) (P : A → Type 0) → ((a : A) (u : List Val) → shadow (own a u) → P a) → (xs : List A) (us : List Val) → shadow (each A own xs us) → Each P xs
+each_typed own P h [] us e = tt
+each_typed own P h (x ∷ xs) [] e = absurd e
+each_typed own P h (x ∷ xs) (u ∷ us) e = (h x (u ∷ []) e.0, each_typed own P h xs us e.1)
 
 each_take : {A : Type 0} (P : A → Type 0) (n : ℕ) (xs : List A) → Each P xs → Each P (take n xs)
 each_take P zero xs h = tt
@@ -57,10 +55,10 @@ each_of_map f P (x ∷ xs) h = (h.0, each_of_map f P xs h.1)
 
 -- ---- records
 
-point_typed : (p : Point) (u : List Val) → shadow ((P.the_field).row.own_val ((P.the_type).to p) u) → StoredPoint p
+point_typed : (p : Point) (u : List Val) → shadow ((P.the_row).own_val p u) → StoredPoint p
 point_typed p u h = record { id_fits = h.1.1.0.1; x_fits = subst T (sym h.1.1.1.1.0.1) tt; y_fits = subst T (sym h.1.1.1.1.1.0.1) tt }
 
-kind_typed : (k : CurveKind) (u : List Val) → shadow ((K.the_field).row.own_val ((K.the_type).to k) u) → StoredKind k
+kind_typed : (k : CurveKind) (u : List Val) → shadow ((K.the_row).own_val k u) → StoredKind k
 unfolding StoredKind
 kind_typed (Line a b) u h = let f = h.1.1.1.1 in (f.0.1, f.1.0.1)
 kind_typed (Arc c a b) u h = let f = h.1.1.1.1 in (f.0.1, f.1.0.1, f.1.1.0.1)
@@ -68,7 +66,7 @@ kind_typed (Circle c r) u h = let f = h.1.1.1.1 in (f.0.1, subst T (sym f.1.0.1)
 kind_typed (Bezier n) u h = let f = h.1.1.1.1 in f.0.1
 kind_typed (Conic a p b rho) u h = let f = h.1.1.1.1 in (f.0.1, f.1.0.1, f.1.1.0.1, subst T (sym f.1.1.1.0.1) tt)
 
-relation_typed : (r : Relation) (u : List Val) → shadow ((R.the_field).row.own_val ((R.the_type).to r) u) → StoredRelation r
+relation_typed : (r : Relation) (u : List Val) → shadow ((R.the_row).own_val r u) → StoredRelation r
 unfolding StoredRelation
 relation_typed (Coincident p q) u h = let f = h.1.1.1.1 in (f.0.1, f.1.0.1)
 relation_typed (PointOnCurve p c) u h = let f = h.1.1.1.1 in (f.0.1, f.1.0.1)
@@ -80,7 +78,7 @@ relation_typed (Midpoint p l) u h = let f = h.1.1.1.1 in (f.0.1, f.1.0.1)
 relation_typed (ArcLength c v) u h = let f = h.1.1.1.1 in (f.0.1, subst T (sym f.1.0.1) tt)
 relation_typed (ArcSweep c v) u h = let f = h.1.1.1.1 in (f.0.1, subst T (sym f.1.0.1) tt)
 
-slot_typed : (r : RelationSlot) (u : List Val) → shadow ((RS.the_field).row.own_val ((RS.the_type).to r) u) → StoredRelation r.relation
+slot_typed : (r : RelationSlot) (u : List Val) → shadow ((RS.the_row).own_val r u) → StoredRelation r.relation
 slot_typed r u h = relation_typed r.relation _ h.1.1.0
 
 -- all of `StoredCurve` but what its validity gives
@@ -90,14 +88,14 @@ record TypedCurve (c : Curve) : Type 0 where
   eight : length c.slots ≡ 8
   slots_fit : Each Id c.slots
 
-curve_typed : (c : Curve) (u : List Val) → shadow ((C.the_field).row.own_val ((C.the_type).to c) u) → TypedCurve c
+curve_typed : (c : Curve) (u : List Val) → shadow ((C.the_row).own_val c u) → TypedCurve c
 curve_typed c u h =
     let slots = h.1.1.1.1.1.1.1.0 in
     record {
       id_fits = h.1.1.0.1;
       kind_fits = kind_typed c.kind _ h.1.1.1.1.1.1.0;
-      eight = sym (length-map c.slots (λ v. v)) ∙ slots.1.0.1;
-      slots_fit = each_typed u32-field.row.own_val (λ v. v) Id (λ i w k. k.1) c.slots slots.0 slots.1.1;
+      eight = slots.1.0.1;
+      slots_fit = each_typed u32-field.row.own_val Id (λ i w k. k.1) c.slots slots.0 slots.1.1;
     }
 
 -- slots beside a kind that uses none hold 0
@@ -117,7 +115,7 @@ curves_stored (c ∷ cs) h ok =
 
 -- ---- the sketch, by what holds of any value of its type
 
-pub sketch_stored : (s : Sketch) (u : List Val) → shadow ((S.the_field).row.own_val ((S.the_type).to s) u) → sketch_fault s ≡ 0 → Stored (view s)
+pub sketch_stored : (s : Sketch) (u : List Val) → shadow ((S.the_row).own_val s u) → sketch_fault s ≡ 0 → Stored (view s)
 sketch_stored s u h e =
     let v = (sketch_valid s e).1 in
     let points = h.1.1.1.1.1.1.0 in
@@ -128,30 +126,30 @@ sketch_stored s u h e =
       points_count = omega (arith, v.points_fit);
       curves_count = omega (arith, v.curves_fit);
       relations_count = omega (arith, v.relations_fit);
-      points_fit = each_take StoredPoint s.npoints s.points (each_typed (P.the_field).row.own_val (P.the_type).to StoredPoint point_typed s.points points.0 points.1.1);
-      curves_fit = curves_stored (take s.ncurves s.curves) (each_take TypedCurve s.ncurves s.curves (each_typed (C.the_field).row.own_val (C.the_type).to TypedCurve curve_typed s.curves curves.0 curves.1.1)) v.curves_ok;
+      points_fit = each_take StoredPoint s.npoints s.points (each_typed (P.the_row).own_val StoredPoint point_typed s.points points.0 points.1.1);
+      curves_fit = curves_stored (take s.ncurves s.curves) (each_take TypedCurve s.ncurves s.curves (each_typed (C.the_row).own_val TypedCurve curve_typed s.curves curves.0 curves.1.1)) v.curves_ok;
       relations_fit = each_of_map (λ (r : RelationSlot). r.relation) StoredRelation (take s.nrelations s.relations)
           (each_take (λ (r : RelationSlot). StoredRelation r.relation) s.nrelations s.relations
-          (each_typed (RS.the_field).row.own_val (RS.the_type).to (λ (r : RelationSlot). StoredRelation r.relation) slot_typed s.relations relations.0 relations.1.1));
+          (each_typed (RS.the_row).own_val (λ (r : RelationSlot). StoredRelation r.relation) slot_typed s.relations relations.0 relations.1.1));
     }
 
 -- its curves have eight slots each
-pub sketch_slots : (s : Sketch) (u : List Val) → shadow ((S.the_field).row.own_val ((S.the_type).to s) u) → Each (λ (c : Curve). length c.slots ≡ 8) (take s.ncurves s.curves)
+pub sketch_slots : (s : Sketch) (u : List Val) → shadow ((S.the_row).own_val s u) → Each (λ (c : Curve). length c.slots ≡ 8) (take s.ncurves s.curves)
 sketch_slots s u h =
     let curves = h.1.1.1.1.1.1.1.0 in
-    each_eight (take s.ncurves s.curves) (each_take TypedCurve s.ncurves s.curves (each_typed (C.the_field).row.own_val (C.the_type).to TypedCurve curve_typed s.curves curves.0 curves.1.1))
+    each_eight (take s.ncurves s.curves) (each_take TypedCurve s.ncurves s.curves (each_typed (C.the_row).own_val TypedCurve curve_typed s.curves curves.0 curves.1.1))
   where
     each_eight : (cs : List Curve) → Each TypedCurve cs → Each (λ (c : Curve). length c.slots ≡ 8) cs
     each_eight [] w = tt
     each_eight (c ∷ cs) w = (w.0.eight, each_eight cs w.1)
 
 -- its image's size, by its counts
-pub sketch_size : (s : Sketch) (u : List Val) → shadow ((S.the_field).row.own_val ((S.the_type).to s) u) → sketch_fault s ≡ 0 → {n : ℕ} → SizeIs s n → n ≡ drawing_size (view s)
+pub sketch_size : (s : Sketch) (u : List Val) → shadow ((S.the_row).own_val s u) → sketch_fault s ≡ 0 → {n : ℕ} → SizeIs s n → n ≡ drawing_size (view s)
 sketch_size s u h e is =
     let z = (sketch_valid s e).0 in
-    let np : length s.points ≡ 512 = sym (length-map s.points _) ∙ h.1.1.1.1.1.1.0.1.0.1 in
-    let nc : length s.curves ≡ 128 = sym (length-map s.curves _) ∙ h.1.1.1.1.1.1.1.0.1.0.1 in
-    let nr : length s.relations ≡ 256 = sym (length-map s.relations _) ∙ h.1.1.1.1.1.1.1.1.0.1.0.1 in
+    let np : length s.points ≡ 512 = h.1.1.1.1.1.1.0.1.0.1 in
+    let nc : length s.curves ≡ 128 = h.1.1.1.1.1.1.1.0.1.0.1 in
+    let nr : length s.relations ≡ 256 = h.1.1.1.1.1.1.1.1.0.1.0.1 in
     let lp = length-take-le s.npoints s.points (omega (arith, z.points, np)) in
     let lc = length-take-le s.ncurves s.curves (omega (arith, z.curves, nc)) in
     let lr = length-take-le s.nrelations s.relations (omega (arith, z.relations, nr)) in

@@ -1,4 +1,6 @@
 // Sketches by value and their images: read, written, and written and read again.
+#![tactic(auto)]
+
 mod reader;
 mod round_trip;
 mod size;
@@ -11,7 +13,7 @@ use sketch::Sketch;
 pub use writer::write;
 
 // What reading an image answers: the number of a refusal, or 0 and the sketch.
-#[derive(Drop)]
+#[derive(Clone, Copy)]
 pub struct ImageRead {
     pub sketch: Sketch,
     pub refusal: u8,

@@ -76,17 +76,17 @@ module _ (o : HitsResult) (qx qy : List Float) (r : Hits) (w : HitsAtFront o qx 
     same_count : k ≡ length (list_of o)
     same_count = counted o k b (sym w.answer ∙ e)
 
-    front_X : take k qx ≡ map (λ p. p.x) (list_of o)
-    front_X = rw same_count w.across
+    front_x : take k qx ≡ map (λ p. p.x) (list_of o)
+    front_x = rw same_count w.across
 
-    front_Y : take k qy ≡ map (λ p. p.y) (list_of o)
-    front_Y = rw same_count w.up
+    front_y : take k qy ≡ map (λ p. p.y) (list_of o)
+    front_y = rw same_count w.up
 
     pub hits_count_X : k ≡ length (take k qx)
-    hits_count_X = rw front_X (same_count ∙ sym (length-map (list_of o) (λ p. p.x)))
+    hits_count_X = rw front_x (same_count ∙ sym (length-map (list_of o) (λ p. p.x)))
 
     pub hits_count_Y : k ≡ length (take k qy)
-    hits_count_Y = rw front_Y (same_count ∙ sym (length-map (list_of o) (λ p. p.y)))
+    hits_count_Y = rw front_y (same_count ∙ sym (length-map (list_of o) (λ p. p.y)))
 
     pub hits_fit_X : k ≤ length qx
     hits_fit_X = omega (arith, hits_count_X, length-take k qx)
@@ -106,7 +106,7 @@ module _ (o : HitsResult) (qx qy : List Float) (r : Hits) (w : HitsAtFront o qx 
         let n : k ≡ length (list_of o) = same_count in
         let x : length (take k qx) ≡ length (list_of o) = sym hits_count_X ∙ n in
         let y : length (take k qy) ≡ length (list_of o) = sym hits_count_Y ∙ n in
-        record { answer = sym e ∙ w.answer; across = ex ∙ rw (x, front_X); up = ey ∙ rw (y, front_Y) }
+        record { answer = sym e ∙ w.answer; across = ex ∙ rw (x, front_x); up = ey ∙ rw (y, front_y) }
 
 -- ---- a line or round
 

@@ -56,42 +56,42 @@ module _ (q : Vec2) (xs ys : List Float) (i : ℕ) where
 pub record Walk (line : Shape) (f : Freeform) (ts : List Float) (b : ℕ) (qx₀ qy₀ : List Float) (k i : ℕ) (qx qy : List Float) : Type 0 where
   pub within : i ≤ length ts
   pub behind : k ≤ i
-  pub room_X : length ts ≤ length qx
-  pub room_Y : length ts ≤ length qy
-  pub same_X : length qx ≡ length qx₀
-  pub same_Y : length qy ≡ length qy₀
+  pub room_x : length ts ≤ length qx
+  pub room_y : length ts ≤ length qy
+  pub same_x : length qx ≡ length qx₀
+  pub same_y : length qy ≡ length qy₀
   pub rest : resolved line f (zip_points (take k qx) (take k qy)) (drop i ts) b ≡ resolved line f [] ts b
 
 module _ (line : Shape) (f : Freeform) (ts : List Float) (b : ℕ) (qx₀ qy₀ : List Float) where
   pub start : length ts ≤ length qx₀ → length ts ≤ length qy₀ → Walk line f ts b qx₀ qy₀ 0 0 qx₀ qy₀
   unfolding zip_points
-  start h g = record { within = omega arith; behind = omega arith; room_X = h; room_Y = g; same_X = refl; same_Y = refl; rest = refl }
+  start h g = record { within = omega arith; behind = omega arith; room_x = h; room_y = g; same_x = refl; same_y = refl; rest = refl }
 
   module _ (k i : ℕ) (qx qy : List Float) (w : Walk line f ts b qx₀ qy₀ k i qx qy) where
     abbrev kept : List Vec2
     kept = zip_points (take k qx) (take k qy)
 
-    fits_X : k ≤ length qx
-    fits_X = omega (arith, w.behind, w.within, w.room_X)
+    fits_x : k ≤ length qx
+    fits_x = omega (arith, w.behind, w.within, w.room_x)
 
-    fits_Y : k ≤ length qy
-    fits_Y = omega (arith, w.behind, w.within, w.room_Y)
+    fits_y : k ≤ length qy
+    fits_y = omega (arith, w.behind, w.within, w.room_y)
 
-    pub count_X : k ≡ length (take k qx)
-    count_X = sym (length-take-le k qx fits_X)
+    pub count_x : k ≡ length (take k qx)
+    count_x = sym (length-take-le k qx fits_x)
 
-    pub count_Y : k ≡ length (take k qy)
-    count_Y = sym (length-take-le k qy fits_Y)
+    pub count_y : k ≡ length (take k qy)
+    count_y = sym (length-take-le k qy fits_y)
 
     pub paired : length (take k qy) ≡ length (take k qx)
-    paired = sym count_Y ∙ count_X
+    paired = sym count_y ∙ count_x
 
     pub finish : length ts ≤ i → HitsAtFront (resolved line f [] ts b) qx qy (Found k b)
     unfolding resolved answer_of list_of
     finish h =
         let o : resolved line f [] ts b ≡ found kept b = sym (rw (drop_of_length-le ts h) at w.rest) in
         let e : length (take k qy) ≡ length (take k qx) = paired in
-        let l : length kept ≡ k = points_length (take k qx) (take k qy) e ∙ sym count_X in
+        let l : length kept ≡ k = points_length (take k qx) (take k qy) e ∙ sym count_x in
         rw o (record { answer = rw l; across = rw (l, points_across (take k qx) (take k qy) e); up = rw (l, points_up (take k qx) (take k qy) e) })
 
     module _ (h : i < length ts) (q : Vec2) (eq : q ≡ point_at f (get_or ts i nan)) (s : Float) (es : s ≡ dist2 line q) where
@@ -118,24 +118,24 @@ module _ (line : Shape) (f : Freeform) (ts : List Float) (b : ℕ) (qx₀ qy₀ 
         skip n = record {
           within = omega arith;
           behind = omega (arith, w.behind);
-          room_X = w.room_X;
-          room_Y = w.room_Y;
-          same_X = w.same_X;
-          same_Y = w.same_Y;
+          room_x = w.room_x;
+          room_y = w.room_y;
+          same_x = w.same_x;
+          same_y = w.same_y;
           rest = sym (step ∙ rw (on, n)) ∙ w.rest;
         }
 
         pub push : has_near_hit q kept ≡ false → Walk line f ts b qx₀ qy₀ (k + 1) (i + 1) (set qx k q.x) (set qy k q.y)
         unfolding guard_hits
         push n =
-            let x : k < length qx = omega (arith, w.behind, w.room_X) in
-            let y : k < length qy = omega (arith, w.behind, w.room_Y) in
+            let x : k < length qx = omega (arith, w.behind, w.room_x) in
+            let y : k < length qy = omega (arith, w.behind, w.room_y) in
             record {
               within = omega arith;
               behind = omega (arith, w.behind);
-              room_X = omega (arith, w.room_X, length-set qx k q.x);
-              room_Y = omega (arith, w.room_Y, length-set qy k q.y);
-              same_X = length-set qx k q.x ∙ w.same_X;
-              same_Y = length-set qy k q.y ∙ w.same_Y;
+              room_x = omega (arith, w.room_x, length-set qx k q.x);
+              room_y = omega (arith, w.room_y, length-set qy k q.y);
+              same_x = length-set qx k q.x ∙ w.same_x;
+              same_y = length-set qy k q.y ∙ w.same_y;
               rest = rw (points_stored q qx qy k x y) (sym (step ∙ rw (on, n)) ∙ w.rest);
             }

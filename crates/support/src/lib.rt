@@ -1,4 +1,6 @@
 // Where the endless line of a support meets other curves.
+#![tactic(auto)]
+
 use shape::Shape;
 
 mod boundary;
@@ -14,7 +16,7 @@ pub use boundary::endless;
 pub(crate) const ROOM: usize = 28;
 
 // A line or round; a Bézier curve of so many control points, eight at most; or a conic, with its apex's weight. The control points stand beside it.
-#[derive(Drop)]
+#[derive(Clone, Copy)]
 pub enum Piece {
     Analytic(Shape),
     Bezier(usize),
@@ -22,14 +24,14 @@ pub enum Piece {
 }
 
 // A freeform piece whose control points are at hand: a Bézier curve, or a conic, with its apex's weight.
-#[derive(Drop)]
+#[derive(Clone, Copy)]
 enum Form {
     Polynomial,
     Rational(f64),
 }
 
 // How many hits there are, or a refusal's number; and the budget that is left.
-#[derive(Drop)]
+#[derive(Clone, Copy)]
 pub enum Hits {
     Found(usize, usize),
     Refused(u8, usize),

@@ -1,6 +1,9 @@
-// The wall as a program: an image, a mark and the messages after it on standard input, the last image on standard output. A write that fails is
-// told on standard error, with the system's words; a program has no exit status of its own to tell it by.
-use libc::{STDIN_FILENO, STDOUT_FILENO};
+// The wall as a program: an image, a mark and the messages after it on standard input, the last image on standard output. A read or a write that
+// fails ends it with the system's error.
+#![tactic(auto)]
+
+use std::io;
+use std::io::Write;
 
 // As much of the input as is looked at.
 const INPUT: usize = 65536;
@@ -8,12 +11,10 @@ const INPUT: usize = 65536;
 // Room for any image.
 const OUTPUT: usize = image::MAX_IMAGE_SIZE;
 
-fn main() {
+fn main(rt: HostRuntime) -> io::Result<()> {
     let mut input = [0u8; INPUT];
     let mut out = [0u8; OUTPUT];
-    let n = io::read_full(STDIN_FILENO, &mut input);
+    let n = input::read_front(&mut rt.reader(), &mut input)?;
     let size = wall_program::run_program(&input[..n], &mut out);
-    if !io::write_all(STDOUT_FILENO, &out[..size]) {
-        os::fail(b"wall: the image was not written whole to standard output");
-    }
+    io::writer(&rt).write_all(&out[..size])
 }

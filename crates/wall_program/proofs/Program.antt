@@ -22,7 +22,7 @@ use Rattle.replication.specs.Protocol.{protocol}
 use Rattle.replication.specs.Transitions.{Memory, memory, image_in, state_in, Ready, first_nonzero, Starts, WallCall, WallDelivers}
 use Rattle.wall_program.specs.Program.{image_end, mark_in, mark_end, chunks_up_to, chunks, wall_after_messages, outcome_on, program_outcome, WritesOutcome, DeliversAll, WritesImage}
 use Rattle.replication.proofs.Steps.{length_parsed, Holding, wall_step_lem}
-use Rattle.replication.proofs.StartCases.{start_image, starts_with, held-at-start}
+use Rattle.replication.proofs.StartCases.{start_image, starts_with, held_at_start}
 
 -- ---- the lesser of two sizes
 
@@ -91,10 +91,10 @@ pub record Follows (s₀ : Memory) (bytes : List ℕ) (s : Memory) (at : ℕ) : 
   pub mark_is : s.mark ≡ s₀.mark
   pub on : wall_after_messages s₀.mark (state_in s) (chunks (drop at bytes)) ≡ wall_after_messages s₀.mark (state_in s₀) (chunks bytes)
 
-pub delivers-more :
+pub delivers_more :
     (s₀ : Memory) (bytes : List ℕ) (s : Memory) (at r : ℕ) → Follows s₀ bytes s at → at < length bytes → r ≡ least message_size (length bytes - at) → r ≤ length bytes - at
     → (c : WallCall) → c.bytes ≡ take (at + r - at) (drop at bytes) → WallDelivers s c → Follows s₀ bytes c.left (at + r)
-delivers-more s₀ bytes s at r f h e le c b w =
+delivers_more s₀ bytes s at r f h e le c b w =
     let l = drop at bytes in
     let n : length l ≡ length bytes - at = length-drop at bytes in
     let q : at + r - at ≡ r = omega arith in
@@ -183,12 +183,12 @@ module _
       start_drawing = result_none (I.image_fault image) (I.drawing_of image) (start_image image mark 0 b b' r st z)
 
       pub program_start : Holding mark (memory r.replica b') (initial (I.drawing_of image))
-      program_start = held-at-start image image_bytes mark 0 (I.drawing_of image) start_drawing (memory r.replica b') (starts_with image mark 0 b b' r st z)
+      program_start = held_at_start image image_bytes mark 0 (I.drawing_of image) start_drawing (memory r.replica b') (starts_with image mark 0 b b' r st z)
 
-      pub program-outcome :
+      pub program_outcome_lem :
           (rest : List ℕ) → rest ≡ drop (mark_end s) s → (last : Memory) → DeliversAll (memory r.replica b') rest last → (left : List ℕ) → left ≡ image_in last → (l now : List ℕ) (n : ℕ)
           → WritesImage left l now n → WritesOutcome (program_outcome s) l now n
-      program-outcome rest g last f left h l now n w =
+      program_outcome_lem rest g last f left h l now n w =
           let d = I.drawing_of image in
           let m : state_in last ≡ wall_after_messages (mark_in s) (initial d) (chunks (drop (mark_end s) s)) =
           f.is ∙ ap (λ (l : List ℕ). wall_after_messages r.replica.mark (state_in (memory r.replica b')) (chunks l)) g

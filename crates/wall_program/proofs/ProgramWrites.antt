@@ -1,4 +1,4 @@
--- The wall's program always writes into a buffer of the largest image's size (`program-writes`). Assumes nothing.
+-- The wall's program always writes into a buffer of the largest image's size (`program_writes`). Assumes nothing.
 use mathlib.Core.Path.{◌≡◌, refl, ◌∙◌}
 use mathlib.Core.List.{List, [], ◌∷◌}
 use Prim.Native.Nat.{ℕ, ◌≤◌}
@@ -30,10 +30,10 @@ outcome_small : (mark : ℕ) (image : List ℕ) (ms : List (List ℕ)) → Bytes
 outcome_small mark image ms b (I.refused k) e = omega arith
 outcome_small mark image ms b (I.accepted d) e = image_size _ (deliveries_valid mark (initial d) ms (fault_valid limits d (T.valid image d b e)))
 
-pub program-writes :
+pub program_writes :
     (input : List ℕ) → Bytes input → (before later : List ℕ) (r : ℕ) → I.max_image_size ≤ length before → WritesOutcome (program_outcome input) before later r
     → (r ≡ output_size (program_outcome input)) × (later ≡ over before 0 (output (program_outcome input)))
-program-writes input b before later r room w =
+program_writes input b before later r room w =
     let image = take (image_end input) input in
     let small = outcome_small (mark_in input) image (chunks (drop (mark_end input) input)) (bytes_take (image_end input) input b) (I.parse image) refl in
     let fits = le-leb (output_size (program_outcome input)) (length before) (omega arith) in

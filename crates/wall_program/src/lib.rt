@@ -1,4 +1,6 @@
 // The wall's program on slices: an image, a mark, then the messages after it.
+#![tactic(auto)]
+
 ghost use Rattle.std.specs.Prelude.{◌≡◌, ◌≤◌, leb};
 ghost use Rattle.sketch.specs.Lists.{ite};
 ghost use Rattle.image.specs.Image.{refused};

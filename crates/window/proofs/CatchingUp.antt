@@ -1,6 +1,6 @@
 -- What is due to a wall: messages that are all held have as many bytes as their sizes, and each way out of a catch-up tells its number.
 use mathlib.Core.Path.{◌≡◌, refl, sym, ap, ◌∙◌}
-use mathlib.Core.Bool.{true, false, and_false}
+use mathlib.Core.Bool.{true, false, and-false}
 use mathlib.Core.List.{List, ◌++◌}
 use Prim.Native.Nat.{ℕ, zero, suc, ◌+◌, ◌*◌, ◌-◌, ◌≤◌, ◌<◌}
 use native.Mathlib.Numerals.{add-one}
@@ -32,7 +32,7 @@ module _ (mark : ℕ) (w : List ℕ) (k : ℕ) where
   all_held_missing i zero q e = absurd (omega arith)
   all_held_missing i (suc n) q e =
       at_most_or_above (suc i) n (λ p. rw (all_held_missing i n (omega arith) e))
-      (λ p. let z : k + suc n ≡ k + (i + 1) = omega arith in rw (z, e) (and_false (all_held mark w k n)))
+      (λ p. let z : k + suc n ≡ k + (i + 1) = omega arith in rw (z, e) (and-false (all_held mark w k n)))
 
   -- messages that are held are whole
   pub length_due : (n : ℕ) → all_held mark w k n ≡ true → length (due_bytes w k n) ≡ message_size * n
@@ -73,12 +73,12 @@ module _ (w : List ℕ) (k : ℕ) where
   unfolding due_bytes
   due_none before = record { copied = record { is = sym (over_nil before 0); long = refl }; long = refl }
 
-  pub due-more :
+  pub due_more :
       (n : ℕ) (before : List ℕ) → length (due_bytes w k n) ≡ message_size * n → message_size * n ≤ length before
       → (i : ℕ) {now run then : List ℕ} → i < n → DueCopied before i now → run ≡ slot w (k + (i + 1)) → then ≡ over_if_fits now (i * message_size) run
       → DueCopied before (i + 1) then
   unfolding due_bytes
-  due-more n before h room i {now} {run} {then} q d e f =
+  due_more n before h room i {now} {run} {then} q d e f =
       let u : run ≡ slot w (k + suc i) = rw add-one at e in
       let a = rw length-append at (due_whole (suc i) n (omega arith) h) in
       let l : length run ≡ message_size = ap length u ∙ omega (arith, d.copied.long) in
@@ -114,11 +114,11 @@ module _ (mark : ℕ) (w : List ℕ) (n k : ℕ) (before : List ℕ) where
         unfolding guard_number
         catch_up_short h = refused_by_lem 24 (rw (le-leb k n below, le-leb (n - k) window_messages few, held, lt-leb (message_size * (n - k)) (length before) h))
 
-        pub catch-up-written :
+        pub catch_up_written :
             {later : List ℕ} → message_size * (n - k) ≤ length before → later ≡ over before 0 (due_bytes w k (n - k))
             → CatchesUp mark w n k before later 0
         unfolding guard_number
-        catch-up-written h e =
+        catch_up_written h e =
             let f : catch_up_fault mark w n k (length before) ≡ 0 =
             rw (le-leb k n below, le-leb (n - k) window_messages few, held, le-leb (message_size * (n - k)) (length before) h) in
             record { number = sym f; buffer = e ∙ rw f }

@@ -18,10 +18,10 @@ use Rattle.window.specs.KeptMessages.{concat, Numbered, KeepsLast, due_fault, Ca
 use Rattle.window.proofs.Slides.{length_slid, slot_slid, slot_slid_other}
 
 -- what holds of every message by its place, and of one more, holds of all
-more-at :
+more_at :
     (P : ℕ → List ℕ → Type 0) (ms : List (List ℕ)) (m : List ℕ) → ((j : ℕ) → j < length ms → P j (get_or ms j [])) → P (length ms) m
     → (j : ℕ) → j < length (ms ++ (m ∷ [])) → P j (get_or (ms ++ (m ∷ [])) j [])
-more-at P ms m h k j q =
+more_at P ms m h k j q =
     at_most_or_above (suc j) (length ms) (λ p. rw (get_or-append ms (m ∷ []) [] j p) (h j p))
     (λ p. let e : j ≡ length ms = omega (arith, length-append ms (m ∷ [])) in rw (e, get_or-append_seam ms m [] []) k)
 
@@ -35,8 +35,8 @@ pub numbered_more :
     → Numbered mark (ms ++ (m ∷ []))
 numbered_more mark ms m a e f =
     record {
-      read = more-at (λ j x. message_fault mark x ≡ 0) ms m a.read e;
-      number = more-at (λ j x. field x edit_number_at edit_number_size ≡ suc j) ms m a.number f;
+      read = more_at (λ j x. message_fault mark x ≡ 0) ms m a.read e;
+      number = more_at (λ j x. field x edit_number_at edit_number_size ≡ suc j) ms m a.number f;
     }
 
 pub numbered_sized : (mark : ℕ) (ms : List (List ℕ)) → Numbered mark ms → (j : ℕ) → j < length ms → length (get_or ms j []) ≡ message_size
@@ -48,13 +48,13 @@ pub keeps_none : KeepsLast empty_window []
 keeps_none = record { size = length-replicate {A = ℕ} window_size 0; last = λ j q. absurd (omega arith) }
 
 -- where each message slides into it; of longer bytes that are handed in, their front is the message
-pub keeps-slid :
+pub keeps_slid :
     (w : List ℕ) (ms : List (List ℕ)) (b : List ℕ) → KeepsLast w ms → length (take message_size b) ≡ message_size
     → KeepsLast (slid w (suc (length ms)) b) (ms ++ (take message_size b ∷ []))
-keeps-slid w ms b a e =
+keeps_slid w ms b a e =
     let n = suc (length ms) in
     let m = take message_size b in
-    let same = more-at (λ j x. n ≤ j + window_messages → slot (slid w n b) (suc j) ≡ x) ms m
+    let same = more_at (λ j x. n ≤ j + window_messages → slot (slid w n b) (suc j) ≡ x) ms m
     (λ j q r. slot_slid_other w n b a.size (suc j) (λ z. omega arith) ∙ a.last j q (omega arith)) (λ r. slot_slid w n b a.size e) in
     record { size = length_slid w n b a.size; last = λ j q r. same j q (omega (arith, length-append ms (m ∷ []))) }
 
@@ -106,21 +106,21 @@ catch_up_of mark w ms a b = record { fault = fault_is; due = due_is }
 
 -- ---- what it wrote, message by message
 
-concat-part :
+concat_part :
     (ms : List (List ℕ)) (behind : List ℕ) (i : ℕ) → ((j : ℕ) → j < length ms → length (get_or ms j []) ≡ message_size) → i < length ms
     → part (concat ms ++ behind) (message_size * i) message_size ≡ get_or ms i []
-concat-part [] behind i s q = absurd (omega arith)
-concat-part (m ∷ ms) behind zero s q = rw append_assoc (take_at m (concat ms ++ behind) message_size (s 0 (omega arith)))
-concat-part (m ∷ ms) behind (suc i) s q =
+concat_part [] behind i s q = absurd (omega arith)
+concat_part (m ∷ ms) behind zero s q = rw append_assoc (take_at m (concat ms ++ behind) message_size (s 0 (omega arith)))
+concat_part (m ∷ ms) behind (suc i) s q =
     let l : length m ≡ message_size = s 0 (omega arith) in
     let e : message_size * suc i ≡ length m + message_size * i = omega arith in
     rw (append_assoc m (concat ms) behind, e, drop-append-add m (concat ms ++ behind) (message_size * i))
-    (concat-part ms behind i (λ j h. s (suc j) (omega arith)) (omega arith))
+    (concat_part ms behind i (λ j h. s (suc j) (omega arith)) (omega arith))
 
-pub due-part :
+pub due_part :
     (mark : ℕ) (ms : List (List ℕ)) → Numbered mark ms → (b : List ℕ) (k i : ℕ) → i < length ms - k
     → part (over b 0 (concat (drop k ms))) (message_size * i) message_size ≡ get_or ms (k + i) []
 unfolding over
-due-part mark ms a b k i q =
+due_part mark ms a b k i q =
     let l = length-drop k ms in
-    concat-part (drop k ms) _ i (λ j h. rw get_or-drop (numbered_sized mark ms a (k + j) (omega arith))) (omega arith) ∙ get_or-drop k ms i []
+    concat_part (drop k ms) _ i (λ j h. rw get_or-drop (numbered_sized mark ms a (k + j) (omega arith))) (omega arith) ∙ get_or-drop k ms i []

@@ -1,4 +1,6 @@
 // The desk's window (the glossary's term): its last messages as they were written, by which a wall catches up.
+#![tactic(auto)]
+
 mod catching_up;
 mod slots;
 
@@ -16,7 +18,7 @@ pub const WINDOW_MESSAGES: usize = 64;
 pub const WINDOW_SIZE: usize = WINDOW_MESSAGES * MESSAGE_SIZE;
 
 // Each slot has room for one message, which tells its own number: nothing stands beside them, and any bytes are a window.
-#[derive(Drop)]
+#[derive(Clone, Copy)]
 pub struct Window {
     pub bytes: [u8; WINDOW_SIZE],
 }

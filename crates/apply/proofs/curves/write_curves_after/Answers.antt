@@ -1,0 +1,33 @@
+-- `apply::write_curves_after` meets its contract.
+use Rattle.std.proofs.Common.{arith}
+use Rattle.apply.proofs.Parts.{length_after, set_only, set_added}
+use Rattle.image.proofs.Curves.{length_curve}
+use Rattle.apply.proofs.curves.write_curves_after.Goals as goal
+
+pub put_rows-a-requires : goal.put_rows-a-requires
+put_rows-a-requires c =
+    let a = c.args in
+    let n = length_after a.k a.curves.now c.requires.0 a.ch in
+    (omega arith, omega (arith, c.requires.0), omega (arith, n, c.requires.1, c.requires.0))
+
+pub overflow_add-a : goal.overflow_add-a
+overflow_add-a c =
+    let a = c.args in
+    let n = length_after a.k a.curves.now c.requires.0 a.ch in
+    omega (arith, n, c.requires.1, c.requires.0, c.put_rows-a.ensures.1)
+
+pub put_rows-b-requires : goal.put_rows-b-requires
+put_rows-b-requires c =
+    let a = c.args in
+    let n = length_after a.k a.curves.now c.requires.0 a.ch in
+    (omega (arith, c.requires.0), omega arith, omega (arith, n, c.requires.1, c.requires.0, c.put_rows-a.ensures.1))
+
+pub returns-then-ch-ne0 : goal.returns-then-ch-ne0
+returns-then-ch-ne0 c =
+    let a = c.args in
+    set_added a.k a.curves.now c.requires.0 a.out.now a.at _ _ c.put_rows-a.ensures.0 c.put_rows-a.ensures.1 a.ch _ _ _ c.requires.1 (length_curve a.ch.kept c.requires.2.0) c.write_curve.ensures c.put_rows-b.ensures.0 c.put_rows-b.ensures.1 _ c.if-ch-ne0.true (length_curve a.ch.added c.requires.2.1) c.write_curve-then-ch-ne0.ensures
+
+pub returns-else-ch-ne0 : goal.returns-else-ch-ne0
+returns-else-ch-ne0 c =
+    let a = c.args in
+    set_only a.k a.curves.now c.requires.0 a.out.now a.at _ _ c.put_rows-a.ensures.0 c.put_rows-a.ensures.1 a.ch _ _ _ c.requires.1 (length_curve a.ch.kept c.requires.2.0) c.write_curve.ensures c.put_rows-b.ensures.0 c.put_rows-b.ensures.1 c.if-ch-ne0.false
