@@ -1,6 +1,6 @@
 /* Mulkefi for a host in C, C++ or Rust: one drawing, cut alike at a desk and on a wall.
  *
- * Link with libmulkefi.a, which `rt staticlib mulkefi` writes to target/staticlib/. It is built for x86-64 Linux and asks for memcpy and
+ * Link with libmulkefi.a, which `tools/staticlib mulkefi` writes to target/staticlib/. It is built for x86-64 Linux and asks for memcpy and
  * memset alone. No call allocates, keeps a pointer, or touches anything but the memory lent to it and its stack, so that calls on
  * different memory may run at once. A call takes some 50 kB of stack: a thread of the host's needs 128 KiB.
  *

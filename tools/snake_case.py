@@ -17,7 +17,7 @@ import sys
 TOP = os.path.join(os.path.dirname(os.path.dirname(os.path.abspath(__file__))), "crates")
 WORD = r"[^\s(){}\[\];,.:λ\"`|]+"
 MARKS = r"(?:(?:abbrev|unfoldable|private|pub)\s+)*"
-DECLARED = re.compile(r"^\s*" + MARKS + r"(" + WORD + r"(?:\s+" + WORD + r")*)\s+:\s")
+DECLARED = re.compile(r"^\s*" + MARKS + r"(" + WORD + r"(?:\s+" + WORD + r")*)\s+:(?:\s|$)")
 OPENED = re.compile(r"^\s*" + MARKS + r"(?:record|data|ruleset)\s+(?:pub\s+)?(" + WORD + r")")
 # Names of Rattle's library that stand beside a lemma that would have them.
 OF_STD = {"nan_bits"}
@@ -35,8 +35,9 @@ def files(ending):
 
 def pages():
     top = os.path.dirname(TOP)
-    yield os.path.join(top, "README.md")
-    yield os.path.join(top, "CONTRIBUTING.md")
+    for name in ("README.md", "CONTRIBUTING.md"):
+        if os.path.exists(os.path.join(top, name)):
+            yield os.path.join(top, name)
     for folder, dirs, names in os.walk(os.path.join(top, "docs")):
         for name in sorted(names):
             if name.endswith(".md") and "landings" not in folder:

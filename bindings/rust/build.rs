@@ -13,7 +13,7 @@ fn main() {
     println!("cargo::rerun-if-changed={}", library.display());
     if !library.is_file() {
         println!(
-            "cargo::error=no {}: run `rt staticlib mulkefi` first or set MULKEFI_STATICLIB",
+            "cargo::error=no {}: run `tools/staticlib mulkefi` first or set MULKEFI_STATICLIB",
             library.display()
         );
         return;
