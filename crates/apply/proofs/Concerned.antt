@@ -1,13 +1,15 @@
 -- A relation that names neither the curve nor a point that goes is left as it is; and so as many rows are left as relations. Assumes nothing.
 use mathlib.Core.Path.{◌≡◌, refl, sym, ap, ◌∙◌}
 use mathlib.Core.Bool.{Bool, true, false, ◌&&◌, ◌||◌}
-use mathlib.Core.List.{List, [], ◌∷◌, map}
-use Prim.Native.Nat.{ℕ, ◌≤◌}
+use mathlib.Core.List.{List, [], ◌∷◌, ◌++◌, map}
+use Prim.Native.Nat.{ℕ, suc, ◌≤◌}
 use native.Mathlib.Omega.{arith}
-use lib.Dec.{eqb}
+use lib.Dec.{eqb, ltb}
 use lib.Ieee.{Float}
 use lib.ListN.{length, length-append, length-map}
 use borrow.Author.Tests.{ne_eqb, eqb-false}
+use Rattle.std.specs.Prelude.{cond}
+use Rattle.std.specs.List.{filter}
 use Rattle.big_endian.specs.Fields.{field}
 use Rattle.sketch.specs.declared.Relation.{Relation}
 use Rattle.sketch.specs.declared.Relation.TheVariants.{Coincident, PointOnCurve, Collinear, Equal, Length, Distance, Midpoint, ArcLength, ArcSweep}
@@ -145,6 +147,16 @@ module _ (e : Extent) (os : List ℕ) where
       go true true = omega arith
       go true false = omega (arith, length_keep (λ r. every (staying os) (points_of r)) (v ∷ []))
       go false d = omega (arith, length_keep (λ r. every (staying os) (points_of r)) (release_relation e.id (chord e) v), released_one e.id (chord e) v)
+
+  pub left_counted : (rows : List (List ℕ)) → length (filter (λ r. ltb 0 (length (left_row e os r))) rows) ≡ length (concat_map (left_row e os) rows)
+  left_counted [] = refl
+  left_counted (r ∷ rows) = go (left_row e os r) (omega (arith, row_count r, left_one (read_relation r))) (left_counted rows)
+    where
+      go : (l : List (List ℕ)) → length l ≤ 1 → length (filter (λ r. ltb 0 (length (left_row e os r))) rows) ≡ length (concat_map (left_row e os) rows)
+          → length (cond (ltb 0 (length l)) (r ∷ filter (λ r. ltb 0 (length (left_row e os r))) rows) (filter (λ r. ltb 0 (length (left_row e os r))) rows)) ≡ length (l ++ concat_map (left_row e os) rows)
+      go [] h i = i
+      go (x ∷ []) h i = ap suc i
+      go (x ∷ y ∷ l) h i = absurd (omega arith)
 
   pub left_few : (t : List ℕ) → length (left_rows e os t) ≤ length (rows_in relation_size t)
   unfolding left_rows

@@ -1,13 +1,15 @@
 -- An image written: its header, then its three tables; and what is answered. Assumes nothing.
 use mathlib.Core.Path.{◌≡◌, refl, sym, ap, ◌∙◌}
-use mathlib.Core.Bool.{Bool, true, false, ◌&&◌}
-use mathlib.Core.List.{List, [], ◌∷◌, ◌++◌, map, append_assoc}
+use mathlib.Core.Bool.{true, ◌&&◌}
+use mathlib.Core.List.{List, ◌++◌, map, append_assoc}
 use Prim.Native.Nat.{ℕ, suc, ◌+◌, ◌*◌, ◌/◌, ◌≤◌, ◌<◌}
 use native.Mathlib.Omega.{arith}
-use lib.Dec.{leb, eqb}
+use lib.Dec.{leb}
 use lib.ListN.{length, take, drop, set, length-append, length-map}
 use borrow.Author.Tests.{le-leb, lt-leb, ne_eqb}
 use Rattle.big_endian.specs.Fields.{over, over_if_fits}
+use Rattle.std.specs.Prelude.{Option, Some, None, IfSome, option_to_list}
+use Rattle.sketch.specs.declared.Curve.{Curve}
 use Rattle.sketch.specs.Lists.{ite}
 use Rattle.sketch.specs.Drawing.{limits}
 use Rattle.image.specs.Records.{point_size, curve_size, relation_size}
@@ -15,6 +17,7 @@ use Rattle.image.specs.Image.{header_size, size_of}
 use Rattle.image.specs.Encode.{header, encode_point, encode_curve, encode_relation}
 use Rattle.image.proofs.Headers.{length_header}
 use Rattle.image.proofs.Points.{length_point}
+use Rattle.image.proofs.Curves.{length_curve}
 use Rattle.image.proofs.Relations.{length_relation}
 use Rattle.rows.specs.Rows.{rows_in}
 use Rattle.rows.proofs.Rows.{length_rows_in}
@@ -24,9 +27,9 @@ use Rattle.edit_plan.specs.declared.Change.{Change}
 use Rattle.edit_plan.specs.Changes.{points_new, curves_new, relations_new}
 use Rattle.edit_plan.proofs.Every.{length_keep}
 use Rattle.apply.specs.Applied.{Answered}
-use Rattle.apply.specs.Clauses.{row_bytes, staying_rows, left_rows, left_row, points_after, curves_after, curves_without, relations_after, rows_image, CountsWithin, TablesWithin, mk_table_counts, refused_by, written_as}
+use Rattle.apply.specs.Clauses.{row_bytes, staying_rows, left_rows, left_row, points_after, curves_after, curves_without, relations_after, rows_image, EightSlots, CountsWithin, TablesWithin, mk_table_counts, refused_by, written_as}
 use Rattle.apply.proofs.RowRuns.{Long, length_row_bytes, rows_long, each_append, each_map, each_keep, each_all, each_take, each_drop, each_set, over_then, over_if}
-use Rattle.apply.proofs.Turns.{left_long}
+use Rattle.apply.proofs.Turns.{left_long, at_most_one}
 use Rattle.apply.proofs.Concerned.{left_few}
 use Rattle.apply.proofs.Parts.{length_without}
 
@@ -54,15 +57,15 @@ without_long k t =
     let w = rows_long curve_size t in
     each_append (λ r. length r ≡ curve_size) (take k (rows_in curve_size t)) (drop (suc k) (rows_in curve_size t)) (each_take (λ r. length r ≡ curve_size) k (rows_in curve_size t) w) (each_drop (λ r. length r ≡ curve_size) (suc k) (rows_in curve_size t) w)
 
-pub curves_long : (k : ℕ) (h : Change) (t : List ℕ) → length (encode_curve h.kept) ≡ curve_size → length (encode_curve h.added) ≡ curve_size → Long curve_size (curves_after k h t)
+pub curves_long : (k : ℕ) (h : Change) (t : List ℕ) → EightSlots h → Long curve_size (curves_after k h t)
 unfolding curves_after
-curves_long k h t p q =
+curves_long k h t w =
     each_append (λ r. length r ≡ curve_size) (set (rows_in curve_size t) k (encode_curve h.kept)) (map encode_curve (curves_new h))
-    (each_set (λ r. length r ≡ curve_size) k (rows_in curve_size t) (encode_curve h.kept) p (rows_long curve_size t)) (go (eqb h.curves 0))
+    (each_set (λ r. length r ≡ curve_size) k (rows_in curve_size t) (encode_curve h.kept) (length_curve h.kept w.0) (rows_long curve_size t)) (go h.added w.1)
   where
-    go : (b : Bool) → Long curve_size (map encode_curve (ite b [] (h.added ∷ [])))
-    go true = tt
-    go false = (q, tt)
+    go : (o : Option Curve) → IfSome o (λ (c : Curve). length c.slots ≡ 8) → Long curve_size (map encode_curve (option_to_list o))
+    go None w = tt
+    go (Some c) w = (length_curve c w, tt)
 
 -- ---- counts
 
@@ -80,26 +83,13 @@ staying_few os t = length_keep _ (rows_in point_size t)
 
 module _ (h : Change) where
   pub new_points_few : length (points_new h) ≤ 2
-  new_points_few = go (eqb h.points 0)
-    where
-      go : (b : Bool) → length (ite b (h.p ∷ []) (h.p ∷ h.q ∷ [])) ≤ 2
-      go true = omega arith
-      go false = omega arith
+  new_points_few = omega (arith, at_most_one h.second_point)
 
   pub new_curves_few : length (curves_new h) ≤ 1
-  new_curves_few = go (eqb h.curves 0)
-    where
-      go : (b : Bool) → length (ite b [] (h.added ∷ [])) ≤ 1
-      go true = omega arith
-      go false = omega arith
+  new_curves_few = at_most_one h.added
 
   pub new_relations_few : length (relations_new h) ≤ 3
-  new_relations_few = go (eqb h.third 0) (eqb h.third 1)
-    where
-      go : (b d : Bool) → length (ite b (h.r ∷ []) (ite d (h.r ∷ h.s ∷ []) (h.r ∷ h.s ∷ h.t ∷ []))) ≤ 3
-      go true d = omega arith
-      go false true = omega arith
-      go false false = omega arith
+  new_relations_few = omega (arith, length-append (option_to_list h.second_relation) (option_to_list h.third_relation), at_most_one h.second_relation, at_most_one h.third_relation)
 
 pub counts_are : (a b c x y z : ℕ) → a ≡ x → b ≡ y → c ≡ z → mk_table_counts a b c ≡ mk_table_counts x y z
 counts_are a b c x y z p q r = rw (p, q, r)

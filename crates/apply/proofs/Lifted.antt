@@ -32,7 +32,7 @@ use Rattle.edit_plan.specs.declared.Extent.{Extent}
 use Rattle.edit_plan.specs.declared.Change.{Change}
 use Rattle.edit_plan.specs.declared.Plan.{Plan}
 use Rattle.edit_plan.specs.Changes.{is_whole, left_of, staying, points_new, curves_new, relations_new}
-use Rattle.apply.specs.declared.Applied.{Applied}
+use Rattle.apply.specs.Answers.{Answer}
 use Rattle.apply.specs.Applied.{changed_by, without_curve, plan_extent, plan_orphans, plan_change, plan_refusal, drawing_after, removed_by, refusal_with, Answered, PlanWritten}
 use Rattle.apply.specs.Clauses.{row_bytes, drawing_read, staying_rows, concerned, left_row, left_rows, points_after, curves_after, curves_without, relations_after, rows_image, TablesWithin, image_after, RowsApplied}
 use Rattle.apply.proofs.Concerned.{unconcerned}
@@ -144,30 +144,12 @@ module _ (next : ℕ) (p c r : List ℕ) (bp : Back encode_point read_point (row
 
 -- ---- of a good image
 
-module _ (s : List ℕ) (e : image_fault s ≡ 0) (b : Bytes s) where
+module _ (s : List ℕ) (e : image_fault s ≡ 0) where
   kept : Sound s
   kept = image_kept s e
 
   head : Head s
   head = kept.head
-
-  pub points_back : Back encode_point read_point (rows_in point_size (point_table s))
-  points_back =
-      rw (point_rows_in s head)
-      (backs encode_point read_point point_of point_form ok_point plain_point point_size point_back read_point_is (point_rows s)
-      (rows_proper point_size (point_count s) s header_size b (omega (arith, head.size))) kept.points_pass (plain_points s e))
-
-  pub curves_back : Back encode_curve read_curve (rows_in curve_size (curve_table s))
-  curves_back =
-      rw (curve_rows_in s head)
-      (backs encode_curve read_curve curve_of curve_form ok_curve plain_curve curve_size curve_back read_curve_is (curve_rows s)
-      (rows_proper curve_size (curve_count s) s (curves_from (point_count s)) b (omega (arith, head.size))) kept.curves_pass (plain_curves s e))
-
-  pub relations_back : Back encode_relation read_relation (rows_in relation_size (relation_table s))
-  relations_back =
-      rw (relation_rows_in s head)
-      (backs encode_relation read_relation relation_of relation_form ok_relation plain_relation relation_size relation_back read_relation_is (relation_rows s)
-      (rows_proper relation_size (relation_count s) s (relations_from (point_count s) (curve_count s)) b (omega (arith, head.size))) kept.relations_pass (plain_relations s e))
 
   pub tables_within : TablesWithin (point_table s) (curve_table s) (relation_table s)
   tables_within =
@@ -180,18 +162,37 @@ module _ (s : List ℕ) (e : image_fault s ≡ 0) (b : Bytes s) where
   drawing_read_lem : drawing_read (next_at s) (point_table s) (curve_table s) (relation_table s) ≡ drawing_of s
   drawing_read_lem = rw (points_in_lem s e, curves_in_lem s e, relations_in_lem s e)
 
-  pub plan_written : (k : ℕ) (plan : Plan) (before after : List ℕ) (r : Applied) → RowsApplied (next_at s) (point_table s) (curve_table s) (relation_table s) k plan before after r
-      → Answered (plan_refusal (drawing_of s) k plan) (encode (drawing_after (drawing_of s) k plan)) (removed_by (drawing_of s) k plan) before after r
-  plan_written k plan before after r w =
-      let i = image_encoded (next_at s) (point_table s) (curve_table s) (relation_table s) points_back curves_back relations_back k plan in
-      let v : Answered (plan_refusal (drawing_read (next_at s) (point_table s) (curve_table s) (relation_table s)) k plan) (encode (drawing_after (drawing_read (next_at s) (point_table s) (curve_table s) (relation_table s)) k plan)) (removed_by (drawing_read (next_at s) (point_table s) (curve_table s) (relation_table s)) k plan) before after r =
-      record { refusal = w.refusal ∙ ap (λ x. refusal_with (plan_refusal (drawing_read (next_at s) (point_table s) (curve_table s) (relation_table s)) k plan) x before) i; removed = w.removed; size = w.size ∙ ap (λ x. ite (eqb r.refusal 0) (length x) 0) i; bytes = w.bytes ∙ ap (λ x. ite (eqb r.refusal 0) (over before 0 x) before) i } in
-      over_drawings (drawing_read (next_at s) (point_table s) (curve_table s) (relation_table s)) (drawing_of s) drawing_read_lem v
-    where
-      over_drawings : (d d' : Drawing) → d ≡ d' → Answered (plan_refusal d k plan) (encode (drawing_after d k plan)) (removed_by d k plan) before after r → Answered (plan_refusal d' k plan) (encode (drawing_after d' k plan)) (removed_by d' k plan) before after r
-      over_drawings d d' e w = subst (λ x. Answered (plan_refusal x k plan) (encode (drawing_after x k plan)) (removed_by x k plan) before after r) e w
+  module _ (b : Bytes s) where
+    pub points_back : Back encode_point read_point (rows_in point_size (point_table s))
+    points_back =
+        rw (point_rows_in s head)
+        (backs encode_point read_point point_of point_form ok_point plain_point point_size point_back read_point_is (point_rows s)
+        (rows_proper point_size (point_count s) s header_size b (omega (arith, head.size))) kept.points_pass (plain_points s e))
 
-pub plan_answered : (s : List ℕ) → Bytes s → (k : ℕ) (plan : Plan) (before after : List ℕ) (r : Applied) (next : ℕ) (p c t : List ℕ) → p ≡ point_table s → c ≡ curve_table s → t ≡ relation_table s → next ≡ next_at s
+    pub curves_back : Back encode_curve read_curve (rows_in curve_size (curve_table s))
+    curves_back =
+        rw (curve_rows_in s head)
+        (backs encode_curve read_curve curve_of curve_form ok_curve plain_curve curve_size curve_back read_curve_is (curve_rows s)
+        (rows_proper curve_size (curve_count s) s (curves_from (point_count s)) b (omega (arith, head.size))) kept.curves_pass (plain_curves s e))
+
+    pub relations_back : Back encode_relation read_relation (rows_in relation_size (relation_table s))
+    relations_back =
+        rw (relation_rows_in s head)
+        (backs encode_relation read_relation relation_of relation_form ok_relation plain_relation relation_size relation_back read_relation_is (relation_rows s)
+        (rows_proper relation_size (relation_count s) s (relations_from (point_count s) (curve_count s)) b (omega (arith, head.size))) kept.relations_pass (plain_relations s e))
+
+    pub plan_written : (k : ℕ) (plan : Plan) (before after : List ℕ) (r : Answer) → RowsApplied (next_at s) (point_table s) (curve_table s) (relation_table s) k plan before after r
+        → Answered (plan_refusal (drawing_of s) k plan) (encode (drawing_after (drawing_of s) k plan)) (removed_by (drawing_of s) k plan) before after r
+    plan_written k plan before after r w =
+        let i = image_encoded (next_at s) (point_table s) (curve_table s) (relation_table s) points_back curves_back relations_back k plan in
+        let v : Answered (plan_refusal (drawing_read (next_at s) (point_table s) (curve_table s) (relation_table s)) k plan) (encode (drawing_after (drawing_read (next_at s) (point_table s) (curve_table s) (relation_table s)) k plan)) (removed_by (drawing_read (next_at s) (point_table s) (curve_table s) (relation_table s)) k plan) before after r =
+        record { refusal = w.refusal ∙ ap (λ x. refusal_with (plan_refusal (drawing_read (next_at s) (point_table s) (curve_table s) (relation_table s)) k plan) x before) i; removed = w.removed; size = w.size ∙ ap (λ x. ite (eqb r.refusal 0) (length x) 0) i; bytes = w.bytes ∙ ap (λ x. ite (eqb r.refusal 0) (over before 0 x) before) i } in
+        over_drawings (drawing_read (next_at s) (point_table s) (curve_table s) (relation_table s)) (drawing_of s) drawing_read_lem v
+      where
+        over_drawings : (d d' : Drawing) → d ≡ d' → Answered (plan_refusal d k plan) (encode (drawing_after d k plan)) (removed_by d k plan) before after r → Answered (plan_refusal d' k plan) (encode (drawing_after d' k plan)) (removed_by d' k plan) before after r
+        over_drawings d d' e w = subst (λ x. Answered (plan_refusal x k plan) (encode (drawing_after x k plan)) (removed_by x k plan) before after r) e w
+
+pub plan_answered : (s : List ℕ) → Bytes s → (k : ℕ) (plan : Plan) (before after : List ℕ) (r : Answer) (next : ℕ) (p c t : List ℕ) → p ≡ point_table s → c ≡ curve_table s → t ≡ relation_table s → next ≡ next_at s
     → (TablesWithin p c t → RowsApplied next p c t k plan before after r) → PlanWritten s k plan before after r
 plan_answered s b k plan before after r next p c t ep ec et en w e =
-    plan_written s e b k plan before after r (rw (← ep, ← ec, ← et, ← en) (w (rw (ep, ec, et) (tables_within s e b))))
+    plan_written s e b k plan before after r (rw (← ep, ← ec, ← et, ← en) (w (rw (ep, ec, et) (tables_within s e))))

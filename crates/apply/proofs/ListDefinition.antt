@@ -44,7 +44,7 @@ use Rattle.edit_plan.proofs.Finals.{same}
 use Rattle.edit_plan.proofs.Loops.{look_at, recut_is_map}
 use Rattle.edit_plan.proofs.AtOnce.{kept_recut, open_cut, final_of, orphans_of, room_number, start_old, end_old}
 use Rattle.edit_plan.proofs.Plans.{rest_of, whole_bridge, cuts_bridge, no_move}
-use Rattle.apply.specs.declared.Applied.{Applied}
+use Rattle.apply.specs.Answers.{Answer}
 use Rattle.apply.specs.Applied.{target_in, plan_extent, plan_orphans, plan_change, plan_refusal, changed_by, without_curve, drawing_after, removed_by, Answered, PlanWritten}
 
 -- ---- a curve left out by its id is left out by its place
@@ -83,13 +83,13 @@ module _ {d : Drawing} (v : Valid limits d) (k : ℕ) (below : k < length d.curv
   found = look_at no_curve d.next 0 d.curves k v.curves_rise below
 
   -- the new points stay: those that go are older
-  new_points : (plan : Plan) (n : ℕ) → Suited d c plan → is_whole plan ≡ false → keep (λ (p : Point). staying (orphans_of d c plan) p.id) (points_new (change_for c k n plan d.next)) ≡ points_new (change_for c k n plan d.next)
+  new_points : (plan : Plan) (n : ℕ) → Suited d c plan → is_whole plan ≡ false → keep (λ (p : Point). staying (orphans_of d c plan) p.id) (points_new (change_for c plan d.next)) ≡ points_new (change_for c plan d.next)
   unfolding candidates_for change_for is_whole
   new_points Whole n s h = never (sym h)
   new_points (Cut w b) n s h =
       let o = open_cut c.kind w b s.kind in
       let old = older b (start_old v c found o) (end_old v c found o) in
-      ap (λ x. ite (not x) (points_new (change_for c k n (Cut w b) d.next)) []) (not_among (λ p. not (among p (uses (others c.id d.curves)))) d.next (ite b (start_of c.kind) (end_of c.kind)) old)
+      ap (λ x. ite (not x) (points_new (change_for c (Cut w b) d.next)) []) (not_among (λ p. not (among p (uses (others c.id d.curves)))) d.next (ite b (start_of c.kind) (end_of c.kind)) old)
     where
       older : (b : Bool) → start_of c.kind < d.next → end_of c.kind < d.next → ite b (start_of c.kind) (end_of c.kind) < d.next
       older true x y = x
@@ -129,7 +129,7 @@ module _ {d : Drawing} (v : Valid limits d) (k : ℕ) (below : k < length d.curv
         let os = orphans_of d c plan in
         same _ _ _ _ _ _ _ _ refl
         (keep_append (λ (p : Point). staying os p.id) d.points (points_new h) ∙ ap (λ (x : List Point). keep (λ (p : Point). staying os p.id) d.points ++ x) (new_points plan (length d.curves) su w))
-        (ap (λ (x : List Curve). x ++ curves_new h) (set_is h.kept.kind ∙ ap (set d.curves k) (sym (kept_recut c k (length d.curves) plan d.next)))) refl
+        (ap (λ (x : List Curve). x ++ curves_new h) (set_is h.kept.kind ∙ ap (set d.curves k) (sym (kept_recut c plan d.next)))) refl
 
     rest_is : rest_of d c e (orphans_of d c plan) ≡ without_curve d k e (plan_orphans d k plan)
     rest_is = same _ _ _ _ _ _ _ _ refl refl (others_at d.next 0 d.curves k v.curves_rise below) refl
@@ -145,7 +145,7 @@ module _ {d : Drawing} (v : Valid limits d) (k : ℕ) (below : k < length d.curv
     cut_is : (met : Drawing → Bool) → is_whole plan ≡ false → apply_plan_to met limits d c plan ≡ unless_refused (plan_refusal d k plan) (made (is_whole plan))
     cut_is met w =
         let room = room_number limits d c plan e in
-        cuts_bridge v c found met k (length d.curves) plan su w
+        cuts_bridge v c found met plan su w
         ∙ ap (λ x. unless_refused x (accepted (final_of d c h e (orphans_of d c plan)) h.removed)) (sym (room_is ∙ ap (λ b. ite b 0 room) w))
         ∙ ap (λ x. unless_refused (plan_refusal d k plan) (accepted x h.removed)) (final_is w) ∙ ap (λ b. unless_refused (plan_refusal d k plan) (made b)) (sym w)
 
@@ -169,11 +169,11 @@ module _ {d : Drawing} (v : Valid limits d) (k : ℕ) (below : k < length d.curv
 -- ---- an image
 
 -- what an outcome comes to in bytes: a refusal, or the image of the new drawing where it fits
-abbrev pub Written : Outcome Drawing Removed → List ℕ → List ℕ → Applied → Type 0
+abbrev pub Written : Outcome Drawing Removed → List ℕ → List ℕ → Answer → Type 0
 Written (refused n) before after r = (r.refusal ≡ n) × (r.removed ≡ nothing) × (r.size ≡ 0) × (after ≡ before)
 Written (accepted d gone) before after r = Answered 0 (encode d) gone before after r
 
-written_is : (n : ℕ) (d : Drawing) (gone : Removed) (before after : List ℕ) (r : Applied) → Answered n (encode d) gone before after r → Written (unless_refused n (accepted d gone)) before after r
+written_is : (n : ℕ) (d : Drawing) (gone : Removed) (before after : List ℕ) (r : Answer) → Answered n (encode d) gone before after r → Written (unless_refused n (accepted d gone)) before after r
 unfolding unless_refused
 written_is n d gone before after r w = go (eqb n 0) refl
   where
@@ -186,7 +186,7 @@ written_is n d gone before after r w = go (eqb n 0) refl
 
 -- a suited plan for the curve at place k of a good image: what is answered and written is the outcome of `apply_plan` on the image's drawing
 pub apply_plan_listed : (met : Drawing → Bool) (s : List ℕ) → Bytes s → image_fault s ≡ 0 → (k : ℕ) → k < curve_count s → (plan : Plan) → Suited (drawing_of s) (target_in (drawing_of s) k) plan
-    → (before after : List ℕ) (r : Applied) → PlanWritten s k plan before after r → Written (apply_plan met limits (drawing_of s) (target_in (drawing_of s) k).id plan) before after r
+    → (before after : List ℕ) (r : Answer) → PlanWritten s k plan before after r → Written (apply_plan met limits (drawing_of s) (target_in (drawing_of s) k).id plan) before after r
 apply_plan_listed met s b e k below plan su before after r w =
     let d = drawing_of s in
     let n : length d.curves ≡ curve_count s = length-map (curve_rows s) curve_of ∙ length_rows curve_size (curve_count s) s (curves_from (point_count s)) in

@@ -7,7 +7,7 @@ use native.Mathlib.Omega.{arith}
 use lib.Dec.{leb, ltb, eqb}
 use lib.ListN.{length, take, drop, set, get_or, length-append, length-map, length-set}
 use lib.Seq.{take_all}
-use borrow.Author.Tests.{eq-eqb, ne_eqb, lt-ltb, le-ltb, le-leb, lt-leb, ltb-true, leb-true}
+use borrow.Author.Tests.{lt-ltb, le-ltb, le-leb, lt-leb, ltb-true, leb-true}
 use Rattle.big_endian.specs.Fields.{over, over_if_fits}
 use Rattle.big_endian.specs.Laws.{Bytes, over_nil}
 use Rattle.geom.specs.declared.Vec2.{Vec2}
@@ -35,7 +35,7 @@ use Rattle.edit_plan.specs.Tables.{ok_position}
 use Rattle.edit_plan.specs.Changes.{pin_relation}
 use Rattle.edit_plan.specs.Steps.{nothing}
 use Rattle.edit_plan.proofs.Loops.{map_append}
-use Rattle.apply.specs.declared.Applied.{Applied}
+use Rattle.apply.specs.Answers.{Answer}
 use Rattle.apply.specs.Applied.{Answered}
 use Rattle.apply.specs.Moved.{pinned_by, moved_to, move_refusal, MoveRefused, MoveWritten}
 use Rattle.apply.specs.Clauses.{row_bytes, points_with, relations_with, rows_image, image_moved, CountsWithin, TablesWithin, RowsMoved, refused_by}
@@ -45,19 +45,6 @@ use Rattle.apply.proofs.Images.{length_image, image_put, answered_refused}
 use Rattle.apply.proofs.Lifted.{Back, set_back, map_back, encode_rows, points_back, curves_back, relations_back, tables_within}
 
 -- ---- what a pin adds
-
-module _ {w : Pin} (p : ℕ) where
-  pub pinned_on : {c : ℕ} → w ≡ On c → 1 ≡ length (pinned_by w p)
-  unfolding pinned_by
-  pinned_on e = rw e
-
-  pub pinned_itself : {e : ℕ} → w ≡ At e → e ≡ p → 0 ≡ length (pinned_by w p)
-  unfolding pinned_by
-  pinned_itself {e} f h = rw (f, eq-eqb e p h)
-
-  pub pinned_at : {e : ℕ} → w ≡ At e → (e ≡ p → ⊥) → 1 ≡ length (pinned_by w p)
-  unfolding pinned_by
-  pinned_at {e} f h = rw (f, ne_eqb e p h)
 
 pub pinned_few : (w : Pin) (p : ℕ) → length (pinned_by w p) ≤ 1
 unfolding pinned_by
@@ -204,7 +191,7 @@ module _ (points relations : List ℕ) (k : ℕ) (v : Vec2) (w : Pin) where
           let q : length (pinned_by w p.id) ≡ length (pinned_by w (get_or (points_in points) k no_point).id) = ap (λ (x : Point). length (pinned_by w x.id)) point_is in
           omega (arith, q, relations_there, leb-true (length (relations_in relations) + length (pinned_by w (get_or (points_in points) k no_point).id)) limits.relations tests.1)
 
-      pub moved_answered : (next : ℕ) (curves before after : List ℕ) (r : Applied) → Answered 0 (image_moved next points curves relations k (moved_to v p) w) nothing before after r → RowsMoved next points curves relations k v w before after r
+      pub moved_answered : (next : ℕ) (curves before after : List ℕ) (r : Answer) → Answered 0 (image_moved next points curves relations k (moved_to v p) w) nothing before after r → RowsMoved next points curves relations k v w before after r
       moved_answered next curves before after r g =
           subst (λ x. Answered x (image_moved next points curves relations k (moved_to v (get_or (points_in points) k no_point)) w) nothing before after r) (sym e)
           (subst (λ (x : Point). Answered 0 (image_moved next points curves relations k (moved_to v x) w) nothing before after r) point_is g)
@@ -230,19 +217,19 @@ module _ (next : ℕ) (p c r : List ℕ) (bp : Back encode_point read_point (row
       ∙ ap (λ (l : List (List ℕ)). rows_image next (map encode_point (set (points_in p) k q)) (map encode_curve (curves_in c)) l) z
       ∙ encode_rows (record { next = next; points = set (points_in p) k q; curves = curves_in c; relations = relations_in r ++ pinned_by w q.id })
 
-module _ (s : List ℕ) (b : Bytes s) (k : ℕ) (v : Vec2) (w : Pin) where
+-- a good image's tables are within their limits
+pub over_limits : (s : List ℕ) → image_fault s ≡ 0 → {p c t : List ℕ} → p ≡ point_table s → c ≡ curve_table s → t ≡ relation_table s → TablesWithin p c t
+over_limits s e ep ec et = rw (ep, ec, et) (tables_within s e)
+
+module _ (s : List ℕ) (k : ℕ) (v : Vec2) (w : Pin) where
   pub move_refused : (p t : List ℕ) (n : ℕ) → p ≡ point_table s → t ≡ relation_table s → n ≡ move_refusal (points_in p) (relations_in t) k v w → MoveRefused s k v w n
   move_refused p t n ep et h e = h ∙ rw (ep, et) (rw (points_in_lem s e, relations_in_lem s e))
 
-  -- a good image has no more relations than may be
-  pub too_many : (t : List ℕ) → t ≡ relation_table s → 256 < length t / relation_size → image_fault s ≡ 0 → ⊥
-  too_many t et h e = omega (arith, ap length et, (tables_within s e b).relations, length_rows_in relation_size (relation_table s))
-
-  pub move_written : (before after : List ℕ) (r : Applied) (next : ℕ) (p c t : List ℕ) → p ≡ point_table s → c ≡ curve_table s → t ≡ relation_table s → next ≡ next_at s
+  pub move_written : Bytes s → (before after : List ℕ) (r : Answer) (next : ℕ) (p c t : List ℕ) → p ≡ point_table s → c ≡ curve_table s → t ≡ relation_table s → next ≡ next_at s
       → (TablesWithin p c t → RowsMoved next p c t k v w before after r) → MoveWritten s k v w before after r
-  move_written before after r next p c t ep ec et en h e =
+  move_written b before after r next p c t ep ec et en h e =
       let m = moved_encoded (next_at s) (point_table s) (curve_table s) (relation_table s) (points_back s e b) (curves_back s e b) (relations_back s e b) k (moved_to v (get_or (points_in (point_table s)) k no_point)) w in
-      let g : RowsMoved (next_at s) (point_table s) (curve_table s) (relation_table s) k v w before after r = rw (← ep, ← ec, ← et, ← en) (h (rw (ep, ec, et) (tables_within s e b))) in
+      let g : RowsMoved (next_at s) (point_table s) (curve_table s) (relation_table s) k v w before after r = rw (← ep, ← ec, ← et, ← en) (h (rw (ep, ec, et) (tables_within s e))) in
       lifted (points_in (point_table s)) (drawing_of s).points (curves_in (curve_table s)) (drawing_of s).curves (relations_in (relation_table s)) (drawing_of s).relations (points_in_lem s e) (curves_in_lem s e) (relations_in_lem s e)
       (subst (λ x. Answered (move_refusal (points_in (point_table s)) (relations_in (relation_table s)) k v w) x nothing before after r) m g)
     where

@@ -10,6 +10,9 @@ use lib.ListN.{length, take, drop, set, length-append, length-map, length-set, l
 use lib.Seq.{length-take-le, set_split, take_all}
 use Rattle.big_endian.specs.Fields.{over, over_if_fits}
 use Rattle.big_endian.specs.Laws.{over_nil, length_over}
+use Rattle.std.specs.Prelude.{Option, Some, None, option_to_list}
+use Rattle.sketch.specs.declared.Point.{Point}
+use Rattle.sketch.specs.declared.Curve.{Curve}
 use Rattle.sketch.specs.declared.Relation.{Relation}
 use Rattle.sketch.proofs.Lists.{concat_map_append}
 use Rattle.image.specs.Records.{point_size, curve_size, relation_size}
@@ -17,14 +20,15 @@ use Rattle.image.specs.Decode.{read_relation}
 use Rattle.image.specs.Encode.{encode_point, encode_curve, encode_relation}
 use Rattle.image.proofs.Points.{length_point}
 use Rattle.image.proofs.Relations.{length_relation}
-use Rattle.rows.specs.Rows.{rows_in, row_in}
+use Rattle.rows.specs.Rows.{rows_in}
 use Rattle.rows.proofs.Rows.{length_rows_in}
 use Rattle.edit_plan.specs.declared.Extent.{Extent}
 use Rattle.edit_plan.specs.declared.Change.{Change}
 use Rattle.edit_plan.specs.Changes.{left_of, points_new, curves_new, relations_new}
 use Rattle.apply.specs.Clauses.{row_bytes, concerned, left_row, curves_after, curves_without}
-use Rattle.apply.proofs.RowRuns.{Long, rows_long, length_row_bytes, each_take, each_set, each_append, over_then, over_if}
-use Rattle.apply.proofs.Turns.{one_point, two_points, no_curve_lem, one_curve, one_relation, two_relations, three_relations, left_looked}
+use Rattle.apply.proofs.RowRuns.{Long, rows_long, length_row_bytes, each_take, each_set, each_append, each_map, over_then, over_if}
+use Rattle.edit_plan.proofs.Loops.{map_append}
+use Rattle.apply.proofs.Turns.{left_looked, left_count}
 
 -- ---- rows behind rows
 
@@ -82,65 +86,55 @@ module _ (size k : ℕ) (t : List ℕ) (below : k < length t / size) (l : List �
 
 -- ---- what a change adds
 
+-- a relation, where there is one
+abbrev OnePut : List ℕ → ℕ → Option Relation → List ℕ → ℕ → Type 0
+OnePut l at o m to = (m ≡ over l at (row_bytes (map encode_relation (option_to_list o)))) × (to ≡ at + length (option_to_list o) * relation_size)
+
+module _ (l : List ℕ) (at : ℕ) (o : Option Relation) where
+  pub none_put : o ≡ None → OnePut l at o l at
+  none_put e = rw e (sym (over_nil l at), omega arith)
+
+  pub one_put : (r : Relation) → o ≡ Some r → (m : List ℕ) → at + length (option_to_list o) * relation_size ≤ length l → m ≡ over_if_fits l at (encode_relation r) → OnePut l at o m (at + relation_size)
+  one_put r e m h f =
+      let k = ap (λ (o : Option Relation). length (option_to_list o)) e in
+      rw e (row_first relation_size l at (encode_relation r) m (length_relation r) (omega (arith, k, h)) f, omega arith)
+
 module _ (h : Change) (l : List ℕ) (at : ℕ) where
-  pub point_put : (m : List ℕ) → h.points ≡ 0 → at + length (points_new h) * point_size ≤ length l → m ≡ over_if_fits l at (encode_point h.p) → m ≡ over l at (row_bytes (map encode_point (points_new h)))
+  pub point_put : (m : List ℕ) → h.second_point ≡ None → at + length (points_new h) * point_size ≤ length l → m ≡ over_if_fits l at (encode_point h.point) → m ≡ over l at (row_bytes (map encode_point (points_new h)))
   point_put m e f g =
-      let k = sym (length-map (points_new h) encode_point) ∙ ap length (one_point h e) in
-      row_first point_size l at (encode_point h.p) m (length_point h.p) (omega arith) g ∙ ap (λ x. over l at (row_bytes x)) (sym (one_point h e))
+      let k = ap (λ (o : Option Point). length (option_to_list o)) e in
+      row_first point_size l at (encode_point h.point) m (length_point h.point) (omega (arith, k, f)) g ∙ ap (λ (o : Option Point). over l at (row_bytes (encode_point h.point ∷ map encode_point (option_to_list o)))) (sym e)
 
-  pub points_put : (m n : List ℕ) → (h.points ≡ 0 → ⊥) → at + length (points_new h) * point_size ≤ length l → m ≡ over_if_fits l at (encode_point h.p) → n ≡ over_if_fits m (at + point_size) (encode_point h.q)
+  pub points_put : (q : Point) (m n : List ℕ) → h.second_point ≡ Some q → at + length (points_new h) * point_size ≤ length l → m ≡ over_if_fits l at (encode_point h.point) → n ≡ over_if_fits m (at + point_size) (encode_point q)
       → n ≡ over l at (row_bytes (map encode_point (points_new h)))
-  points_put m n e f g k =
-      let z = sym (length-map (points_new h) encode_point) ∙ ap length (two_points h e) in
-      let p = length_point h.p in
-      row_then point_size l at (encode_point h.p ∷ []) m (at + point_size) (p, tt) (row_first point_size l at (encode_point h.p) m p (omega arith) g) refl (encode_point h.q) n (length_point h.q) (omega arith) k
-      ∙ ap (λ x. over l at (row_bytes x)) (sym (two_points h e))
+  points_put q m n e f g k =
+      let z = ap (λ (o : Option Point). length (option_to_list o)) e in
+      let p = length_point h.point in
+      row_then point_size l at (encode_point h.point ∷ []) m (at + point_size) (p, tt) (row_first point_size l at (encode_point h.point) m p (omega (arith, z, f)) g) refl (encode_point q) n (length_point q) (omega (arith, z, f)) k
+      ∙ ap (λ (o : Option Point). over l at (row_bytes (encode_point h.point ∷ map encode_point (option_to_list o)))) (sym e)
 
-  pub relation_put : (m : List ℕ) → h.third ≡ 0 → at + length (relations_new h) * relation_size ≤ length l → m ≡ over_if_fits l at (encode_relation h.r) → m ≡ over l at (row_bytes (map encode_relation (relations_new h)))
-  relation_put m e f g =
-      let k = ap length (one_relation h e) in
-      row_first relation_size l at (encode_relation h.r) m (length_relation h.r) (omega arith) g ∙ ap (λ x. over l at (row_bytes (map encode_relation x))) (sym (one_relation h e))
+  abbrev seconds : List Relation
+  seconds = option_to_list h.second_relation
 
-  module _ (m n : List ℕ) (g : m ≡ over_if_fits l at (encode_relation h.r)) (k : n ≡ over_if_fits m (at + relation_size) (encode_relation h.s)) where
-    two_put : at + 2 * relation_size ≤ length l → n ≡ over l at (row_bytes (encode_relation h.r ∷ encode_relation h.s ∷ []))
-    two_put f =
-        let p = length_relation h.r in
-        row_then relation_size l at (encode_relation h.r ∷ []) m (at + relation_size) (p, tt) (row_first relation_size l at (encode_relation h.r) m p (omega arith) g) refl (encode_relation h.s) n (length_relation h.s) (omega arith) k
+  abbrev thirds : List Relation
+  thirds = option_to_list h.third_relation
 
-    pub relations_put : (h.third ≡ 0 → ⊥) → h.third ≡ 1 → at + length (relations_new h) * relation_size ≤ length l → n ≡ over l at (row_bytes (map encode_relation (relations_new h)))
-    relations_put x e f =
-        let z = ap length (two_relations h x e) in
-        two_put (omega arith) ∙ ap (λ x. over l at (row_bytes (map encode_relation x))) (sym (two_relations h x e))
+  pub relations_put : (m n o : List ℕ) (to : ℕ) → at + length (relations_new h) * relation_size ≤ length l → m ≡ over_if_fits l at (encode_relation h.relation)
+      → n ≡ over m (at + relation_size) (row_bytes (map encode_relation seconds)) → to ≡ at + relation_size + length seconds * relation_size → o ≡ over n to (row_bytes (map encode_relation thirds))
+      → o ≡ over l at (row_bytes (map encode_relation (relations_new h)))
+  relations_put m n o to f e1 e2 et e3 =
+      let r = encode_relation h.relation in
+      let p = length_relation h.relation in
+      let a = row_first relation_size l at r m p (omega (arith, f)) e1 in
+      let b = rows_then relation_size l at (r ∷ []) m (at + relation_size) (p, tt) a refl (map encode_relation seconds) n (omega (arith, f)) e2 in
+      let w = each_map (λ x. length x ≡ relation_size) encode_relation length_relation seconds in
+      let c = rows_then relation_size l at (r ∷ map encode_relation seconds) n to (p, w) b (omega (arith, et, length-map seconds encode_relation)) (map encode_relation thirds) o (omega (arith, f)) e3 in
+      c ∙ ap (λ x. over l at (row_bytes (r ∷ x))) (sym (map_append encode_relation seconds thirds))
 
-    pub all_relations_put : (o : List ℕ) → (h.third ≡ 0 → ⊥) → (h.third ≡ 1 → ⊥) → at + length (relations_new h) * relation_size ≤ length l → o ≡ over_if_fits n (at + relation_size + relation_size) (encode_relation h.t)
-        → o ≡ over l at (row_bytes (map encode_relation (relations_new h)))
-    all_relations_put o x e f y =
-        let z = ap length (three_relations h x e) in
-        row_then relation_size l at (encode_relation h.r ∷ encode_relation h.s ∷ []) n (at + relation_size + relation_size) (length_relation h.r, (length_relation h.s, tt)) (two_put (omega arith)) (omega arith) (encode_relation h.t) o (length_relation h.t) (omega arith) y
-        ∙ ap (λ x. over l at (row_bytes (map encode_relation x))) (sym (three_relations h x e))
-
--- ---- what is left of one relation
-
-module _ (e : Extent) (os row : List ℕ) (l : List ℕ) (at : ℕ) where
-  pub kept_put : (v : Relation) (m : List ℕ) → left_of e os (read_relation row) ≡ v ∷ [] → at + length (left_of e os (read_relation row)) * relation_size ≤ length l → m ≡ over_if_fits l at (encode_relation v)
-      → (m ≡ over l at (row_bytes (map encode_relation (left_of e os (read_relation row))))) × (at + relation_size ≡ at + length (left_of e os (read_relation row)) * relation_size)
-  kept_put v m z f g =
-      let k = ap length z in
-      (row_first relation_size l at (encode_relation v) m (length_relation v) (omega arith) g ∙ ap (λ x. over l at (row_bytes (map encode_relation x))) (sym z), omega arith)
-
-  pub dropped_put : left_of e os (read_relation row) ≡ [] → (l ≡ over l at (row_bytes (map encode_relation (left_of e os (read_relation row))))) × (at ≡ at + length (left_of e os (read_relation row)) * relation_size)
-  dropped_put z = let k = ap length z in (sym (over_nil l at) ∙ ap (λ x. over l at (row_bytes (map encode_relation x))) (sym z), omega arith)
-
-pub left_put : (e : Extent) (os t : List ℕ) (i j : ℕ) (m n : List ℕ) (mid end : ℕ) → j ≡ i → concerned e os (row_in relation_size t i) ≡ true
-    → n ≡ over m mid (row_bytes (map encode_relation (left_of e os (read_relation (row_in relation_size t j))))) → end ≡ mid + length (left_of e os (read_relation (row_in relation_size t j))) * relation_size
-    → (n ≡ over m mid (row_bytes (left_row e os (row_in relation_size t i)))) × (end ≡ mid + length (left_row e os (row_in relation_size t i)) * relation_size)
-left_put e os t i j m n mid end ji h f g =
-    let row = row_in relation_size t i in
-    let z = left_looked e os row h in
-    let k : length (left_row e os row) ≡ length (left_of e os (read_relation row)) = ap length z ∙ length-map (left_of e os (read_relation row)) encode_relation in (
-      f ∙ ap (λ x. over m mid (row_bytes (map encode_relation (left_of e os (read_relation (row_in relation_size t x)))))) ji ∙ ap (λ x. over m mid (row_bytes x)) (sym z),
-      g ∙ ap (λ x. mid + length (left_of e os (read_relation (row_in relation_size t x))) * relation_size) ji ∙ ap (λ x. mid + x * relation_size) (sym k),
-    )
+pub left_put : (e : Extent) (os row : List ℕ) (m n : List ℕ) (mid end : ℕ) → concerned e os row ≡ true
+    → n ≡ over m mid (row_bytes (map encode_relation (left_of e os (read_relation row)))) → end ≡ mid + length (left_of e os (read_relation row)) * relation_size
+    → (n ≡ over m mid (row_bytes (left_row e os row))) × (end ≡ mid + length (left_row e os row) * relation_size)
+left_put e os row m n mid end h f g = (f ∙ ap (λ x. over m mid (row_bytes x)) (sym (left_looked e os row h)), g ∙ ap (λ x. mid + x * relation_size) (left_count e os row h))
 
 -- ---- the curves
 
@@ -202,13 +196,15 @@ module _ (k : ℕ) (t : List ℕ) (below : k < length t / curve_size) where
       set_end : b ≡ at + length set_rows * curve_size
       set_end = omega (arith, set_long, end, e)
 
-      pub set_only : h.curves ≡ 0 → o ≡ over l at (row_bytes (curves_after k h t))
+      pub set_only : h.added ≡ None → o ≡ over l at (row_bytes (curves_after k h t))
       unfolding curves_after
-      set_only z = set_put ∙ ap (λ x. over l at (row_bytes x)) (sym (append-nil set_rows)) ∙ ap (λ x. over l at (row_bytes (set_rows ++ map encode_curve x))) (sym (no_curve_lem h z))
+      set_only z =
+          set_put ∙ ap (λ x. over l at (row_bytes x)) (sym (append-nil set_rows))
+          ∙ ap (λ (x : Option Curve). over l at (row_bytes (set_rows ++ map encode_curve (option_to_list x)))) (sym z)
 
-      pub set_added : (q : List ℕ) → (h.curves ≡ 0 → ⊥) → length (encode_curve h.added) ≡ curve_size → q ≡ over_if_fits o b (encode_curve h.added) → q ≡ over l at (row_bytes (curves_after k h t))
+      pub set_added : (c : Curve) (q : List ℕ) → h.added ≡ Some c → length (encode_curve c) ≡ curve_size → q ≡ over_if_fits o b (encode_curve c) → q ≡ over l at (row_bytes (curves_after k h t))
       unfolding curves_after
-      set_added q z y x =
-          let c = ap length (one_curve h z) in
-          row_then curve_size l at set_rows o b set_sized set_put set_end (encode_curve h.added) q y (omega (arith, set_long, length_after h)) x
-          ∙ ap (λ x. over l at (row_bytes (set_rows ++ map encode_curve x))) (sym (one_curve h z))
+      set_added c q z y x =
+          let one = ap (λ (x : Option Curve). length (option_to_list x)) z in
+          row_then curve_size l at set_rows o b set_sized set_put set_end (encode_curve c) q y (omega (arith, set_long, length_after h, one)) x
+          ∙ ap (λ (x : Option Curve). over l at (row_bytes (set_rows ++ map encode_curve (option_to_list x)))) (sym z)

@@ -14,6 +14,7 @@ use denote.Shadow.{shadow}
 use Rattle.geom.specs.declared.Vec2.{Vec2}
 use Rattle.geom.specs.Plane.{origin}
 use Rattle.geom.specs.contracts.Vec2 as G
+use Rattle.std.specs.Prelude.{Some, None}
 use Rattle.sketch.specs.declared.Curve.{Curve}
 use Rattle.sketch.specs.declared.CurveKind.{CurveKind}
 use Rattle.sketch.specs.declared.CurveKind.TheVariants.{Line, Arc, Circle, Bezier, Conic}
@@ -126,106 +127,64 @@ left_numbers e os r w = each_keep RelationNumber (λ r. every (staying os) (poin
 -- ---- what is written
 
 record ChangeNumbers (h : Change) : Type 0 where
-  p_fits : PointNumbers h.p
-  q_fits : PointNumbers h.q
-  kept_fits : CurveNumbers h.kept
-  added_fits : CurveNumbers h.added
-  r_fits : RelationNumber h.r
-  s_fits : RelationNumber h.s
-  t_fits : RelationNumber h.t
+  points : Each PointNumbers (points_new h)
+  kept : CurveNumbers h.kept
+  curves : Each CurveNumbers (curves_new h)
+  relations : Each RelationNumber (relations_new h)
 
 module _ (c : Curve) (w : CurveNumbers c) where
-  cut_numbers : (k : ℕ) (v : Vec2) (i : ℕ) (first_goes : Bool) (x : Pin) → VecNumbers v → ChangeNumbers (cut_once c k (halves_of c.kind v i) first_goes (pin_relation x i) (pin_relation x i))
-  cut_numbers k v i b x p =
-      let kept = kept_number c.kind b (start_of c.kind) i (end_of c.kind) w.0 in
-      let pin = pin_number x i in
-      record { p_fits = p; q_fits = p; kept_fits = (kept, w.1); added_fits = (kept, w.1); r_fits = pin; s_fits = pin; t_fits = pin }
+  cut_numbers : (v : Vec2) (i : ℕ) (first_goes : Bool) (x : Pin) → VecNumbers v → ChangeNumbers (cut_once c (halves_of c.kind v i) first_goes (pin_relation x i) None)
+  cut_numbers v i b x p = record { points = (p, tt); kept = (kept_number c.kind b (start_of c.kind) i (end_of c.kind) w.0, w.1); curves = tt; relations = (pin_number x i, tt) }
 
-  circle_numbers : (k : ℕ) (v u : Vec2) (i : ℕ) (first_goes : Bool) (x y : Pin) → VecNumbers v → VecNumbers u → ChangeNumbers (cut_once c k (half_circles v u i) first_goes (pin_relation x i) (pin_relation y (suc i)))
-  circle_numbers k v u i b x y p q =
-      let kept = kept_number c.kind b i (suc i) i w.0 in
-      record { p_fits = p; q_fits = q; kept_fits = (kept, w.1); added_fits = (kept, w.1); r_fits = pin_number x i; s_fits = pin_number y (suc i); t_fits = pin_number y (suc i) }
+  circle_numbers : (v u : Vec2) (i : ℕ) (first_goes : Bool) (x y : Pin) → VecNumbers v → VecNumbers u → ChangeNumbers (cut_once c (half_circles v u i) first_goes (pin_relation x i) (Some (pin_relation y (suc i))))
+  circle_numbers v u i b x y p q =
+      record { points = (p, (q, tt)); kept = (kept_number c.kind b i (suc i) i w.0, w.1); curves = tt; relations = (pin_number x i, (pin_number y (suc i), tt)) }
 
-  divide_numbers : (n : ℕ) (v : Vec2) (i : ℕ) → VecNumbers v → ChangeNumbers (divide_once c n (halves_of c.kind v i))
-  divide_numbers n v i p =
-      let tie = tie_number (is_line c.kind) c.id (suc i) in
+  divide_numbers : (v : Vec2) (i : ℕ) → VecNumbers v → ChangeNumbers (divide_once c (halves_of c.kind v i))
+  divide_numbers v i p =
       record {
-        p_fits = p;
-        q_fits = p;
-        kept_fits = (piece_number c.kind (start_of c.kind) i w.0, w.1);
-        added_fits = (piece_number c.kind i (end_of c.kind) w.0, refl);
-        r_fits = tie;
-        s_fits = tie;
-        t_fits = tie;
+        points = (p, tt);
+        kept = (piece_number c.kind (start_of c.kind) i w.0, w.1);
+        curves = ((piece_number c.kind i (end_of c.kind) w.0, refl), tt);
+        relations = (tie_number (is_line c.kind) c.id (suc i), tt);
       }
 
-  halve_numbers : (n : ℕ) (v u : Vec2) (i : ℕ) → VecNumbers v → VecNumbers u → ChangeNumbers (divide_once c n (half_circles v u i))
-  halve_numbers n v u i p q =
-      let tie = tie_number (is_line c.kind) c.id (suc (suc i)) in
+  halve_numbers : (v u : Vec2) (i : ℕ) → VecNumbers v → VecNumbers u → ChangeNumbers (divide_once c (half_circles v u i))
+  halve_numbers v u i p q =
       record {
-        p_fits = p;
-        q_fits = q;
-        kept_fits = (piece_number c.kind i (suc i) w.0, w.1);
-        added_fits = (piece_number c.kind (suc i) i w.0, refl);
-        r_fits = tie;
-        s_fits = tie;
-        t_fits = tie;
+        points = (p, (q, tt));
+        kept = (piece_number c.kind i (suc i) w.0, w.1);
+        curves = ((piece_number c.kind (suc i) i w.0, refl), tt);
+        relations = (tie_number (is_line c.kind) c.id (suc (suc i)), tt);
       }
 
   -- where the plan divides nothing
-  blank_numbers : (n i : ℕ) → ChangeNumbers (divide_once c n (no_halves i))
-  blank_numbers n i =
-      let tie = tie_number (is_line c.kind) c.id 0 in
+  blank_numbers : (i : ℕ) → ChangeNumbers (divide_once c (no_halves i))
+  blank_numbers i =
       let piece = piece_number c.kind 0 0 w.0 in
-      record { p_fits = origin_fits; q_fits = origin_fits; kept_fits = (piece, w.1); added_fits = (piece, refl); r_fits = tie; s_fits = tie; t_fits = tie }
+      record { points = (origin_fits, tt); kept = (piece, w.1); curves = ((piece, refl), tt); relations = (tie_number (is_line c.kind) c.id 0, tt) }
 
-  middle_numbers : (n : ℕ) (x y : PinnedPoint) (i : ℕ) → VecNumbers x.at → VecNumbers y.at → ChangeNumbers (cut_middle c n x y i)
-  middle_numbers n x y i p q =
+  middle_numbers : (x y : PinnedPoint) (i : ℕ) → VecNumbers x.at → VecNumbers y.at → ChangeNumbers (cut_middle c x y i)
+  middle_numbers x y i p q =
       record {
-        p_fits = p;
-        q_fits = q;
-        kept_fits = (piece_number c.kind (start_of c.kind) i w.0, w.1);
-        added_fits = (piece_number c.kind (suc i) (end_of c.kind) w.0, refl);
-        r_fits = pin_number x.pin i;
-        s_fits = pin_number y.pin (suc i);
-        t_fits = tie_number (is_line c.kind) c.id (suc (suc (suc i)));
+        points = (p, (q, tt));
+        kept = (piece_number c.kind (start_of c.kind) i w.0, w.1);
+        curves = ((piece_number c.kind (suc i) (end_of c.kind) w.0, refl), tt);
+        relations = (pin_number x.pin i, (pin_number y.pin (suc i), (tie_number (is_line c.kind) c.id (suc (suc (suc i))), tt)));
       }
 
-  change_numbers : (k n i : ℕ) (plan : Plan) → PlanNumbers plan → ChangeNumbers (change_for c k n plan i)
+  change_numbers : (i : ℕ) (plan : Plan) → PlanNumbers plan → ChangeNumbers (change_for c plan i)
   unfolding change_for
-  change_numbers k n i Whole v = blank_numbers n i
-  change_numbers k n i (Cut x b) v = cut_numbers k x.at i b x.pin v
-  change_numbers k n i (CutTwo x y b) v = go (is_circle c.kind)
+  change_numbers i Whole v = blank_numbers i
+  change_numbers i (Cut x b) v = cut_numbers x.at i b x.pin v
+  change_numbers i (CutTwo x y b) v = go (is_circle c.kind)
     where
-      go : (z : Bool) → ChangeNumbers (ite z (cut_once c k (half_circles x.at y.at i) b (pin_relation x.pin i) (pin_relation y.pin (suc i))) (cut_middle c n x y i))
-      go true = circle_numbers k x.at y.at i b x.pin y.pin v.0 v.1
-      go false = middle_numbers n x y i v.0 v.1
-  change_numbers k n i (Divide x) v = divide_numbers n x i v
-  change_numbers k n i (DivideTwo x y) v = halve_numbers n x y i v.0 v.1
-  change_numbers k n i (Move b x y) v = blank_numbers n i
-
-module _ (h : Change) (w : ChangeNumbers h) where
-  points_new_lem : Each PointNumbers (points_new h)
-  points_new_lem = go (eqb h.points 0)
-    where
-      go : (b : Bool) → Each PointNumbers (ite b (h.p ∷ []) (h.p ∷ h.q ∷ []))
-      go true = (w.p_fits, tt)
-      go false = (w.p_fits, (w.q_fits, tt))
-
-  curves_new_lem : Each CurveNumbers (curves_new h)
-  curves_new_lem = go (eqb h.curves 0)
-    where
-      go : (b : Bool) → Each CurveNumbers (ite b [] (h.added ∷ []))
-      go true = tt
-      go false = (w.added_fits, tt)
-
-  relations_new_lem : Each RelationNumber (relations_new h)
-  relations_new_lem = go (eqb h.third 0) (eqb h.third 1)
-    where
-      go : (a b : Bool) → Each RelationNumber (ite a (h.r ∷ []) (ite b (h.r ∷ h.s ∷ []) (h.r ∷ h.s ∷ h.t ∷ [])))
-      go true b = (w.r_fits, tt)
-      go false true = (w.r_fits, (w.s_fits, tt))
-      go false false = (w.r_fits, (w.s_fits, (w.t_fits, tt)))
+      go : (z : Bool) → ChangeNumbers (ite z (cut_once c (half_circles x.at y.at i) b (pin_relation x.pin i) (Some (pin_relation y.pin (suc i)))) (cut_middle c x y i))
+      go true = circle_numbers x.at y.at i b x.pin y.pin v.0 v.1
+      go false = middle_numbers x y i v.0 v.1
+  change_numbers i (Divide x) v = divide_numbers x i v
+  change_numbers i (DivideTwo x y) v = halve_numbers x y i v.0 v.1
+  change_numbers i (Move b x y) v = blank_numbers i
 
 -- ---- the drawing
 
@@ -238,9 +197,9 @@ module _ (d : Drawing) (w : Numbers d) where
   changed_numbers : (k : ℕ) (e : Extent) (os : List ℕ) (h : Change) → ChangeNumbers h → Numbers (changed_by d k e os h)
   changed_numbers k e os h v =
       record {
-        points = each_append PointNumbers (keep (λ p. staying os p.id) d.points) (points_new h) (each_keep PointNumbers (λ p. staying os p.id) d.points w.points) (points_new_lem h v);
-        curves = each_append CurveNumbers (set d.curves k h.kept) (curves_new h) (each_set CurveNumbers k d.curves h.kept v.kept_fits w.curves) (curves_new_lem h v);
-        relations = each_append RelationNumber (concat_map (left_of e os) d.relations) (relations_new h) (each_all RelationNumber (left_of e os) RelationNumber (left_numbers e os) d.relations w.relations) (relations_new_lem h v);
+        points = each_append PointNumbers (keep (λ p. staying os p.id) d.points) (points_new h) (each_keep PointNumbers (λ p. staying os p.id) d.points w.points) v.points;
+        curves = each_append CurveNumbers (set d.curves k h.kept) (curves_new h) (each_set CurveNumbers k d.curves h.kept v.kept w.curves) v.curves;
+        relations = each_append RelationNumber (concat_map (left_of e os) d.relations) (relations_new h) (each_all RelationNumber (left_of e os) RelationNumber (left_numbers e os) d.relations w.relations) v.relations;
       }
 
   without_numbers : (k : ℕ) (e : Extent) (os : List ℕ) → Numbers (without_curve d k e os)
@@ -259,7 +218,7 @@ plan_numbers d k plan w q v = go (is_whole plan)
     go true = without_numbers d w k (plan_extent d k plan) (plan_orphans d k plan)
     go false =
         changed_numbers d w k (plan_extent d k plan) (plan_orphans d k plan) (plan_change d k plan)
-        (change_numbers (target_in d k) (each_at CurveNumbers no_curve d.curves k q w.curves) k (length d.curves) d.next plan v)
+        (change_numbers (target_in d k) (each_at CurveNumbers no_curve d.curves k q w.curves) d.next plan v)
 
 pinned_numbers : (w : Pin) (p : ℕ) → Each RelationNumber (pinned_by w p)
 unfolding pinned_by

@@ -7,6 +7,7 @@ use native.Mathlib.Omega.{arith}
 use lib.Dec.{leb, ltb, eqb}
 use lib.ListN.{length, length-map}
 use borrow.Author.Tests.{le-leb, lt-ltb, le-ltb, ltb-true}
+use Rattle.std.specs.Prelude.{Some}
 use Rattle.sketch.specs.declared.Curve.{Curve}
 use Rattle.sketch.specs.Lists.{ite, guard_number}
 use Rattle.sketch.specs.Drawing.{Drawing, limits, no_slots}
@@ -29,7 +30,7 @@ use Rattle.edit_plan.specs.Changes.{is_circle, is_whole, change_for, cut_once, c
 use Rattle.edit_plan.specs.Room.{mk_additions, additions_for, room_with, room_with_left, room_for, left_over, takes}
 use Rattle.edit_plan.proofs.AtOnce.{left_all, freed_is}
 use Rattle.edit_plan.proofs.Amounts.{small}
-use Rattle.apply.specs.declared.Applied.{Applied}
+use Rattle.apply.specs.Answers.{Answer}
 use Rattle.apply.specs.Applied.{target_in, plan_extent, plan_orphans, plan_change, plan_refusal, removed_by, Answered}
 use Rattle.apply.specs.Clauses.{drawing_read, left_rows, staying_rows, curves_without, points_after, curves_after, relations_after, rows_image, image_after, EightSlots, CountsWithin, TablesWithin, refused_by, RowsApplied}
 use Rattle.apply.proofs.Turns.{curve_read, length_curves}
@@ -129,15 +130,15 @@ module _ (i np nc left : ℕ) where
     pub curves : nc + length (curves_new h) ≤ 128
     pub relations : left + length (relations_new h) ≤ 256
 
-  module _ (c : Curve) (k : ℕ) where
-    pub roomy : (plan : Plan) → room_with_left i np nc left (additions_for c.kind plan) ≡ 0 → Roomy (takes c.kind plan) (change_for c k nc plan i)
+  module _ (c : Curve) where
+    pub roomy : (plan : Plan) → room_with_left i np nc left (additions_for c.kind plan) ≡ 0 → Roomy (takes c.kind plan) (change_for c plan i)
     unfolding additions_for change_for takes
     roomy Whole z = let u = space origin origin 0 0 0 z in record { ids = omega (arith, u.ids); points = omega (arith, u.points); curves = omega (arith, u.curves); relations = omega (arith, u.relations) }
     roomy (Cut w b) z = let u = space w.at w.at 0 0 0 z in record { ids = omega (arith, u.ids); points = omega (arith, u.points); curves = omega (arith, u.curves); relations = omega (arith, u.relations) }
     roomy (CutTwo w v b) z = go (is_circle c.kind) z
       where
         go : (x : Bool) → room_with_left i np nc left (ite x (mk_additions w.at v.at 1 0 1) (mk_additions w.at v.at 1 1 2)) ≡ 0
-            → Roomy (ite x 3 4) (ite x (cut_once c k (half_circles w.at v.at i) b (pin_relation w.pin i) (pin_relation v.pin (suc i))) (cut_middle c nc w v i))
+            → Roomy (ite x 3 4) (ite x (cut_once c (half_circles w.at v.at i) b (pin_relation w.pin i) (Some (pin_relation v.pin (suc i)))) (cut_middle c w v i))
         go true z = let u = space w.at v.at 1 0 1 z in record { ids = omega (arith, u.ids); points = omega (arith, u.points); curves = omega (arith, u.curves); relations = omega (arith, u.relations) }
         go false z = let u = space w.at v.at 1 1 2 z in record { ids = omega (arith, u.ids); points = omega (arith, u.points); curves = omega (arith, u.curves); relations = omega (arith, u.relations) }
     roomy (Divide v) z = let u = space v v 0 0 0 z in record { ids = omega (arith, u.ids); points = omega (arith, u.points); curves = omega (arith, u.curves); relations = omega (arith, u.relations) }
@@ -154,25 +155,25 @@ read_slots r = go (eqb (field r curve_kind_at 1) 4)
     go true = refl
     go false = refl
 
-pub change_slots : (c : Curve) (k n i : ℕ) → length c.slots ≡ 8 → (plan : Plan) → EightSlots (change_for c k n plan i)
+pub change_slots : (c : Curve) (i : ℕ) → length c.slots ≡ 8 → (plan : Plan) → EightSlots (change_for c plan i)
 unfolding change_for
-change_slots c k n i h Whole = (h, refl)
-change_slots c k n i h (Cut w b) = (h, h)
-change_slots c k n i h (CutTwo w v b) = go (is_circle c.kind)
+change_slots c i h Whole = (h, refl)
+change_slots c i h (Cut w b) = (h, tt)
+change_slots c i h (CutTwo w v b) = go (is_circle c.kind)
   where
-    go : (x : Bool) → EightSlots (ite x (cut_once c k (half_circles w.at v.at i) b (pin_relation w.pin i) (pin_relation v.pin (suc i))) (cut_middle c n w v i))
-    go true = (h, h)
+    go : (x : Bool) → EightSlots (ite x (cut_once c (half_circles w.at v.at i) b (pin_relation w.pin i) (Some (pin_relation v.pin (suc i)))) (cut_middle c w v i))
+    go true = (h, tt)
     go false = (h, refl)
-change_slots c k n i h (Divide v) = (h, refl)
-change_slots c k n i h (DivideTwo v t) = (h, refl)
-change_slots c k n i h (Move b v w) = (h, refl)
+change_slots c i h (Divide v) = (h, refl)
+change_slots c i h (DivideTwo v t) = (h, refl)
+change_slots c i h (Move b v w) = (h, refl)
 
 -- ---- answers, by what the code knows
 
-answered_as : (n n' : ℕ) (image image' : List ℕ) (gone gone' : Removed) (before after : List ℕ) (r : Applied) → n ≡ n' → image ≡ image' → gone ≡ gone' → Answered n' image' gone' before after r → Answered n image gone before after r
+answered_as : (n n' : ℕ) (image image' : List ℕ) (gone gone' : Removed) (before after : List ℕ) (r : Answer) → n ≡ n' → image ≡ image' → gone ≡ gone' → Answered n' image' gone' before after r → Answered n image gone before after r
 answered_as n n' image image' gone gone' before after r e f g w = rw (e, f, g) w
 
-module _ (next : ℕ) (p cu r : List ℕ) (k : ℕ) (plan : Plan) (before after : List ℕ) (res : Applied) (c : Curve) (e : Extent) (os : List ℕ)
+module _ (next : ℕ) (p cu r : List ℕ) (k : ℕ) (plan : Plan) (before after : List ℕ) (res : Answer) (c : Curve) (e : Extent) (os : List ℕ)
     (is : c ≡ target_in (drawing_read next p cu r) k) (ee : e ≡ extent_of c.kind c.id plan)
     (eo : os ≡ unused_by (others c.id (curves_in cu)) (orphan_list (candidates_for c.kind plan))) (zero : plan_refusal (drawing_read next p cu r) k plan ≡ 0) where
   abbrev d : Drawing
@@ -212,20 +213,20 @@ module _ (next : ℕ) (p cu r : List ℕ) (k : ℕ) (plan : Plan) (before after 
       let y = guard_number_none (suits (target_in d k).kind plan) 10 _ (omega arith) x.1 in
       rw is y.1
 
-  pub room_at : e.whole ≡ false → Roomy next (length p / point_size) (length cu / curve_size) (length (left_rows e [] r)) (takes c.kind plan) (change_for c k (length cu / curve_size) plan next)
+  pub room_at : e.whole ≡ false → Roomy next (length p / point_size) (length cu / curve_size) (length (left_rows e [] r)) (takes c.kind plan) (change_for c plan next)
   room_at w =
       let b : is_whole plan ≡ false = sym whole_is ∙ w in
       let l : left_over (extent_of c.kind c.id plan) (relations_in r) ≡ length (left_rows e [] r) = sym (released_count c plan r b) ∙ ap (λ x. length (left_rows x [] r)) (sym ee) in
       let z : room_with_left next (length p / point_size) (length cu / curve_size) (length (left_rows e [] r)) (additions_for c.kind plan) ≡ 0 =
       rw (← length_points p, ← length_curves cu, ← l) (sym (ap (λ x. ite x 0 (room_with_left next (length (points_in p)) (length (curves_in cu)) (left_over (extent_of c.kind c.id plan) (relations_in r)) (additions_for c.kind plan))) b) ∙ room_is) in
-      roomy next (length p / point_size) (length cu / curve_size) (length (left_rows e [] r)) c k plan z
+      roomy next (length p / point_size) (length cu / curve_size) (length (left_rows e [] r)) c plan z
 
-  module _ (h : Change) (eh : h ≡ change_for c k (length cu / curve_size) plan (ite (leb (next + takes c.kind plan) limits.ids) next 0)) (w : e.whole ≡ false) where
-    pub change_is : h ≡ change_for c k (length cu / curve_size) plan next
-    change_is = eh ∙ ap (λ b. change_for c k (length cu / curve_size) plan (ite b next 0)) (le-leb _ _ (room_at w).ids)
+  module _ (h : Change) (eh : h ≡ change_for c plan (ite (leb (next + takes c.kind plan) limits.ids) next 0)) (w : e.whole ≡ false) where
+    pub change_is : h ≡ change_for c plan next
+    change_is = eh ∙ ap (λ b. change_for c plan (ite b next 0)) (le-leb _ _ (room_at w).ids)
 
     planned : plan_change d k plan ≡ h
-    planned = sym (change_is ∙ rw (← length_curves cu) (ap (λ (c : Curve). change_for c k (length (curves_in cu)) plan next) is))
+    planned = sym (change_is ∙ ap (λ (c : Curve). change_for c plan next) is)
 
     pub changed_answered : Answered 0 (rows_image h.next (points_after os h p) (curves_after k h cu) (relations_after e os h r)) h.removed before after res → RowsApplied next p cu r k plan before after res
     changed_answered a =
@@ -238,10 +239,10 @@ module _ (next : ℕ) (p cu r : List ℕ) (k : ℕ) (plan : Plan) (before after 
     pub changed_within : length c.slots ≡ 8 → TablesWithin p cu r → k < length cu / curve_size → EightSlots h × CountsWithin (length (points_after os h p)) (length (curves_after k h cu)) (length (relations_after e os h r))
     changed_within s t b =
         let m = room_at w in
-        let x : length (points_new h) ≡ length (points_new (change_for c k (length cu / curve_size) plan next)) = ap (λ (h : Change). length (points_new h)) change_is in
-        let y : length (curves_new h) ≡ length (curves_new (change_for c k (length cu / curve_size) plan next)) = ap (λ (h : Change). length (curves_new h)) change_is in
-        let z : length (relations_new h) ≡ length (relations_new (change_for c k (length cu / curve_size) plan next)) = ap (λ (h : Change). length (relations_new h)) change_is in (
-          subst EightSlots (sym change_is) (change_slots c k (length cu / curve_size) next s plan),
+        let x : length (points_new h) ≡ length (points_new (change_for c plan next)) = ap (λ (h : Change). length (points_new h)) change_is in
+        let y : length (curves_new h) ≡ length (curves_new (change_for c plan next)) = ap (λ (h : Change). length (curves_new h)) change_is in
+        let z : length (relations_new h) ≡ length (relations_new (change_for c plan next)) = ap (λ (h : Change). length (relations_new h)) change_is in (
+          subst EightSlots (sym change_is) (change_slots c next s plan),
           record {
             points = omega (arith, length_points_after os h p, staying_few os p, length_rows_in point_size p, m.points, x);
             curves = omega (arith, length_after k cu b h, m.curves, y);

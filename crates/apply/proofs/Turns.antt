@@ -4,13 +4,14 @@ use mathlib.Core.Bool.{Bool, true, false, not, ◌&&◌, ◌||◌}
 use mathlib.Core.List.{List, [], ◌∷◌, map, ◌++◌}
 use Prim.Native.Nat.{ℕ, ◌+◌, ◌*◌, ◌-◌, ◌/◌, ◌≤◌, ◌<◌}
 use native.Mathlib.Omega.{arith}
-use lib.Dec.{leb, eqb}
+use lib.Dec.{leb, ltb, eqb}
 use lib.ListN.{length, take, drop, get_or, length-map, take-append-drop}
 use lib.Seq.{take_all}
-use borrow.Author.Tests.{le-leb, leb-true, eq-eqb, ne_eqb}
+use borrow.Author.Tests.{le-leb, leb-true}
 use Rattle.big_endian.specs.Fields.{field, over}
+use Rattle.std.specs.Prelude.{Option, Some, None, is_some, option_to_list, cond}
+use Rattle.std.specs.List.{filter}
 use Rattle.sketch.specs.declared.Curve.{Curve}
-use Rattle.sketch.specs.declared.Relation.{Relation}
 use Rattle.sketch.specs.Lists.{ite, keep, concat_map}
 use Rattle.sketch.specs.Lookup.{among}
 use Rattle.sketch.specs.Blanks.{no_curve}
@@ -20,22 +21,24 @@ use Rattle.sketch.proofs.Lists.{keep_append, keep_twice, keep_same, keep_true}
 use Rattle.image.specs.Records.{point_size, curve_size, relation_size}
 use Rattle.image.specs.Image.{row_id}
 use Rattle.image.specs.Decode.{read_curve, read_relation}
-use Rattle.image.specs.Encode.{encode_point, encode_relation}
+use Rattle.image.specs.Encode.{encode_relation}
 use Rattle.image.proofs.Relations.{length_relation}
 use Rattle.rows.specs.Rows.{rows_in, row_in, curves_in}
 use Rattle.rows.proofs.Rows.{length_rows_in}
 use Rattle.edit_plan.specs.declared.Extent.{Extent}
-use Rattle.edit_plan.specs.declared.Kept.{Kept}
 use Rattle.edit_plan.specs.declared.Orphans.{Orphans}
-use Rattle.edit_plan.specs.declared.Change.{Change}
 use Rattle.edit_plan.specs.Tables.{uses, others}
-use Rattle.edit_plan.specs.Changes.{kept_of, left_of, orphan_list, staying, unused_by, points_new, curves_new, relations_new}
+use Rattle.edit_plan.specs.Changes.{left_of, orphan_list, staying, unused_by}
 use Rattle.edit_plan.proofs.Loops.{single, keep_is}
-use Rattle.edit_plan.proofs.Unused.{uses_append, unused_in, unused_on, unused_past, none_go}
+use Rattle.edit_plan.proofs.Unused.{uses_append, unused_in, unused_on, unused_past}
 use Rattle.edit_plan.proofs.Leaves.{among_append, or_false}
 use Rattle.apply.specs.Clauses.{row_bytes, concerned, left_row, staying_rows, TablesWithin}
 use Rattle.apply.proofs.RowRuns.{Long, rows_long, each_take, each_all, each_map}
 use Rattle.apply.proofs.Walks.{up_to}
+
+pub at_most_one : {A : Type 0} (o : Option A) → length (option_to_list o) ≤ 1
+at_most_one None = omega arith
+at_most_one (Some a) = omega arith
 
 -- ---- limits
 
@@ -86,18 +89,31 @@ stays_so os r p b e f z = ap (λ x. ite (not x) (r ∷ []) []) (sym (ap (λ x. a
 pub goes_so : (os : List ℕ) (r : List ℕ) (p : ℕ) (b : Bool) → p ≡ row_id r → b ≡ among p os → b ≡ true → stay os r ≡ []
 goes_so os r p b e f z = ap (λ x. ite (not x) (r ∷ []) []) (sym (ap (λ x. among x os) e) ∙ sym f ∙ z)
 
--- where nothing goes, all stay
-pub all_stay : (os : Orphans) (t : List ℕ) → ((os.pgoes || os.qgoes) || os.rgoes) ≡ false → staying_rows (orphan_list os) t ≡ rows_in point_size t
-unfolding staying_rows
-all_stay os t h = rw (none_go os h) (keep_true (λ r. staying [] (row_id r)) (λ r. refl) (rows_in point_size t))
+-- the rows that pass a test
+filtered : {A : Type 0} (f : A → Bool) (l : List A) → filter f l ≡ keep f l
+filtered f [] = refl
+filtered f (a ∷ l) = go (f a) (filtered f l)
+  where
+    go : (b : Bool) → filter f l ≡ keep f l → cond b (a ∷ filter f l) (filter f l) ≡ ite b (a ∷ keep f l) (keep f l)
+    go true e = ap (λ t. a ∷ t) e
+    go false e = e
 
-pub all_put : (os : Orphans) (t l : List ℕ) (at : ℕ) (m : List ℕ) (end : ℕ) → ((os.pgoes || os.qgoes) || os.rgoes) ≡ false
-    → m ≡ over l at (row_bytes (take (length t / point_size - 0) (drop 0 (rows_in point_size t)))) → end ≡ at + (length t / point_size - 0) * point_size
+pub staying_kept : (os t : List ℕ) (rows : List (List ℕ)) → rows ≡ rows_in point_size t → filter (λ r. staying os (row_id r)) rows ≡ staying_rows os t
+unfolding staying_rows
+staying_kept os t rows e = filtered (λ r. staying os (row_id r)) rows ∙ ap (keep (λ r. staying os (row_id r))) e
+
+-- where nothing goes, all stay
+pub all_stay : (os : Orphans) (t : List ℕ) → orphan_list os ≡ [] → staying_rows (orphan_list os) t ≡ rows_in point_size t
+unfolding staying_rows
+all_stay os t h = rw (h) (keep_true (λ r. staying [] (row_id r)) (λ r. refl) (rows_in point_size t))
+
+pub all_put : (os : Orphans) (t l : List ℕ) (at : ℕ) (m : List ℕ) (end n : ℕ) → n ≡ length t / point_size → orphan_list os ≡ []
+    → m ≡ over l at (row_bytes (take (n - 0) (drop 0 (rows_in point_size t)))) → end ≡ at + (n - 0) * point_size
     → (m ≡ over l at (row_bytes (staying_rows (orphan_list os) t))) × (end ≡ at + length (staying_rows (orphan_list os) t) * point_size)
-all_put os t l at m end h e f =
+all_put os t l at m end n z h e f =
     let s = all_stay os t h in
-    let n = length_rows_in point_size t in
-    let all : take (length t / point_size - 0) (rows_in point_size t) ≡ rows_in point_size t = take_all (length t / point_size - 0) (rows_in point_size t) (omega arith) in
+    let k = length_rows_in point_size t in
+    let all : take (n - 0) (rows_in point_size t) ≡ rows_in point_size t = take_all (n - 0) (rows_in point_size t) (omega arith) in
     (e ∙ ap (λ x. over l at (row_bytes x)) (all ∙ sym s), omega (arith, ap length s))
 
 -- ---- the relations that are left
@@ -107,10 +123,10 @@ pub concerned_is : (e : Extent) (os r row : List ℕ) (a b : ℕ) (p q : Bool) �
 concerned_is e os r row a b p q f ea eb ep eq = rw (ep, eq, ea, eb, f)
 
 -- where no point goes only the curve counts
-pub concerned_alone : (e : Extent) (os : Orphans) (r row : List ℕ) (a b : ℕ) → r ≡ row → a ≡ field r 1 4 → b ≡ field r 5 4 → ((os.pgoes || os.qgoes) || os.rgoes) ≡ false
+pub concerned_alone : (e : Extent) (os : Orphans) (r row : List ℕ) (a b : ℕ) → r ≡ row → a ≡ field r 1 4 → b ≡ field r 5 4 → orphan_list os ≡ []
     → (eqb a e.id || eqb b e.id) ≡ concerned e (orphan_list os) row
 concerned_alone e os r row a b f ea eb h =
-    let z = none_go os h in
+    let z = h in
     let g = concerned_is e (orphan_list os) r row a b false false f ea eb (sym (ap (among a) z)) (sym (ap (among b) z)) in
     sym (or_false (eqb a e.id || eqb b e.id)) ∙ sym (or_false ((eqb a e.id || eqb b e.id) || false)) ∙ g
 
@@ -123,10 +139,12 @@ unfolding left_row
 left_looked e os r h = rw h
 
 -- as many rows are left as relations
-pub left_count : (e : Extent) (os t : List ℕ) (i j : ℕ) → j ≡ i → concerned e os (row_in relation_size t i) ≡ true → length (left_of e os (read_relation (row_in relation_size t j))) ≡ length (left_row e os (row_in relation_size t i))
-left_count e os t i j ji h =
-    ap (λ x. length (left_of e os (read_relation (row_in relation_size t x)))) ji
-    ∙ sym (ap length (left_looked e os (row_in relation_size t i) h) ∙ length-map (left_of e os (read_relation (row_in relation_size t i))) encode_relation)
+pub left_count : (e : Extent) (os r : List ℕ) → concerned e os r ≡ true → length (left_of e os (read_relation r)) ≡ length (left_row e os r)
+left_count e os r h = sym (ap length (left_looked e os r h) ∙ length-map (left_of e os (read_relation r)) encode_relation)
+
+pub some_there : {A : Type 0} (o : Option A) → is_some o ≡ ltb 0 (length (option_to_list o))
+some_there None = refl
+some_there (Some a) = refl
 
 pub left_long : (e : Extent) (os r : List ℕ) → length r ≡ relation_size → Long relation_size (left_row e os r)
 unfolding left_row
@@ -140,10 +158,6 @@ pub lefts_long : (e : Extent) (os t : List ℕ) (i : ℕ) → Long relation_size
 lefts_long e os t i =
     each_all (λ r. length r ≡ relation_size) (left_row e os) (λ r. length r ≡ relation_size) (left_long e os) (take i (rows_in relation_size t))
     (each_take (λ r. length r ≡ relation_size) i (rows_in relation_size t) (rows_long relation_size t))
-
--- of a relation that is looked at, what `left_of` answers
-pub left_kept : (e : Extent) (os row : List ℕ) (v : Relation) (x : Kept) (l : List Relation) → v ≡ read_relation row → kept_of x ≡ left_of e os v → kept_of x ≡ l → left_of e os (read_relation row) ≡ l
-left_kept e os row v x l f g h = sym (ap (left_of e os) f) ∙ sym g ∙ h
 
 -- ---- points that no curve uses
 
@@ -176,39 +190,8 @@ none_left xs ys ps h =
     both : (p : ℕ) → not (among p (uses (xs ++ ys))) ≡ (not (among p (uses xs)) && not (among p (uses ys)))
     both p = ap not (ap (among p) (uses_append xs ys) ∙ among_append p (uses xs) (uses ys)) ∙ go (among p (uses xs)) (among p (uses ys))
 
-pub none_unused : (g i : ℕ) (cs : List Curve) (ps : List ℕ) (os : Orphans) → ((os.pgoes || os.qgoes) || os.rgoes) ≡ false → orphan_list os ≡ unused_by (others g (take i cs)) ps → orphan_list os ≡ unused_by (others g cs) ps
+pub none_unused : (g i : ℕ) (cs : List Curve) (ps : List ℕ) (os : Orphans) → orphan_list os ≡ [] → orphan_list os ≡ unused_by (others g (take i cs)) ps → orphan_list os ≡ unused_by (others g cs) ps
 none_unused g i cs ps os h e =
-    let z = none_go os h in
+    let z = h in
     z ∙ sym (ap (λ (x : List Curve). unused_by (others g x) ps) (sym (take-append-drop i cs))
     ∙ ap (λ (x : List Curve). unused_by x ps) (keep_append (λ (c : Curve). not (eqb g c.id)) (take i cs) (drop i cs)) ∙ none_left (others g (take i cs)) (others g (drop i cs)) ps (sym e ∙ z))
-
--- ---- what a change adds
-
-module _ (h : Change) where
-  pub one_point : h.points ≡ 0 → map encode_point (points_new h) ≡ encode_point h.p ∷ []
-  one_point e = rw (eq-eqb h.points 0 e)
-
-  pub two_points : (h.points ≡ 0 → ⊥) → map encode_point (points_new h) ≡ encode_point h.p ∷ encode_point h.q ∷ []
-  two_points e = rw (ne_eqb h.points 0 e)
-
-  pub no_curve_lem : h.curves ≡ 0 → curves_new h ≡ []
-  no_curve_lem e = rw (eq-eqb h.curves 0 e)
-
-  pub one_curve : (h.curves ≡ 0 → ⊥) → curves_new h ≡ h.added ∷ []
-  one_curve e = rw (ne_eqb h.curves 0 e)
-
-  pub one_relation : h.third ≡ 0 → relations_new h ≡ h.r ∷ []
-  one_relation e = rw (eq-eqb h.third 0 e)
-
-  pub two_relations : (h.third ≡ 0 → ⊥) → h.third ≡ 1 → relations_new h ≡ h.r ∷ h.s ∷ []
-  two_relations n e = rw (ne_eqb h.third 0 n, eq-eqb h.third 1 e)
-
-  pub three_relations : (h.third ≡ 0 → ⊥) → (h.third ≡ 1 → ⊥) → relations_new h ≡ h.r ∷ h.s ∷ h.t ∷ []
-  three_relations n e = rw (ne_eqb h.third 0 n, ne_eqb h.third 1 e)
-
-  pub relations_more : (h.third ≡ 0 → ⊥) → 2 ≤ length (relations_new h)
-  relations_more n = rw (ne_eqb h.third 0 n) (go (eqb h.third 1))
-    where
-      go : (b : Bool) → 2 ≤ length (ite b (h.r ∷ h.s ∷ []) (h.r ∷ h.s ∷ h.t ∷ []))
-      go true = omega arith
-      go false = omega arith

@@ -16,7 +16,7 @@ use Rattle.edit_plan.specs.Steps.{nothing}
 use Rattle.edit_plan.specs.Suited.{suits}
 use Rattle.edit_plan.specs.Room.{left_over, room_for}
 use Rattle.edit_plan.specs.Changes.{is_whole, change_for, points_new, curves_new, relations_new, extent_of, orphan_list, staying, left_of, unused_by, candidates_for, whole_gone}
-use Rattle.apply.specs.declared.Applied.{Applied}
+use Rattle.apply.specs.Answers.{Answer}
 
 -- ---- a plan for the curve at place k
 
@@ -31,7 +31,7 @@ abbrev pub plan_orphans : Drawing → ℕ → Plan → List ℕ
 plan_orphans d k plan = unused_by (others (target_in d k).id d.curves) (orphan_list (candidates_for (target_in d k).kind plan))
 
 abbrev pub plan_change : Drawing → ℕ → Plan → Change
-plan_change d k plan = change_for (target_in d k) k (length d.curves) plan d.next
+plan_change d k plan = change_for (target_in d k) plan d.next
 
 -- 8 where there is no such curve, 10 where the plan doesn't suit it, then what its additions are refused by
 abbrev pub plan_refusal : Drawing → ℕ → Plan → ℕ
@@ -78,14 +78,14 @@ abbrev pub refusal_with : ℕ → List ℕ → List ℕ → ℕ
 refusal_with n image out = ite (eqb n 0) (ite (leb (length image) (length out)) 0 25) n
 
 -- on refusal three zeros, size 0 and all bytes as they were; else the report, the image's size, and the image in front of what stays
-pub record Answered (n : ℕ) (image : List ℕ) (gone : Removed) (before after : List ℕ) (r : Applied) : Type 0 where
+pub record Answered (n : ℕ) (image : List ℕ) (gone : Removed) (before after : List ℕ) (r : Answer) : Type 0 where
   pub refusal : r.refusal ≡ refusal_with n image before
   pub removed : r.removed ≡ ite (eqb r.refusal 0) gone nothing
   pub size : r.size ≡ ite (eqb r.refusal 0) (length image) 0
   pub bytes : after ≡ ite (eqb r.refusal 0) (over before 0 image) before
 
 -- of a good image, every plan is answered so, for every place
-abbrev pub PlanWritten : List ℕ → ℕ → Plan → List ℕ → List ℕ → Applied → Type 0
+abbrev pub PlanWritten : List ℕ → ℕ → Plan → List ℕ → List ℕ → Answer → Type 0
 PlanWritten s k plan before after r =
     image_fault s ≡ 0
     → Answered (plan_refusal (drawing_of s) k plan) (encode (drawing_after (drawing_of s) k plan)) (removed_by (drawing_of s) k plan) before after r

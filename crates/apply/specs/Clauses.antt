@@ -1,5 +1,5 @@
 -- The contracts of private functions, which nothing outside needs: tables as lists of rows, whatever their bytes.
-use Rattle.std.specs.Prelude.{ℕ, suc, ◌+◌, ◌≤◌, ◌≡◌, Bool, ◌||◌, List, [], ◌∷◌, ◌++◌, map, length, take, drop, set, get_or, eqb}
+use Rattle.std.specs.Prelude.{ℕ, suc, ◌≤◌, ◌≡◌, Bool, ◌||◌, List, [], ◌∷◌, ◌++◌, map, length, take, drop, set, get_or, eqb, IfSome}
 use Rattle.big_endian.specs.Fields.{field}
 use Rattle.sketch.specs.Lists.{ite, keep, concat_map}
 use Rattle.sketch.specs.Lookup.{among}
@@ -21,7 +21,7 @@ use Rattle.sketch.specs.declared.Point.{Point}
 use Rattle.edit_plan.specs.declared.Pin.{Pin}
 use Rattle.apply.specs.Moved.{pinned_by, moved_to, move_refusal}
 use Rattle.apply.specs.Applied.{plan_extent, plan_orphans, plan_change, plan_refusal, removed_by, Answered}
-use Rattle.apply.specs.declared.Applied.{Applied}
+use Rattle.apply.specs.Answers.{Answer}
 use Rattle.apply.specs.declared.TableCounts.{TableCounts}
 
 -- rows side by side
@@ -67,7 +67,7 @@ unfoldable pub relations_after : Extent → List ℕ → Change → List ℕ →
 relations_after e os h relations = left_rows e os relations ++ map encode_relation (relations_new h)
 
 abbrev pub EightSlots : Change → Type 0
-EightSlots h = (length h.kept.slots ≡ 8) × (length h.added.slots ≡ 8)
+EightSlots h = (length h.kept.slots ≡ 8) × IfSome h.added (λ c. length c.slots ≡ 8)
 
 -- the image of three tables
 unfoldable pub rows_image : ℕ → List (List ℕ) → List (List ℕ) → List (List ℕ) → List ℕ
@@ -86,10 +86,10 @@ TablesWithin points curves relations =
 abbrev pub mk_table_counts : ℕ → ℕ → ℕ → TableCounts
 mk_table_counts np nc nr = record { points = np; curves = nc; relations = nr }
 
-abbrev pub refused_by : ℕ → Applied
+abbrev pub refused_by : ℕ → Answer
 refused_by n = record { refusal = n; removed = nothing; size = 0 }
 
-abbrev pub written_as : Removed → ℕ → Applied
+abbrev pub written_as : Removed → ℕ → Answer
 written_as gone size = record { refusal = 0; removed = gone; size = size }
 
 -- the image that a plan makes of tables
@@ -102,7 +102,7 @@ image_after next points curves relations k plan =
     ite (is_whole plan) (rows_image next (staying_rows os points) (curves_without k curves) (left_rows e os relations))
     (rows_image h.next (points_after os h points) (curves_after k h curves) (relations_after e os h relations))
 
-abbrev pub RowsApplied : ℕ → List ℕ → List ℕ → List ℕ → ℕ → Plan → List ℕ → List ℕ → Applied → Type 0
+abbrev pub RowsApplied : ℕ → List ℕ → List ℕ → List ℕ → ℕ → Plan → List ℕ → List ℕ → Answer → Type 0
 RowsApplied next points curves relations k plan before after r =
     let d = drawing_read next points curves relations in
     Answered (plan_refusal d k plan) (image_after next points curves relations k plan) (removed_by d k plan) before after r
@@ -119,6 +119,6 @@ relations_with w p relations = rows_in relation_size relations ++ map encode_rel
 abbrev pub image_moved : ℕ → List ℕ → List ℕ → List ℕ → ℕ → Point → Pin → List ℕ
 image_moved next points curves relations k p w = rows_image next (points_with k p points) (rows_in curve_size curves) (relations_with w p.id relations)
 
-abbrev pub RowsMoved : ℕ → List ℕ → List ℕ → List ℕ → ℕ → Vec2 → Pin → List ℕ → List ℕ → Applied → Type 0
+abbrev pub RowsMoved : ℕ → List ℕ → List ℕ → List ℕ → ℕ → Vec2 → Pin → List ℕ → List ℕ → Answer → Type 0
 RowsMoved next points curves relations k v w before after r =
     Answered (move_refusal (points_in points) (relations_in relations) k v w) (image_moved next points curves relations k (moved_to v (get_or (points_in points) k no_point)) w) nothing before after r

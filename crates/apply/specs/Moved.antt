@@ -13,7 +13,7 @@ use Rattle.edit_plan.specs.declared.Pin.{Pin}
 use Rattle.edit_plan.specs.declared.Pin.TheVariants.{On, At}
 use Rattle.edit_plan.specs.Tables.{ok_position}
 use Rattle.edit_plan.specs.Steps.{nothing}
-use Rattle.apply.specs.declared.Applied.{Applied}
+use Rattle.apply.specs.Answers.{Answer}
 use Rattle.apply.specs.Applied.{Answered}
 
 -- the relation that a pin of the point p adds, none where it is to the point itself
@@ -48,7 +48,7 @@ move_refusal ps rs k v w =
 abbrev pub MoveRefused : List ℕ → ℕ → Vec2 → Pin → ℕ → Type 0
 MoveRefused s k v w r = image_fault s ≡ 0 → r ≡ move_refusal (drawing_of s).points (drawing_of s).relations k v w
 
-abbrev pub MoveWritten : List ℕ → ℕ → Vec2 → Pin → List ℕ → List ℕ → Applied → Type 0
+abbrev pub MoveWritten : List ℕ → ℕ → Vec2 → Pin → List ℕ → List ℕ → Answer → Type 0
 MoveWritten s k v w before after r =
     image_fault s ≡ 0
     → Answered (move_refusal (drawing_of s).points (drawing_of s).relations k v w) (encode (drawing_moved (drawing_of s) k v w)) nothing before after r

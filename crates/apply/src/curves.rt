@@ -13,7 +13,7 @@ use image::{CURVE_SIZE, write_curve};
 pub(crate) fn count_new_curves(ch: Change) -> usize
     ensures { result ≡ length (curves_new ch) }
 {
-    if ch.curves == 0 { 0 } else { 1 }
+    usize::from(ch.added.is_some())
 }
 
 // Writes all curves of the new image: that at place k as the change has it, and the one that it adds.
@@ -23,11 +23,9 @@ pub(crate) fn write_curves_after(curves: &[u8], k: usize, ch: Change, out: &mut 
 {
     let n = curves.len() / CURVE_SIZE;
     let a = put_rows(curves, CURVE_SIZE, 0, k, out, at);
-    let kept = ch.kept;
-    write_curve(out, a, kept);
+    write_curve(out, a, ch.kept);
     let b = put_rows(curves, CURVE_SIZE, k + 1, n, out, a + CURVE_SIZE);
-    if ch.curves != 0 {
-        let added = ch.added;
+    if let Some(added) = ch.added {
         write_curve(out, b, added);
     }
 }

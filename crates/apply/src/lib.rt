@@ -5,6 +5,7 @@
 mod changed;
 mod curves;
 mod image_plan;
+mod limits;
 mod moved;
 mod points;
 mod refusals;
@@ -17,10 +18,9 @@ use edit_plan::Removed;
 pub use image_plan::apply_plan;
 pub use moved::{apply_move, count_pinned, move_refusal};
 
-// What applying a plan to an image answers: the number of a refusal, or 0 with the report and the size of the new image.
+// What applying a plan to an image answers: the report, and the size of the new image.
 #[derive(Clone, Copy)]
 pub struct Applied {
-    pub refusal: u8,
     pub removed: Removed,
     pub size: usize,
 }

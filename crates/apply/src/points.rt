@@ -2,46 +2,24 @@
 ghost use Rattle.std.specs.Prelude.{◌≡◌, map, ◌+◌, ◌*◌, ◌/◌, ◌≤◌, ◌<◌, length};
 ghost use Rattle.big_endian.specs.Fields.{over};
 ghost use Rattle.image.specs.Records.{point_size};
-ghost use Rattle.image.specs.Image.{row_id};
 ghost use Rattle.image.specs.Encode.{encode_point};
 ghost use Rattle.edit_plan.specs.Changes.{orphan_list, points_new};
-ghost use Rattle.rows.specs.Rows.{row_in};
 ghost use Rattle.apply.specs.Clauses.{row_bytes, staying_rows, points_after};
 
 use crate::runs::put_rows;
 use big_endian::get4;
-use edit_plan::{Change, Orphans, is_orphan};
+use edit_plan::{Change, Orphans};
 use image::{POINT_SIZE, write_point};
-use sketch::Id;
-
-// The id of the point at a place.
-fn point_id(points: &[u8], i: usize) -> Id
-    requires { i < length points.now / point_size }
-    ensures { result ≡ row_id (row_in point_size points.now i) }
-{
-    let at = i * POINT_SIZE;
-    let end = at + POINT_SIZE;
-    get4(&points[at..end], 0)
-}
 
 // How many points stay.
 pub(crate) fn count_staying(points: &[u8], os: Orphans) -> usize
     ensures { result ≡ length (staying_rows (orphan_list os) points.now) }
 {
-    let n = points.len() / POINT_SIZE;
-    if !(os.pgoes | os.qgoes | os.rgoes) {
-        return n;
+    let (rows, _) = points.as_chunks::<POINT_SIZE>();
+    if os.is_empty() {
+        return rows.len();
     }
-    let mut i: usize = 0;
-    let mut j: usize = 0;
-    while i < n {
-        let id = point_id(points, i);
-        i += 1;
-        if !is_orphan(os, id) {
-            j += 1;
-        }
-    }
-    j
+    rows.iter().filter(|r| !os.contains(get4(*r, 0))).count()
 }
 
 // Writes the points that stay; answers the place after them.
@@ -49,20 +27,19 @@ pub(crate) fn write_staying(points: &[u8], os: Orphans, out: &mut [u8], at: usiz
     requires { at + length (staying_rows (orphan_list os) points.now) * point_size ≤ length out.old }
     ensures { (out.new ≡ over out.old at (row_bytes (staying_rows (orphan_list os) points.now))) × (result ≡ at + length (staying_rows (orphan_list os) points.now) * point_size) }
 {
-    let n = points.len() / POINT_SIZE;
-    if !(os.pgoes | os.qgoes | os.rgoes) {
+    let (rows, _) = points.as_chunks::<POINT_SIZE>();
+    let n = rows.len();
+    if os.is_empty() {
         return put_rows(points, POINT_SIZE, 0, n, out, at);
     }
-    let mut from: usize = 0;
-    let mut i: usize = 0;
-    let mut to: usize = at;
-    while i < n {
-        let id = point_id(points, i);
-        i += 1;
-        if is_orphan(os, id) {
-            to = put_rows(points, POINT_SIZE, from, i - 1, out, to);
-            from = i;
+    let mut from = 0;
+    let mut to = at;
+    for (i, r) in rows.iter().enumerate() {
+        if !os.contains(get4(r, 0)) {
+            continue;
         }
+        to = put_rows(points, POINT_SIZE, from, i, out, to);
+        from = i + 1;
     }
     put_rows(points, POINT_SIZE, from, n, out, to)
 }
@@ -71,7 +48,7 @@ pub(crate) fn write_staying(points: &[u8], os: Orphans, out: &mut [u8], at: usiz
 pub(crate) fn count_new_points(ch: Change) -> usize
     ensures { result ≡ length (points_new ch) }
 {
-    if ch.points == 0 { 1 } else { 2 }
+    1 + usize::from(ch.second_point.is_some())
 }
 
 // Writes the points that a change adds.
@@ -79,11 +56,9 @@ fn write_new_points(ch: Change, out: &mut [u8], at: usize)
     requires { at + length (points_new ch) * point_size ≤ length out.old }
     ensures { out.new ≡ over out.old at (row_bytes (map encode_point (points_new ch))) }
 {
-    let p = ch.p;
-    write_point(out, at, p);
-    if ch.points != 0 {
-        let q = ch.q;
-        write_point(out, at + POINT_SIZE, q);
+    write_point(out, at, ch.point);
+    if let Some(second) = ch.second_point {
+        write_point(out, at + POINT_SIZE, second);
     }
 }
 

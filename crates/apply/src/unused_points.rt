@@ -4,7 +4,7 @@ ghost use Rattle.edit_plan.specs.Tables.{others};
 ghost use Rattle.edit_plan.specs.Changes.{candidates_for, orphan_list, unused_by};
 ghost use Rattle.rows.specs.Rows.{curves_in};
 
-use edit_plan::{Orphans, Plan, candidates_of, unless_used};
+use edit_plan::{Orphans, Plan, candidates_of};
 use image::CURVE_SIZE;
 use rows::curve_at;
 use sketch::{Curve, Id};
@@ -13,17 +13,14 @@ use sketch::{Curve, Id};
 fn unused_in(curves: &[u8], g: Id, os: Orphans) -> Orphans
     ensures { orphan_list result ≡ unused_by (others g (curves_in curves.now)) (orphan_list os) }
 {
-    let n = curves.len() / CURVE_SIZE;
     let mut unused = os;
-    let mut i: usize = 0;
-    while i < n {
-        if !(unused.pgoes | unused.qgoes | unused.rgoes) {
+    for i in 0..curves.len() / CURVE_SIZE {
+        if unused.is_empty() {
             return unused;
         }
         let c = curve_at(curves, i);
-        i += 1;
         if g != c.id {
-            unused = unless_used(unused, c);
+            unused = unused.unless_used(c);
         }
     }
     unused
@@ -33,10 +30,5 @@ fn unused_in(curves: &[u8], g: Id, os: Orphans) -> Orphans
 pub(crate) fn orphans_in(curves: &[u8], c: Curve, plan: Plan) -> Orphans
     ensures { orphan_list result ≡ unused_by (others c.id (curves_in curves.now)) (orphan_list (candidates_for c.kind plan)) }
 {
-    let kind = c.kind;
-    let os = candidates_of(kind, plan);
-    if !(os.pgoes | os.qgoes | os.rgoes) {
-        return os;
-    }
-    unused_in(curves, c.id, os)
+    unused_in(curves, c.id, candidates_of(c.kind, plan))
 }

@@ -13,8 +13,8 @@ use Rattle.bernstein.specs.Evaluate.{evaluate_of}
 use Rattle.bernstein.specs.Bisect.{bisect_of}
 use Rattle.float.specs.Magnitude.{all_finite}
 use Rattle.bernstein.specs.Roots.{RootsResult, found, refused, tiny, tolerance_of, slopes, derivative_of, sort_onto, insert, dedup_after, dedup_of, knots_of, is_zero, zeros_of, no_sign_change, with_root, and_then, bisect_from, bisect_between, gathered, sorted_dedup, level_of, on_level, roots_at, roots_of}
+use Rattle.std.specs.Prelude.{Option, Some, None}
 use Rattle.bernstein.specs.declared.Bisected.{Bisected}
-use Rattle.bernstein.specs.declared.Bisected.TheVariants.{At, Spent}
 use Rattle.bernstein.proofs.OrderWalks.{insert_length}
 
 abbrev pub count : RootsResult → ℕ
@@ -67,10 +67,10 @@ unfolding with_root
 with_count_lem r (found l b) = omega arith
 with_count_lem r (refused w b) = omega arith
 
-then_count : (rest : ℕ → RootsResult) (x : Bisected) (n : ℕ) → ((b : ℕ) → count (rest b) ≤ n) → count (and_then rest x) ≤ suc n
+then_count : (rest : ℕ → RootsResult) (x : Option Bisected) (n : ℕ) → ((b : ℕ) → count (rest b) ≤ n) → count (and_then rest x) ≤ suc n
 unfolding and_then
-then_count rest (At r b) n h = omega (arith, with_count_lem r (rest b), h b)
-then_count rest Spent n h = omega arith
+then_count rest (Some r) n h = omega (arith, with_count_lem r.at (rest r.budget), h r.budget)
+then_count rest None n h = omega arith
 
 -- a knot is a zero, or the right end of a bracket, or neither
 one_each : (n z o₁ o₂ : ℕ) → z + o₁ ≤ n → z + o₂ ≤ suc n → (t b : Bool) → (t ≡ true → b ≡ true) → cond t (suc z) z + cond b o₁ o₂ ≤ suc n

@@ -6,31 +6,16 @@ use Prim.Native.Nat.{ℕ, suc, ◌+◌, ◌≤◌, ◌<◌}
 use native.Mathlib.Numerals.{add-one}
 use native.Mathlib.Omega.{arith}
 use lib.ListN.{length, take, drop, get_or, set, length-set, drop_of_length-le}
-use lib.Seq.{drop-cons, take-suc-set, take_at, length-take-le}
+use lib.Seq.{drop-cons, take-suc-set, length-take-le}
 use lib.Ieee.{Float, nan}
 use Rattle.bernstein.specs.Evaluate.{evaluate_of}
 use Rattle.bernstein.specs.Bisect.{same_sign, bisect_of}
 use Rattle.bernstein.specs.Roots.{RootsResult, found, refused, is_zero, zeros_of, no_sign_change, with_root, and_then, bisect_from, bisect_between, gathered, answer_of}
 use Rattle.bernstein.specs.Clauses.{list_of, RootsAtFront}
 use Rattle.bernstein.specs.declared.Bisected.{Bisected}
-use Rattle.bernstein.specs.declared.Bisected.TheVariants.{At, Spent}
-use Rattle.bernstein.specs.declared.Roots.TheVariants.{Found, Refused}
-use Rattle.bernstein.proofs.Lists.{pushed, front_all}
-
--- ---- the two ends
-
-pub ends_put : (d ts k : List Float) (i : ℕ) (a b : Float) → k ≡ take i ts ++ drop i d → i ≡ length ts → length ts + 1 < length k
-    → take (length ts + 2) (set (set k (length ts) a) (length ts + 1) b) ≡ ts ++ (a ∷ b ∷ [])
-ends_put d ts k i a b e h g =
-    let n = length ts in
-    let g₀ : n < length k = omega arith in
-    let g₁ : n + 1 < length (set k n a) = rw length-set g in
-    let q : k ≡ ts ++ drop n d = front_all d ts k i e h in
-    let q₂ : n + 2 ≡ suc (n + 1) = omega arith in
-    rw q₂ (take-suc-set (set k n a) (n + 1) b g₁
-    ∙ ap (λ (l : List Float). l ++ (b ∷ [])) (ap (λ (j : ℕ). take j (set k n a)) (add-one n) ∙ take-suc-set k n a g₀)
-    ∙ append_assoc (take n k) (a ∷ []) (b ∷ [])
-    ∙ ap (λ (l : List Float). l ++ (a ∷ b ∷ [])) (ap (take n) q ∙ take_at ts (drop n d) n refl))
+use Rattle.bernstein.specs.Answers.{Found, Refused}
+use Rattle.std.specs.Prelude.{Option, Some, None}
+use Rattle.bernstein.proofs.Lists.{pushed}
 
 -- ---- zeros
 
@@ -165,7 +150,7 @@ module _ (c knots : List Float) (eps : Float) (f₀ : List Float) (z budget : �
     unfolding bisect_from
     halves e = rw (test false e, s.value)
 
-    pub out_of : (x : Bisected) → x ≡ bisect_of c 64 lo hi fl left → x ≡ Spent → n ≡ false → refused 21 0 ≡ whole
+    pub out_of : (x : Option Bisected) → x ≡ bisect_of c 64 lo hi fl left → x ≡ None → n ≡ false → refused 21 0 ≡ whole
     unfolding gathered and_then
     out_of x ex eo e = ap (gathered (take q f)) (sym (halves e ∙ ap (and_then rest) (sym ex ∙ eo))) ∙ ahead
 
@@ -179,22 +164,22 @@ module _ (c knots : List Float) (eps : Float) (f₀ : List Float) (z budget : �
           let step : bisect_from c eps lo (hi ∷ drop (suc i) knots) left ≡ rest left = rw (test true e) in
           record { within = omega arith; few = omega arith; room = omega arith; same = l ∙ s.same; value = eh; done = rw (ef, eq, el, add-one, ← step) ahead }
 
-      pub bracketed : (r : Float) (b : ℕ) (x : Bisected) → x ≡ bisect_of c 64 lo hi fl left → x ≡ At r b → n ≡ false → f' ≡ set f q r → q' ≡ q + 1 → left' ≡ b
+      pub bracketed : (r : Bisected) (x : Option Bisected) → x ≡ bisect_of c 64 lo hi fl left → x ≡ Some r → n ≡ false → f' ≡ set f q r.at → q' ≡ q + 1 → left' ≡ r.budget
           → Searching c knots eps f₀ z budget f' q' left' hi fh (i + 1)
       unfolding and_then
-      bracketed r b x ex ea e ef eq el =
+      bracketed r x ex ea e ef eq el =
           let w : q + 1 ≤ z + i = s.few in
           let u : z + length knots ≤ length f = s.room in
           let k : q < length f = omega arith in
-          let l : length f' ≡ length f = ap length ef ∙ length-set f q r in
-          let step : bisect_from c eps lo (hi ∷ drop (suc i) knots) left ≡ with_root r (rest b) = halves e ∙ ap (and_then rest) (sym ex ∙ ea) in
+          let l : length f' ≡ length f = ap length ef ∙ length-set f q r.at in
+          let step : bisect_from c eps lo (hi ∷ drop (suc i) knots) left ≡ with_root r.at (rest r.budget) = halves e ∙ ap (and_then rest) (sym ex ∙ ea) in
           record {
             within = omega arith;
             few = omega arith;
             room = omega arith;
             same = l ∙ s.same;
             value = eh;
-            done = rw (ef, eq, el, add-one, add-one, take-suc-set f q r k, ← with_root_lem (take q f) r (rest b), ← step) ahead;
+            done = rw (ef, eq, el, add-one, add-one, take-suc-set f q r.at k, ← with_root_lem (take q f) r.at (rest r.budget), ← step) ahead;
           }
 
   pub all_searched : length knots ≤ i → RootsAtFront whole f (Found q left)

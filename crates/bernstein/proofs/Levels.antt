@@ -9,13 +9,11 @@ use lib.ListN.{length, take, drop, length-append, length-take}
 use lib.Seq.{take_at, take-append-le}
 use lib.Ieee.{Float, lt}
 use Rattle.float.specs.Numbers.{◌⊗◌, 0f, 1f, 1e-28, 2e-13, 1e-13, 1e-10}
-use Rattle.float.specs.Magnitude.{all_finite, largest_of, magnitude_of}
-use Rattle.float.specs.declared.Magnitude.TheVariants.{Largest, NotFinite}
+use Rattle.float.specs.Magnitude.{all_finite, largest_of, Largest, NotFinite, magnitude_of}
 use Rattle.float.proofs.LargestMagnitude.{magnitude_largest, magnitude_not_finite}
 use Rattle.bernstein.specs.Roots.{RootsResult, found, refused, tiny, tolerance_of, derivative_of, sort_onto, dedup_of, knots_of, zeros_of, bisect_between, gathered, sorted_dedup, level_of, on_level, roots_at, roots_of, search_of, answer_of, left_in, Searched}
 use Rattle.bernstein.specs.Clauses.{list_of, RootsAtFront}
-use Rattle.bernstein.specs.declared.Roots.{Roots}
-use Rattle.bernstein.specs.declared.Roots.TheVariants.{Found, Refused}
+use Rattle.bernstein.specs.Answers.{Answer, Found, Refused}
 use Rattle.bernstein.proofs.Counts.{count, level_count, roots_count, derivative_length}
 
 -- ---- what a call answers and leaves, once its outcome is known
@@ -74,7 +72,7 @@ module _ (c ts k z : List Float) (b : ℕ) (s : Float) (ek : k ≡ knots_of ts) 
   unfolding level_of tolerance_of
   level_is = rw (ez, ek, es)
 
-module _ (c ts : List Float) (b : ℕ) (o : RootsResult) (el : level_of c ts b ≡ sorted_dedup o) (f : List Float) (r : Roots) (at_front : RootsAtFront o f r) where
+module _ (c ts : List Float) (b : ℕ) (o : RootsResult) (el : level_of c ts b ≡ sorted_dedup o) (f : List Float) (r : Answer) (at_front : RootsAtFront o f r) where
   pub level_refused : (w left : ℕ) → r ≡ Refused w left → level_of c ts b ≡ refused w left
   unfolding sorted_dedup
   level_refused w left e = el ∙ ap sorted_dedup (refusal_is o w left (sym e ∙ at_front.answer))
@@ -158,7 +156,7 @@ module _ (c : List Float) (b : ℕ) (h : length c ≤ 15) where
 
 -- ---- after the call of itself: d holds the derivative, r is the answer, and k what z became
 
-module _ (c d k z : List Float) (b : ℕ) (r : Roots) (hc : 1 < length c) (h : length c ≤ 15) (ed : take (length c - 1) d ≡ derivative_of c)
+module _ (c d k z : List Float) (b : ℕ) (r : Answer) (hc : 1 < length c) (h : length c ≤ 15) (ed : take (length c - 1) d ≡ derivative_of c)
     (es : Searched (roots_of (take (length c - 1) d) b) z k r) where
   below : roots_of (take (length c - 1) d) b ≡ roots_of (derivative_of c) b
   below = ap (λ (x : List Float). roots_of x b) ed
@@ -204,5 +202,5 @@ unfolding search_of
 room_enough room c b h = rw (le-ltb room 28 h)
 
 -- a search of an outcome is one of any equal outcome
-pub renamed : (o p : RootsResult) (lent later : List Float) (r : Roots) → o ≡ p → Searched p lent later r → Searched o lent later r
+pub renamed : (o p : RootsResult) (lent later : List Float) (r : Answer) → o ≡ p → Searched p lent later r → Searched o lent later r
 renamed o p lent later r e s = rw e s

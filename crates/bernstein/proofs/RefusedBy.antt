@@ -10,8 +10,8 @@ use Rattle.bernstein.specs.Evaluate.{evaluate_of}
 use Rattle.bernstein.specs.Bisect.{bisect_of}
 use Rattle.float.specs.Magnitude.{all_finite}
 use Rattle.bernstein.specs.Roots.{RootsResult, found, refused, tiny, tolerance_of, derivative_of, knots_of, zeros_of, no_sign_change, with_root, and_then, bisect_from, bisect_between, gathered, sorted_dedup, level_of, on_level, roots_at, roots_of}
+use Rattle.std.specs.Prelude.{Option, Some, None}
 use Rattle.bernstein.specs.declared.Bisected.{Bisected}
-use Rattle.bernstein.specs.declared.Bisected.TheVariants.{At, Spent}
 
 abbrev pub By20Or21 : RootsResult → Type 0
 By20Or21 (found l b) = Unit {0}
@@ -29,10 +29,10 @@ unfolding with_root
 with_root_lem r (found l b) h = tt
 with_root_lem r (refused n b) h = h
 
-and_then_lem : (f : ℕ → RootsResult) (x : Bisected) → ((b : ℕ) → By20Or21 (f b)) → By20Or21 (and_then f x)
+and_then_lem : (f : ℕ → RootsResult) (x : Option Bisected) → ((b : ℕ) → By20Or21 (f b)) → By20Or21 (and_then f x)
 unfolding and_then
-and_then_lem f (At r b) h = with_root_lem r (f b) (h b)
-and_then_lem f Spent h = (omega arith, omega arith)
+and_then_lem f (Some r) h = with_root_lem r.at (f r.budget) (h r.budget)
+and_then_lem f None h = (omega arith, omega arith)
 
 between : (c : List Float) (eps lo : Float) (l : List Float) (b : ℕ) → By20Or21 (bisect_from c eps lo l b)
 unfolding bisect_from

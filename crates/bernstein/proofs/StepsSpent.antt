@@ -14,21 +14,21 @@ use Rattle.bernstein.specs.Evaluate.{evaluate_of}
 use Rattle.bernstein.specs.Bisect.{middle, narrow, same_sign, bisect_of}
 use Rattle.float.specs.Magnitude.{all_finite}
 use Rattle.bernstein.specs.Roots.{RootsResult, found, refused, tiny, tolerance_of, derivative_of, knots_of, zeros_of, no_sign_change, with_root, and_then, bisect_from, bisect_between, gathered, sorted_dedup, level_of, on_level, roots_at, roots_of}
+use Rattle.std.specs.Prelude.{Option, Some, None}
 use Rattle.bernstein.specs.declared.Bisected.{Bisected}
-use Rattle.bernstein.specs.declared.Bisected.TheVariants.{At, Spent}
 use Rattle.bernstein.proofs.Counts.{count, knots_length, at_count}
 
 abbrev pub left : RootsResult → ℕ
 left (found l b) = b
 left (refused w b) = b
 
-abbrev remains : Bisected → ℕ
-remains (At r b) = b
-remains Spent = 0
+abbrev remains : Option Bisected → ℕ
+remains (Some r) = r.budget
+remains None = 0
 
 -- ---- between two knots
 
-cond_remains : (t : Bool) (x y : Bisected) (b n : ℕ) → b ≤ remains x + n → b ≤ remains y + n → b ≤ remains (cond t x y) + n
+cond_remains : (t : Bool) (x y : Option Bisected) (b n : ℕ) → b ≤ remains x + n → b ≤ remains y + n → b ≤ remains (cond t x y) + n
 cond_remains true x y b n h k = h
 cond_remains false x y b n h k = k
 
@@ -42,11 +42,12 @@ bisect_spends c (suc k) lo hi fl b =
     let below = bisect_of c k lo m fl (b - 1) in
     let h : b ≤ remains above + suc k = omega (arith, bisect_spends c k m hi f (b - 1)) in
     let g : b ≤ remains below + suc k = omega (arith, bisect_spends c k lo m fl (b - 1)) in
+    let ended : Option Bisected = Some (record { at = m; budget = b - 1 }) in
     let i : b ≤ (b - 1) + suc k = omega arith in
-    start (eqb b 0) refl (cond (narrow lo hi) (At m (b - 1)) (cond (same_sign f fl) above below))
-    (cond_remains (narrow lo hi) (At m (b - 1)) (cond (same_sign f fl) above below) b (suc k) i (cond_remains (same_sign f fl) above below b (suc k) h g))
+    start (eqb b 0) refl (cond (narrow lo hi) ended (cond (same_sign f fl) above below))
+    (cond_remains (narrow lo hi) ended (cond (same_sign f fl) above below) b (suc k) i (cond_remains (same_sign f fl) above below b (suc k) h g))
   where
-    start : (t : Bool) → eqb b 0 ≡ t → (x : Bisected) → b ≤ remains x + suc k → b ≤ remains (cond t Spent x) + suc k
+    start : (t : Bool) → eqb b 0 ≡ t → (x : Option Bisected) → b ≤ remains x + suc k → b ≤ remains (cond t None x) + suc k
     start true e x h = omega (arith, eqb-true b 0 e)
     start false e x h = h
 
@@ -61,10 +62,10 @@ cond_left : (t : Bool) (o p : RootsResult) (b n : ℕ) → b ≤ left o + n → 
 cond_left true o p b n h k = h
 cond_left false o p b n h k = k
 
-then_spends : (rest : ℕ → RootsResult) (x : Bisected) (b n : ℕ) → b ≤ remains x + 64 → ((b' : ℕ) → b' ≤ left (rest b') + n) → b ≤ left (and_then rest x) + (n + 64)
+then_spends : (rest : ℕ → RootsResult) (x : Option Bisected) (b n : ℕ) → b ≤ remains x + 64 → ((b' : ℕ) → b' ≤ left (rest b') + n) → b ≤ left (and_then rest x) + (n + 64)
 unfolding and_then
-then_spends rest (At r b') b n h k = omega (arith, k b', with_left r (rest b'))
-then_spends rest Spent b n h k = omega arith
+then_spends rest (Some r) b n h k = omega (arith, k r.budget, with_left r.at (rest r.budget))
+then_spends rest None b n h k = omega arith
 
 module _ (c : List Float) (eps : Float) where
   pairs_spend : (lo : Float) (l : List Float) (b : ℕ) → b ≤ left (bisect_from c eps lo l b) + 64 * length l

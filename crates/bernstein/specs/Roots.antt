@@ -1,5 +1,5 @@
 -- The roots from 0 to 1 of a polynomial in Bernstein form, within a budget of halvings. Definitions only.
-use Rattle.std.specs.Prelude.{ℕ, zero, suc, ◌-◌, List, [], ◌∷◌, ◌++◌, Bool, true, cond, ◌≡◌, eqb, ltb, length, drop, Float}
+use Rattle.std.specs.Prelude.{ℕ, zero, suc, ◌-◌, List, [], ◌∷◌, ◌++◌, Bool, true, cond, Option, Some, None, ◌≡◌, eqb, ltb, length, drop, Float}
 use Rattle.std.specs.Float.Ieee.{lt, le}
 use Rattle.float.specs.Numbers.{◌⊖◌, ◌⊗◌, as_float, 0f, 1f, 1e-28, 1e-13, 2e-13, 1e-10}
 use Rattle.float.specs.Sign.{abs}
@@ -8,9 +8,7 @@ use Rattle.float.specs.Magnitude.{all_finite, largest_of}
 use Rattle.bernstein.specs.Evaluate.{evaluate_of}
 use Rattle.bernstein.specs.Bisect.{same_sign, bisect_of}
 use Rattle.bernstein.specs.declared.Bisected.{Bisected}
-use Rattle.bernstein.specs.declared.Bisected.TheVariants.{At, Spent}
-use Rattle.bernstein.specs.declared.Roots.{Roots}
-use Rattle.bernstein.specs.declared.Roots.TheVariants.{Found, Refused}
+use Rattle.bernstein.specs.Answers.{Answer, Found, Refused}
 
 -- the roots in order, or a refusal's number; and the budget that is left
 pub data RootsResult : Type 0 where
@@ -88,9 +86,9 @@ with_root r (found l b) = found (r ∷ l) b
 with_root r (refused w b) = refused w b
 
 -- the root that halving found and then the rest, or 21
-unfoldable pub and_then : (ℕ → RootsResult) → Bisected → RootsResult
-and_then rest (At r b) = with_root r (rest b)
-and_then rest Spent = refused 21 0
+unfoldable pub and_then : (ℕ → RootsResult) → Option Bisected → RootsResult
+and_then rest (Some r) = with_root r.at (rest r.budget)
+and_then rest None = refused 21 0
 
 -- the roots between neighbours, from lo on
 unfoldable pub bisect_from : List Float → Float → Float → List Float → ℕ → RootsResult
@@ -138,7 +136,7 @@ search_of room c b = cond (ltb room 28) (refused 25 b) (roots_of c b)
 
 -- ---- what a call answers and leaves
 
-unfoldable pub answer_of : RootsResult → Roots
+unfoldable pub answer_of : RootsResult → Answer
 answer_of (found l b) = Found (length l) b
 answer_of (refused w b) = Refused w b
 
@@ -152,6 +150,6 @@ unfoldable pub left_in : RootsResult → List Float → List Float
 left_in (found l b) lent = l ++ drop (length l) lent
 left_in (refused w b) lent = lent
 
-pub record Searched (o : RootsResult) (lent later : List Float) (r : Roots) : Type 0 where
+pub record Searched (o : RootsResult) (lent later : List Float) (r : Answer) : Type 0 where
   pub answer : r ≡ answer_of o
   pub buffer : later ≡ left_in o lent

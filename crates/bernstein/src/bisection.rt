@@ -11,33 +11,28 @@ const STEPS: usize = 64;
 pub(crate) fn same_sign(f: f64, g: f64) -> bool
     ensures { result ≡ same_sign f g }
 {
-    if f != f {
-        return false;
-    }
-    if g != g {
-        return false;
-    }
-    float::is_negative(f) == float::is_negative(g)
+    f == f && g == g && float::is_negative(f) == float::is_negative(g)
 }
 
-// Halves the way from a, where the value is fa, to b. A step is paid for before it is known whether it is the last.
-pub(crate) fn bisect(c: &[f64], a: f64, b: f64, fa: f64, budget: usize) -> Bisected
+// Halves the way from a, where the value is fa, to b; none where the budget runs out. A step is paid for before it is known whether it is the last.
+pub(crate) fn bisect(c: &[f64], a: f64, b: f64, fa: f64, budget: usize) -> Option<Bisected>
     ensures { result ≡ bisect_of c.now 64 a b fa budget }
 {
     let mut lo = a;
     let mut hi = b;
     let mut fl = fa;
     let mut left = budget;
-    let mut k = 0usize;
-    while k < STEPS {
+    for _step in 0..STEPS {
         if left == 0 {
-            return Bisected::Spent;
+            return None;
         }
         left -= 1;
-        k += 1;
         let mid = (lo + hi) * 0.5;
         if hi - lo < 2e-14 {
-            return Bisected::At(mid, left);
+            return Some(Bisected {
+                at: mid,
+                budget: left,
+            });
         }
         let f = evaluate(c, mid);
         if same_sign(f, fl) {
@@ -47,5 +42,8 @@ pub(crate) fn bisect(c: &[f64], a: f64, b: f64, fa: f64, budget: usize) -> Bisec
             hi = mid;
         }
     }
-    Bisected::At((lo + hi) * 0.5, left)
+    Some(Bisected {
+        at: (lo + hi) * 0.5,
+        budget: left,
+    })
 }

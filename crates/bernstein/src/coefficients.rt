@@ -12,10 +12,8 @@ pub(crate) fn derivative(c: &[f64]) -> [f64; MOST]
     let mut d = [0.0; MOST];
     let n = c.len() - 1;
     let degree = n as f64;
-    let mut i = 0usize;
-    while i < n {
+    for i in 0..n {
         d[i] = (c[i + 1] - c[i]) * degree;
-        i += 1;
     }
     d
 }

@@ -2,13 +2,15 @@
 ghost use Rattle.std.specs.Prelude.{◌+◌, ◌≤◌, [], ◌∷◌, ◌++◌, ◌≡◌, length, take, drop};
 ghost use Rattle.float.specs.Numbers.{0f, 1f, 1e-10};
 ghost use Rattle.float.specs.Magnitude.{largest_of};
+ghost use Rattle.bernstein.specs.Answers.{answer_in};
 ghost use Rattle.bernstein.specs.Roots.{sort_onto, dedup_of, is_zero, zeros_of, no_sign_change, bisect_between, gathered, level_of, Searched};
 ghost use Rattle.bernstein.specs.Clauses.{RootsAtFront};
 
 use crate::bisection::{bisect, same_sign};
 use crate::sort_dedup::sort_dedup;
 use crate::value::evaluate;
-use crate::{Bisected, Roots};
+use crate::{Found, Stopped};
+use refusal::Refusal;
 
 // The derivative's roots and the two ends.
 fn join(ts: &[f64]) -> [f64; 28]
@@ -17,11 +19,7 @@ fn join(ts: &[f64]) -> [f64; 28]
 {
     let mut k = [0.0; 28];
     let n = ts.len();
-    let mut i = 0usize;
-    while i < n {
-        k[i] = ts[i];
-        i += 1;
-    }
+    k[..n].copy_from_slice(ts);
     k[n] = 0.0;
     k[n + 1] = 1.0;
     k
@@ -39,14 +37,11 @@ fn zeros(c: &[f64], knots: &[f64], eps: f64, f: &mut [f64]) -> usize
     ensures { (take result f.new ≡ zeros_of c.now eps knots.now) × (result ≤ length knots.now) }
 {
     let mut m = 0usize;
-    let mut i = 0usize;
-    while i < knots.len() {
-        let t = knots[i];
-        if is_zero(eps, evaluate(c, t)) {
-            f[m] = t;
+    for t in knots {
+        if is_zero(eps, evaluate(c, *t)) {
+            f[m] = *t;
             m += 1;
         }
-        i += 1;
     }
     m
 }
@@ -55,56 +50,49 @@ fn zeros(c: &[f64], knots: &[f64], eps: f64, f: &mut [f64]) -> usize
 fn no_sign_change(eps: f64, fl: f64, fh: f64) -> bool
     ensures { result ≡ no_sign_change eps fl fh }
 {
-    if is_zero(eps, fl) {
-        return true;
-    }
-    if is_zero(eps, fh) {
-        return true;
-    }
-    same_sign(fl, fh)
+    is_zero(eps, fl) || is_zero(eps, fh) || same_sign(fl, fh)
 }
 
 // The roots between neighbouring knots, behind the first z of f.
-fn between(c: &[f64], knots: &[f64], eps: f64, f: &mut [f64], z: usize, budget: usize) -> Roots
+fn between(
+    c: &[f64],
+    knots: &[f64],
+    eps: f64,
+    f: &mut [f64],
+    z: usize,
+    budget: usize,
+) -> Result<Found, Stopped>
     requires { z + length knots.now ≤ length f.old }
-    ensures { RootsAtFront (gathered (take z f.old) (bisect_between c.now eps knots.now budget)) f.new result }
+    ensures { RootsAtFront (gathered (take z f.old) (bisect_between c.now eps knots.now budget)) f.new (answer_in result) }
 {
-    let mut q = z;
+    let mut count = z;
     let mut left = budget;
-    if knots.len() == 0 {
-        return Roots::Found(q, left);
+    if knots.is_empty() {
+        return Ok(Found { count, budget });
     }
     let mut lo = knots[0];
     let mut fl = evaluate(c, lo);
-    let mut i = 1usize;
-    while i < knots.len() {
+    for i in 1..knots.len() {
         let hi = knots[i];
         let fh = evaluate(c, hi);
         if !no_sign_change(eps, fl, fh) {
-            let Bisected::At(r, rest) = bisect(c, lo, hi, fl, left) else {
-                return Roots::Refused(21, 0);
+            let Some(root) = bisect(c, lo, hi, fl, left) else {
+                return Err(Stopped {
+                    refusal: Refusal::BudgetSpent,
+                    budget: 0,
+                });
             };
-            f[q] = r;
-            q += 1;
-            left = rest;
+            f[count] = root.at;
+            count += 1;
+            left = root.budget;
         }
         lo = hi;
         fl = fh;
-        i += 1;
     }
-    Roots::Found(q, left)
-}
-
-// Copies s to the front of out.
-fn put(s: &[f64], out: &mut [f64])
-    requires { length s.now ≤ length out.old }
-    ensures { out.new ≡ s.now ++ drop (length s.now) out.old }
-{
-    let mut i = 0usize;
-    while i < s.len() {
-        out[i] = s[i];
-        i += 1;
-    }
+    Ok(Found {
+        count,
+        budget: left,
+    })
 }
 
 // What was found, tidied, to the front of out.
@@ -114,7 +102,7 @@ fn settle(f: &mut [f64], out: &mut [f64]) -> usize
     ensures out_after { out.new ≡ dedup_of 1e-10 (sort_onto [] f.old) ++ drop (length (dedup_of 1e-10 (sort_onto [] f.old))) out.old }
 {
     let r = sort_dedup(f, 1e-10);
-    put(&f[..r], out);
+    out[..r].copy_from_slice(&f[..r]);
     r
 }
 
@@ -125,9 +113,9 @@ pub(crate) fn roots_between(
     ts: &[f64],
     out: &mut [f64],
     budget: usize,
-) -> Roots
+) -> Result<Found, Stopped>
     requires { (length ts.now ≤ 26) × (28 ≤ length out.old) × (largest ≡ largest_of 0f c.now) }
-    ensures { Searched (level_of c.now ts.now budget) out.old out.new result }
+    ensures { Searched (level_of c.now ts.now budget) out.old out.new (answer_in result) }
 {
     let eps = largest * 2e-13;
     let n = ts.len() + 2;
@@ -135,10 +123,10 @@ pub(crate) fn roots_between(
     let m = sort_dedup(&mut k[..n], 1e-13);
     let mut f = [0.0; 56];
     let z = zeros(c, &k[..m], eps, &mut f);
-    let got = between(c, &k[..m], eps, &mut f, z, budget);
-    let Roots::Found(q, left) = got else {
-        return got;
-    };
-    let r = settle(&mut f[..q], out);
-    Roots::Found(r, left)
+    let all = between(c, &k[..m], eps, &mut f, z, budget)?;
+    let count = settle(&mut f[..all.count], out);
+    Ok(Found {
+        count,
+        budget: all.budget,
+    })
 }

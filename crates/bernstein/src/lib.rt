@@ -1,6 +1,8 @@
 // Polynomials in Bernstein form, by their coefficients: the value at a place, and the roots from 0 to 1.
 #![tactic(auto)]
 
+use refusal::Refusal;
+
 mod bisection;
 mod coefficients;
 mod level;
@@ -13,16 +15,23 @@ pub use value::evaluate;
 // As many coefficients as are taken.
 pub(crate) const MOST: usize = 15;
 
-// How many roots there are, or a refusal's number; and the budget that is left.
+// How many a search found, and the budget that is left.
 #[derive(Clone, Copy)]
-pub enum Roots {
-    Found(usize, usize),
-    Refused(u8, usize),
+pub struct Found {
+    pub count: usize,
+    pub budget: usize,
 }
 
-// A root with the budget that is left, or the budget ran out.
+// Why a search stopped, and the budget that is left.
 #[derive(Clone, Copy)]
-pub(crate) enum Bisected {
-    At(f64, usize),
-    Spent,
+pub struct Stopped {
+    pub refusal: Refusal,
+    pub budget: usize,
+}
+
+// A root, and the budget that is left.
+#[derive(Clone, Copy)]
+pub(crate) struct Bisected {
+    pub(crate) at: f64,
+    pub(crate) budget: usize,
 }

@@ -8,14 +8,12 @@ fn insert_at(v: &mut [f64], k: usize, x: f64)
     ensures { v.new ≡ insert x (take k v.old) ++ drop (k + 1) v.old }
 {
     let mut y = x;
-    let mut i = 0usize;
-    while i < k {
+    for i in 0..k {
         let z = v[i];
         if float::before_in_order(y, z) {
             v[i] = y;
             y = z;
         }
-        i += 1;
     }
     v[k] = y;
 }
@@ -23,11 +21,9 @@ fn insert_at(v: &mut [f64], k: usize, x: f64)
 fn sort(v: &mut [f64])
     ensures { v.new ≡ sort_onto [] v.old }
 {
-    let mut k = 0usize;
-    while k < v.len() {
+    for k in 0..v.len() {
         let x = v[k];
         insert_at(v, k, x);
-        k += 1;
     }
 }
 
@@ -41,15 +37,13 @@ fn dedup(v: &mut [f64], w: f64) -> usize
     }
     let mut last = v[0];
     let mut m = 1usize;
-    let mut i = 1usize;
-    while i < n {
+    for i in 1..n {
         let x = v[i];
         if !(float::abs(x - last) < w) {
             v[m] = x;
             last = x;
             m += 1;
         }
-        i += 1;
     }
     m
 }

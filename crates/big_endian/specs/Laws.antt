@@ -1,13 +1,14 @@
 -- Laws of big-endian numbers, each over the width, and of runs of bytes written over a list.
-use Rattle.std.specs.Prelude.{◌≡◌, refl, List, [], ◌∷◌, ◌++◌, ℕ, zero, suc, ◌+◌, ◌*◌, ◌/◌, ◌%◌, ◌^◌, ◌≤◌, ◌<◌, length, take, drop, get_or, set}
-use Rattle.std.proofs.Common.{sym, ap, ◌∙◌, append_assoc, append-nil, add-zero, add-suc, add_assoc, add-mul, mul_assoc, mul_comm, pow-suc, div-one, div-add-mod', div-lt_iff_lt-mul, add-one, arith, lit<, length-append, length-drop, length-set, take-append-drop, take-suc, get_or-drop, length-take-le, take_at, drop-drop, take-add, get_or-append-add, le-leb}
+use Rattle.std.specs.Prelude.{◌≡◌, refl, List, [], ◌∷◌, ◌++◌, ℕ, zero, suc, ◌+◌, ◌-◌, ◌*◌, ◌/◌, ◌%◌, ◌^◌, ◌≤◌, ◌<◌, length, take, drop, get_or}
+use Rattle.std.proofs.Common.{sym, ap, ◌∙◌, append_assoc, append-nil, add-zero, add-suc, add_assoc, add-mul, mul_assoc, mul_comm, pow-suc, div-one, div-add-mod', div-lt_iff_lt-mul, arith, lit<, length-append, length-drop, take-append-drop, take-suc, get_or-drop, length-take-le, take_at, take_all, drop-drop, take-add, get_or-append-add, le-leb}
 use Rattle.std.proofs.Math.Nat.{pow-zero, div-div-eq-div-mul}
 use Rattle.std.proofs.Math.Arith.{digits_lt, digits_div, digits_mod}
-use Rattle.std.proofs.Math.ListN.{get_or-eq_default, get_or-append}
+use Rattle.std.proofs.Math.ListN.{get_or-append}
 use Rattle.std.proofs.Math.Seq.{drop-append-add}
-use Rattle.std.proofs.lemmas.List.{set_split}
 use Rattle.std.proofs.lemmas.Bool.{lt-leb}
-use Rattle.big_endian.specs.Fields.{field, bytes, part, over, over_if_fits, from_le_bytes, from_be_bytes}
+use borrow.Rule.Slice.PartMut.{put_mid}
+use Rattle.std.specs.Int.{bytes_high_first}
+use Rattle.big_endian.specs.Fields.{field, bytes, part, over, over_if_fits}
 
 -- every element is a byte
 abbrev pub Bytes : List ℕ → Type 0
@@ -15,20 +16,9 @@ Bytes s = (k : ℕ) → get_or s k 0 < 256
 
 -- ---- numbers read
 
-pub field_suc : (s : List ℕ) (at n : ℕ) → field s at (suc n) ≡ field s at n * 256 + get_or s (at + n) 0
-unfolding field
-field_suc s at n = refl
-
 pub field_one : (s : List ℕ) (at : ℕ) → field s at 1 ≡ get_or s at 0
 unfolding field
 field_one s at = let e : at + 0 ≡ at = omega arith in rw e (omega arith)
-
-pub field_past : (s : List ℕ) (at n : ℕ) → length s ≤ at → field s at n ≡ 0
-unfolding field
-field_past s at zero h = refl
-field_past s at (suc n) h =
-    let k : length s ≤ at + n = omega arith in
-    rw (field_past s at n h, get_or-eq_default s 0 k)
 
 -- a number of n + m bytes is that of the first n, and then that of the last m
 pub field_split : (s : List ℕ) (at n m : ℕ) → field s at (n + m) ≡ field s at n * 256 ^ m + field s (at + n) m
@@ -58,6 +48,27 @@ bytes_split n zero v = rw (add-zero, pow-zero, div-one, append-nil)
 bytes_split n (suc m) v =
     let e : v / 256 / 256 ^ m ≡ v / 256 ^ suc m = div-div-eq-div-mul v 256 (256 ^ m) ∙ rw (pow-suc, mul_comm) in
     rw (add-suc, bytes_split n m (v / 256), e, append_assoc)
+
+-- the standard library's bytes of a number are these
+high_first : (n v : ℕ) → bytes_high_first n v ≡ bytes n v
+unfolding bytes
+high_first zero v = refl
+high_first (suc zero) v = refl
+high_first (suc (suc n)) v =
+    let z : 1 + suc n ≡ suc (suc n) = omega arith in
+    let s : bytes (1 + suc n) v ≡ bytes 1 (v / 256 ^ suc n) ++ bytes (suc n) v = bytes_split 1 (suc n) v in
+    rw (high_first (suc n) v) (sym (ap (λ (k : ℕ). bytes k v) (sym z) ∙ s))
+
+-- and the last n of them are those of the number's n low bytes
+last_first : (k n v : ℕ) → drop k (bytes_high_first (k + n) v) ≡ bytes n v
+last_first zero n v = let z : 0 + n ≡ n = omega arith in rw z (high_first n v)
+last_first (suc k) n v = let z : suc k + n ≡ suc (k + n) = omega arith in rw z (last_first k n v)
+
+pub low_bytes : (m n v : ℕ) → n ≤ m → take (m - (m - n)) (drop (m - n) (bytes_high_first m v)) ≡ bytes n v
+low_bytes m n v h =
+    let z : m - n + n ≡ m = omega arith in
+    let e : drop (m - n) (bytes_high_first m v) ≡ bytes n v = ap (λ (k : ℕ). drop (m - n) (bytes_high_first k v)) (sym z) ∙ last_first (m - n) n v in
+    rw e (take_all (m - (m - n)) (bytes n v) (rw length_bytes (omega arith)))
 
 -- a byte of what stands after a list
 field_after : (pre post : List ℕ) (at n : ℕ) → length pre ≡ at → field (pre ++ post) at n ≡ field post 0 n
@@ -134,10 +145,6 @@ length_over l at b h =
     let k : at ≤ length l = omega arith in
     simp (length-append, length-drop) (rw (length-take-le at l k) (omega arith))
 
-pub over_one : (l : List ℕ) (at x : ℕ) → at < length l → set l at x ≡ over l at (x ∷ [])
-unfolding over
-over_one l at x h = rw (set_split l at x h, add-one)
-
 -- ---- the same, or nothing
 
 pub over_fits : (l : List ℕ) (at : ℕ) (b : List ℕ) → at + length b ≤ length l → over_if_fits l at b ≡ over l at b
@@ -147,6 +154,14 @@ over_fits l at b h = rw (le-leb _ _ h)
 pub over_not : (l : List ℕ) (at : ℕ) (b : List ℕ) → length l < at + length b → over_if_fits l at b ≡ l
 unfolding over_if_fits
 over_not l at b h = rw (lt-leb _ _ h)
+
+-- what code puts in the place of a middle part
+pub put_over : (l b : List ℕ) (at : ℕ) (m : List ℕ) → at + length b ≤ length l → m ≡ b → put_mid at (at + length b - at) l m ≡ over_if_fits l at b
+unfolding over
+put_over l b at m h e =
+    let n : at + length b - at ≡ length b = omega arith in
+    let d : drop (length b) (drop at l) ≡ drop (at + length b) l = drop-drop (length b) at l in
+    rw (n, e, d) (sym (over_fits l at b h))
 
 -- two parts side by side are one
 pub part_join : (s : List ℕ) (at n m : ℕ) → part s at n ++ part s (at + n) m ≡ part s at (n + m)
@@ -174,69 +189,3 @@ run_puts l at k n v a now then h w f =
     let e : length now ≡ length l = rw w.is (length_over l at a (omega arith)) in
     let q : length (bytes n v) ≡ n = length_bytes n v in
     run_over l at k n a (bytes n v) now then h q w (f ∙ over_fits now (at + k) (bytes n v) (omega arith))
-
--- ---- a number written: its low byte, its low bytes, or nothing where they don't fit
-
-pub put_byte : (l : List ℕ) (at v : ℕ) → at < length l → set l at (v % 256) ≡ over_if_fits l at (bytes 1 v)
-unfolding bytes
-put_byte l at v h = rw (over_one l at (v % 256) h) (sym (over_fits l at (v % 256 ∷ []) (omega arith)))
-
-pub put_bytes : (l : List ℕ) (at n v : ℕ) {then : List ℕ} → at + n ≤ length l → then ≡ over l at (bytes n v) → then ≡ over_if_fits l at (bytes n v)
-put_bytes l at n v h e = e ∙ sym (over_fits l at (bytes n v) (rw length_bytes h))
-
-pub put_nothing : (l : List ℕ) (at n v : ℕ) → length l < at + n → l ≡ over_if_fits l at (bytes n v)
-put_nothing l at n v h = sym (over_not l at (bytes n v) (rw length_bytes h))
-
--- one half after the other
-pub store_halves : (l : List ℕ) (at h v : ℕ) {now then : List ℕ} → at + (h + h) ≤ length l → now ≡ over l at (bytes h (v / 256 ^ h)) → then ≡ over now (at + h) (bytes h v)
-    → then ≡ over l at (bytes (h + h) v)
-store_halves l at h v {now} {then} fit first second =
-    let a : Run l at h (bytes h (v / 256 ^ h)) now = record { is = first; long = length_bytes h (v / 256 ^ h) } in
-    let b = run_over l at h h (bytes h (v / 256 ^ h)) (bytes h v) now then fit (length_bytes h v) a second in
-    b.is ∙ rw (← bytes_split h h v)
-
--- two bytes
-pub store_two : (l : List ℕ) (at v : ℕ) → at + 2 ≤ length l → set (set l at (v / 256 % 256)) (at + 1) (v % 256) ≡ over l at (bytes 2 v)
-unfolding bytes
-store_two l at v h =
-    let m = set l at (v / 256 % 256) in
-    let n : length m ≡ length l = length-set l at (v / 256 % 256) in
-    let e : v / 256 ^ 1 ≡ v / 256 = refl in
-    store_halves l at 1 v {now = m} (omega arith) (rw e (over_one l at (v / 256 % 256) (omega arith))) (over_one m (at + 1) (v % 256) (omega arith))
-
--- eight bytes, each with its weight
-pub field_flat : (s : List ℕ) (at a b c d e f g h : ℕ) → a ≡ get_or s at 0 → b ≡ get_or s (at + 1) 0 → c ≡ get_or s (at + 2) 0 → d ≡ get_or s (at + 3) 0
-    → e ≡ get_or s (at + 4) 0 → f ≡ get_or s (at + 5) 0 → g ≡ get_or s (at + 6) 0 → h ≡ get_or s (at + 7) 0
-    → a * 0x0100_0000_0000_0000 + b * 0x0001_0000_0000_0000 + (c * 0x0000_0100_0000_0000 + d * 0x0000_0001_0000_0000)
-    + (e * 0x0000_0000_0100_0000 + f * 0x0000_0000_0001_0000 + (g * 0x0000_0000_0000_0100 + h))
-    ≡ field s at 8
-unfolding field
-field_flat s at a b c d e f g h ea eb ec ed ee ef eg eh =
-    let z : at + 0 ≡ at = omega arith in
-    let y : get_or s (at + 0) 0 ≡ get_or s at 0 = ap (λ (k : ℕ). get_or s k 0) z in
-    omega arith
-
--- the bytes of a number, taken off from the lowest on
-pub turns : (v a b c d e f g h : ℕ) → a < 256 → b < 256 → c < 256 → d < 256 → e < 256 → f < 256 → g < 256 → h < 256 → v ≡ from_le_bytes a b c d e f g h
-    → from_be_bytes (v % 256) (v / 256 % 256) (v / 256 / 256 % 256) (v / 256 / 256 / 256 % 256) (v / 256 / 256 / 256 / 256 % 256) (v / 256 / 256 / 256 / 256 / 256 % 256)
-    (v / 256 / 256 / 256 / 256 / 256 / 256 % 256) (v / 256 / 256 / 256 / 256 / 256 / 256 / 256 % 256)
-    ≡ from_be_bytes a b c d e f g h
-turns v a b c d e f g h la lb lc ld le lf lg lh z =
-    let t7 = h in
-    let t6 = g + h * 256 in
-    let t5 = f + t6 * 256 in
-    let t4 = e + t5 * 256 in
-    let t3 = d + t4 * 256 in
-    let t2 = c + t3 * 256 in
-    let t1 = b + t2 * 256 in
-    let k : v ≡ a + t1 * 256 = omega arith in
-    rw (k, mod_of a t1 la, div_of a t1 la, mod_of b t2 lb, div_of b t2 lb, mod_of c t3 lc, div_of c t3 lc, mod_of d t4 ld, div_of d t4 ld, mod_of e t5 le, div_of e t5 le, mod_of f t6 lf, div_of f t6 lf, mod_of g h lg, div_of g h lg, mod_low h lh)
-  where
-    mod_of : (x y : ℕ) → x < 256 → (x + y * 256) % 256 ≡ x
-    mod_of x y l = omega arith
-
-    div_of : (x y : ℕ) → x < 256 → (x + y * 256) / 256 ≡ y
-    div_of x y l = omega arith
-
-    mod_low : (x : ℕ) → x < 256 → x % 256 ≡ x
-    mod_low x l = omega arith

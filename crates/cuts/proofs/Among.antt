@@ -15,7 +15,7 @@ use Rattle.shape.specs.declared.Crossings.TheVariants.{Zero, One, Two}
 use Rattle.shape.specs.Intersections.{points, crossings}
 use Rattle.cuts.specs.declared.Cut.{Cut}
 use Rattle.cuts.specs.declared.Cutter.{Cutter}
-use Rattle.cuts.specs.Columns.{crossing_at}
+use Rattle.cuts.specs.Crossings.{crossing_at}
 use Rattle.cuts.specs.Cuts.{cut_step, cuts_on, cuts_by, cuts_among, end_points}
 
 -- ---- one other curve

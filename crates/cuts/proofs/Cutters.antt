@@ -18,9 +18,9 @@ use Rattle.sketch.specs.declared.CurveKind.{CurveKind}
 use Rattle.sketch.specs.Lists.{ite}
 use Rattle.sketch.specs.Blanks.{no_curve}
 use Rattle.sketch_geometry.specs.Geometry.{shape_of}
-use Rattle.sketch_geometry.specs.Positions.{shape_of_outline, ShapeFrom}
-use Rattle.sketch_geometry.specs.declared.Outline.{Outline}
-use Rattle.sketch_geometry.specs.declared.Outline.TheVariants.{Freeform, Analytic}
+use Rattle.sketch_geometry.specs.Positions.{shape_found, ShapeFrom}
+use Rattle.std.specs.Prelude.{Some, None}
+use Rattle.std.specs.Prelude.{Option as Answer}
 use Rattle.edit_plan.specs.Tables.{others}
 use Rattle.image.specs.Records.{curve_size, curve_of}
 use Rattle.image.specs.Image.{point_count, curve_count, curves_from, curve_rows, drawing_of, image_fault}
@@ -54,11 +54,11 @@ shapes_append ps [] ys = refl
 shapes_append ps (x ∷ xs) ys = ap (λ t. cutter_of x (shape_of ps x.kind) ++ t) (shapes_append ps xs ys) ∙ sym (append_assoc' (cutter_of x (shape_of ps x.kind)) (cutters_of ps xs) (cutters_of ps ys))
 
 -- the shape that a curve was found to have
-pub answered_none : {r : Outline} {x : Option Shape} → r ≡ Freeform → shape_of_outline r ≡ x → none ≡ x
-answered_none e h = sym (ap shape_of_outline e) ∙ h
+pub answered_none : {r : Answer Shape} {x : Option Shape} → r ≡ None → shape_found r ≡ x → none ≡ x
+answered_none e h = sym (ap shape_found e) ∙ h
 
-pub answered_some : {r : Outline} {x : Option Shape} {sh : Shape} → r ≡ Analytic sh → shape_of_outline r ≡ x → some sh ≡ x
-answered_some e h = sym (ap shape_of_outline e) ∙ h
+pub answered_some : {r : Answer Shape} {x : Option Shape} {sh : Shape} → r ≡ Some sh → shape_found r ≡ x → some sh ≡ x
+answered_some e h = sym (ap shape_found e) ∙ h
 
 -- ---- one curve more: the target and a freeform curve do not cut
 
@@ -108,15 +108,15 @@ module _ (points curves : List ℕ) (sh : Shape) (id n i : ℕ) (found : List Cu
   cuts_past_target q = λ ps cs u w l.
       up ps cs u w l ∙ ap (cut_points sh) (sym (target_no_cutter ps cs id i (omega arith) (ap (λ (k : Curve). k.id) (sym (record_is w l)) ∙ q)))
 
-  module _ (kind : CurveKind) (ek : kind ≡ v.kind) (o : Outline) (a : ShapeFrom points kind o) where
-    answer_is : {ps : List Point} {cs : List Curve} → HoldsPoints ps points → HoldsCurves cs curves → n ≤ length cs → shape_of_outline o ≡ shape_of ps (get_or cs i no_curve).kind
+  module _ (kind : CurveKind) (ek : kind ≡ v.kind) (o : Answer Shape) (a : ShapeFrom points kind o) where
+    answer_is : {ps : List Point} {cs : List Curve} → HoldsPoints ps points → HoldsCurves cs curves → n ≤ length cs → shape_found o ≡ shape_of ps (get_or cs i no_curve).kind
     answer_is {ps} u w l = a ps u ∙ ap (shape_of ps) (ek ∙ ap (λ (k : Curve). k.kind) (record_is w l))
 
-    pub cuts_past_freeform : o ≡ Freeform → CutsUpTo points curves sh id n (i + 1) found
+    pub cuts_past_freeform : o ≡ None → CutsUpTo points curves sh id n (i + 1) found
     cuts_past_freeform e = λ ps cs u w l.
         up ps cs u w l ∙ ap (cut_points sh) (sym (freeform_no_cutter ps cs id i (omega arith) (answered_none e (answer_is u w l))))
 
-    pub cuts_one_more : {s : Shape} → o ≡ Analytic s → (by : ℕ) → by ≡ v.id → (by ≡ id → ⊥) → (infinite : Bool) → infinite ≡ v.infinite → (after : List Cut) → after ≡ cuts_by sh (record { id = by; infinite = infinite; shape = s }) found → CutsUpTo points curves sh id n (i + 1) after
+    pub cuts_one_more : {s : Shape} → o ≡ Some s → (by : ℕ) → by ≡ v.id → (by ≡ id → ⊥) → (infinite : Bool) → infinite ≡ v.infinite → (after : List Cut) → after ≡ cuts_by sh (record { id = by; infinite = infinite; shape = s }) found → CutsUpTo points curves sh id n (i + 1) after
     unfolding cuts_among
     cuts_one_more {s} e by eb q infinite ei after f = λ ps cs u w l.
         let k = get_or cs i no_curve in

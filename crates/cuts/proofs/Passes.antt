@@ -1,66 +1,28 @@
--- One pass over the parameters finds the first or the last of the cuts that sorting finds. Assumes nothing.
+-- One pass over some cuts finds the first or the last of those that sorting finds. Assumes nothing.
 use mathlib.Core.Path.{◌≡◌, refl, sym, ap, ◌∙◌}
 use mathlib.Core.Bool.{Bool, true, false, cond, beq}
 use mathlib.Core.List.{List, [], ◌∷◌, ◌++◌}
-use Prim.Native.Nat.{ℕ, zero, suc, ◌+◌, ◌≤◌, ◌<◌}
+use Rattle.std.specs.Prelude.{Option, Some, None, option_to_list}
+use Prim.Native.Nat.{ℕ, ◌+◌, ◌<◌}
 use native.Mathlib.Numerals.{add-one}
-use native.Mathlib.Omega.{arith}
-use borrow.Author.Tests.{lt-ltb, le-ltb}
-use lib.Dec.{T, ltb}
-use lib.ListN.{get_or}
-use lib.Ieee.{Float, nan, binary64, fits}
+use lib.ListN.{length, take, get_or}
+use lib.Seq.{take-suc}
+use lib.Ieee.{Float}
 use Rattle.float.specs.Order.{before}
 use Rattle.sketch.specs.Lists.{ite, keep}
 use Rattle.cuts.specs.declared.Cut.{Cut}
 use Rattle.cuts.specs.Lists.{last_or}
-use Rattle.cuts.specs.Columns.{rows, cut_at}
 use Rattle.cuts.specs.Bracket.{insert_cut, sort_cuts, last_one, first_one}
-use Rattle.cuts.specs.Nearest.{nearer_at, nearest_at}
+use Rattle.cuts.specs.Nearest.{Good, Fit, nearer, end_of, sorted, nearest}
 use Rattle.sketch.proofs.Lists.{keep_append}
-use Rattle.cuts.proofs.Sorting.{Good, Fit, Sorted, sort_append, sort_sorted, last_sooner, last_insert}
-
--- ---- a turn of the pass, as the code takes it
-module _ (last : Bool) (p : Float → Bool) (ts : List Float) (n i best : ℕ) where
-  pub turn_off : p (get_or ts i nan) ≡ false → best ≡ nearer_at last p ts n i best
-  unfolding nearer_at
-  turn_off h = rw h
-
-  pub turn_first : p (get_or ts i nan) ≡ true → n ≤ best → i ≡ nearer_at last p ts n i best
-  unfolding nearer_at
-  turn_first h k = rw (h, le-ltb best n k)
-
-  pub turn_stays : (b : Bool) → p (get_or ts i nan) ≡ true → best < n → b ≡ before (get_or ts i nan) (get_or ts best nan) → beq b last ≡ true → best ≡ nearer_at last p ts n i best
-  unfolding nearer_at
-  turn_stays b h k e f = rw (h, lt-ltb best n k, ← e, f)
-
-  pub turn_moves : (b : Bool) → p (get_or ts i nan) ≡ true → best < n → b ≡ before (get_or ts i nan) (get_or ts best nan) → beq b last ≡ false → i ≡ nearer_at last p ts n i best
-  unfolding nearer_at
-  turn_moves b h k e f = rw (h, lt-ltb best n k, ← e, f)
-
-module _ (last : Bool) (p : Float → Bool) (ts : List Float) (n : ℕ) where
-  pub pass_start : n ≡ nearest_at last p ts n 0
-  unfolding nearest_at
-  pass_start = refl
-
-  pub pass_turn : (i best after : ℕ) → best ≡ nearest_at last p ts n i → after ≡ nearer_at last p ts n i best → after ≡ nearest_at last p ts n (i + 1)
-  unfolding nearest_at
-  pass_turn i best after e f = f ∙ rw (e, add-one)
-
-  pub pass_end : (i best : ℕ) → n ≤ i → i ≤ n → best ≡ nearest_at last p ts n i → best ≡ nearest_at last p ts n n
-  pass_end i best h k e =
-      let g : i ≡ n = omega arith in
-      e ∙ ap (nearest_at last p ts n) g
+use Rattle.cuts.proofs.Sorting.{Sorted, sort_append, sort_sorted, last_sooner, last_insert}
 
 -- ---- the first or the last of a sorted list, after one cut more
-unfoldable pub end_of : Bool → List Cut → List Cut
-end_of true l = last_one l
-end_of false l = first_one l
-
 unfoldable better : Bool → Cut → List Cut → List Cut
 better last k [] = k ∷ []
 better last k (f ∷ l) = cond (beq (before k.t f.t) last) (f ∷ []) (k ∷ [])
 
-pub end_none : (last : Bool) → end_of last [] ≡ []
+end_none : (last : Bool) → end_of last [] ≡ []
 unfolding end_of last_one first_one
 end_none true = refl
 end_none false = refl
@@ -92,10 +54,30 @@ unfolding end_of
 end_insert true k s gk h = last_better k s gk h
 end_insert false k s gk h = first_insert k s
 
--- ---- the pass
-abbrev pub sorted : (Cut → Bool) → List Cut → List Cut
-sorted q l = sort_cuts [] (keep q l)
+-- the better of two, as the code takes it
+better_nearer : (last : Bool) (best : Option Cut) (k : Cut) → better last k (option_to_list best) ≡ nearer last best k ∷ []
+unfolding better nearer
+better_nearer last None k = refl
+better_nearer last (Some b) k = go (beq (before k.t b.t) last)
+  where
+    go : (x : Bool) → cond x (b ∷ []) (k ∷ []) ≡ cond x b k ∷ []
+    go true = refl
+    go false = refl
 
+pub nearer_first : (last : Bool) {best : Option Cut} (k : Cut) → best ≡ None → k ≡ nearer last best k
+unfolding nearer
+nearer_first last k e = rw e
+
+module _ (last : Bool) {best : Option Cut} {b : Cut} (k : Cut) (e : best ≡ Some b) (x : Bool) (ex : x ≡ before k.t b.t) where
+  pub nearer_stays : beq x last ≡ true → b ≡ nearer last best k
+  unfolding nearer
+  nearer_stays h = rw (e, ← ex, h)
+
+  pub nearer_moves : beq x last ≡ false → k ≡ nearer last best k
+  unfolding nearer
+  nearer_moves h = rw (e, ← ex, h)
+
+-- ---- the pass
 sorted_more : (q : Cut → Bool) (l : List Cut) (k : Cut) → sorted q (l ++ k ∷ []) ≡ ite (q k) (insert_cut k (sorted q l)) (sorted q l)
 unfolding sort_cuts
 sorted_more q l k = rw (keep_append q l (k ∷ [])) (sort_append [] (keep q l) (keep q (k ∷ [])) ∙ go (q k))
@@ -116,52 +98,28 @@ fit_keep q (k ∷ l) f = go (q k) (fit_keep q l f.1)
     go true r = (f.0, r)
     go false r = r
 
--- the cut at a place, if it is one
-unfoldable pub at : ℕ → List Float → List Float → List Float → List ℕ → ℕ → List Cut
-at n ts px py who r = cond (ltb r n) (cut_at ts px py who r ∷ []) []
+pub fit_more : (cuts : List Cut) (i : ℕ) (z : Cut) → i < length cuts → Fit (take i cuts) → Good (get_or cuts i z) → Fit (take (i + 1) cuts)
+fit_more cuts i z h f g = rw (add-one, take-suc cuts i z h) (fit_append (take i cuts) (get_or cuts i z ∷ []) f (g, tt))
 
-module _ (n : ℕ) (ts px py : List Float) (who : List ℕ) where
-  abbrev f : ℕ → Cut
-  f = cut_at ts px py who
+module _ (last : Bool) (p : Float → Bool) where
+  pub pass_start : [] ≡ nearest last p []
+  unfolding sort_cuts
+  pass_start = sym (end_none last)
 
-  pub at_there : (r : ℕ) (k : Cut) → r < n → k ≡ f r → k ∷ [] ≡ at n ts px py who r
-  unfolding at
-  at_there r k h e = rw (lt-ltb r n h, e)
+  module _ (cuts : List Cut) (i : ℕ) (fit : Fit (take i cuts)) (h : i < length cuts) (best : Option Cut) (w : option_to_list best ≡ nearest last p (take i cuts)) (k z : Cut) (e : k ≡ get_or cuts i z) (g : Good k) where
+    next : (b : Bool) → p k.t ≡ b → nearest last p (take (i + 1) cuts) ≡ ite b (better last k (option_to_list best)) (option_to_list best)
+    next b q =
+        let test : Cut → Bool = λ c. p c.t in
+        let front : List Cut = take i cuts in
+        let f : Fit (keep test front) = fit_keep test front fit in
+        rw (add-one, take-suc cuts i z h, ← e, sorted_more test front k, q) (go b (sort_sorted [] (keep test front) f tt))
+      where
+        go : (b : Bool) → Sorted (sorted (λ c. p c.t) (take i cuts)) → end_of last (ite b (insert_cut k (sorted (λ c. p c.t) (take i cuts))) (sorted (λ c. p c.t) (take i cuts))) ≡ ite b (better last k (option_to_list best)) (option_to_list best)
+        go true o = end_insert last k _ g o ∙ ap (better last k) (sym w)
+        go false o = sym w
 
-  pub at_none : (r : ℕ) → n ≤ r → [] ≡ at n ts px py who r
-  unfolding at
-  at_none r h = rw (le-ltb r n h)
+    pub pass_takes : (after : Cut) → p k.t ≡ true → after ≡ nearer last best k → option_to_list (Some after) ≡ nearest last p (take (i + 1) cuts)
+    pass_takes after q a = ap (λ (c : Cut). c ∷ []) a ∙ sym (better_nearer last best k) ∙ sym (next true q)
 
-  module _ (fit : (i : ℕ) → T (fits binary64 (get_or ts i nan))) where
-    pub fit_rows : (i : ℕ) → Fit (rows i f)
-    unfolding rows
-    fit_rows zero = tt
-    fit_rows (suc i) = fit_append (rows i f) (f i ∷ []) (fit_rows i) (fit i, tt)
-
-    module _ (last : Bool) (p : Float → Bool) where
-      turn_law : (i best : ℕ) → i < n → at n ts px py who (nearer_at last p ts n i best) ≡ ite (p (get_or ts i nan)) (better last (f i) (at n ts px py who best)) (at n ts px py who best)
-      unfolding nearer_at better at
-      turn_law i best h = go (p (get_or ts i nan)) (ltb best n) (beq (before (get_or ts i nan) (get_or ts best nan)) last) refl refl
-        where
-          go : (a b d : Bool) → ltb best n ≡ b → beq (before (get_or ts i nan) (get_or ts best nan)) last ≡ d
-              → at n ts px py who (cond a (cond b (cond d best i) i) best) ≡ ite a (better last (f i) (cond b (f best ∷ []) [])) (cond b (f best ∷ []) [])
-          go false b d e g = rw e
-          go true false d e g = rw (lt-ltb i n h)
-          go true true true e g = rw (e, g)
-          go true true false e g = rw (lt-ltb i n h, g)
-
-      -- what the pass has found after i cuts
-      pub pass_law : (i : ℕ) → i ≤ n → at n ts px py who (nearest_at last p ts n i) ≡ end_of last (sorted (λ k. p k.t) (rows i f))
-      unfolding nearest_at rows sort_cuts
-      pass_law zero h = sym (at_none n (omega arith)) ∙ sym (end_none last)
-      pass_law (suc i) h =
-          let q : Cut → Bool = λ k. p k.t in
-          let e : at n ts px py who (nearest_at last p ts n i) ≡ end_of last (sorted q (rows i f)) = pass_law i (omega arith) in
-          turn_law i (nearest_at last p ts n i) (omega arith) ∙ rw (e, sorted_more q (rows i f) (f i)) (go (p (get_or ts i nan)))
-        where
-          go : (b : Bool) → ite b (better last (f i) (end_of last (sorted (λ k. p k.t) (rows i f)))) (end_of last (sorted (λ k. p k.t) (rows i f)))
-              ≡ end_of last (ite b (insert_cut (f i) (sorted (λ k. p k.t) (rows i f))) (sorted (λ k. p k.t) (rows i f)))
-          go true =
-              let q : Cut → Bool = λ k. p k.t in
-              sym (end_insert last (f i) (sorted q (rows i f)) (fit i) (sort_sorted [] (keep q (rows i f)) (fit_keep q (rows i f) (fit_rows i)) tt))
-          go false = refl
+    pub pass_skips : p k.t ≡ false → option_to_list best ≡ nearest last p (take (i + 1) cuts)
+    pass_skips q = sym (next false q)

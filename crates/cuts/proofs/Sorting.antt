@@ -5,26 +5,19 @@ use mathlib.Core.List.{List, [], ◌∷◌, ◌++◌}
 use Prim.Native.Nat.{ℕ, ◌+◌, ◌≤◌, ◌<◌}
 use native.Mathlib.Omega.{arith}
 use borrow.Author.Tests.{ltb-true, ltb-false, lt-ltb}
-use lib.Dec.{T, ltb}
+use lib.Dec.{ltb}
 use lib.ListN.{length}
-use lib.Ieee.{binary64, fits}
 use Rattle.float.specs.Order.{before}
 use Rattle.float.proofs.TotalOrder.{key, before_key}
 use Rattle.sketch.specs.Lists.{ite, keep}
 use Rattle.cuts.specs.declared.Cut.{Cut}
 use Rattle.cuts.specs.Lists.{last_or}
 use Rattle.cuts.specs.Bracket.{insert_cut, sort_cuts}
+use Rattle.cuts.specs.Nearest.{Good, Fit}
 
 -- ---- the order, by ranks
 abbrev rank : Cut → ℕ
 rank k = key k.t
-
-abbrev pub Good : Cut → Type 0
-Good k = T (fits binary64 k.t)
-
-abbrev pub Fit : List Cut → Type 0
-Fit [] = Unit {0}
-Fit (k ∷ l) = Good k × Fit l
 
 -- none of l stands before k
 abbrev After : Cut → List Cut → Type 0

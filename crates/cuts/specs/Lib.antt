@@ -5,6 +5,6 @@ pub mod Cuts
 pub mod Bracket
 pub mod ImageCuts
 -- ---- for functions that nothing outside calls
-pub mod Columns
+pub mod Crossings
 pub mod Nearest
 pub mod ImageContracts

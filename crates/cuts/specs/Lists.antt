@@ -1,5 +1,5 @@
--- Plumbing: a test over a list, its first and its last.
-use Rattle.std.specs.Prelude.{Bool, false, ◌||◌, List, [], ◌∷◌}
+-- Plumbing: a test over a list, its first and its last, and a list by its places.
+use Rattle.std.specs.Prelude.{ℕ, zero, suc, Bool, false, ◌||◌, List, [], ◌∷◌, ◌++◌}
 
 module _ {A : Type 0} where
   unfoldable pub any : (A → Bool) → List A → Bool
@@ -13,3 +13,8 @@ module _ {A : Type 0} where
   unfoldable pub last_or : A → List A → A
   last_or z [] = z
   last_or z (a ∷ l) = last_or a l
+
+  -- n entries, each by its place
+  unfoldable pub rows : ℕ → (ℕ → A) → List A
+  rows zero f = []
+  rows (suc n) f = rows n f ++ f n ∷ []

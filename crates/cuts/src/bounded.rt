@@ -50,18 +50,12 @@ pub(crate) fn lies_on(sh: Shape, slack: f64, p: Vec2) -> bool
     requires { slack ≡ B.slack sh }
     ensures { result ≡ on_bounded sh p }
 {
-    if !in_range(sh, slack, p) {
-        return false;
-    }
-    !is_off(sh, p)
+    in_range(sh, slack, p) && !is_off(sh, p)
 }
 
 // Whether p is on the curve, its ends included, but for 1e-6. The slack costs a root, and most points are off.
 pub(crate) fn on_bounded(sh: Shape, p: Vec2) -> bool
     ensures { result ≡ on_bounded sh p }
 {
-    if is_off(sh, p) {
-        return false;
-    }
-    in_range(sh, slack(sh), p)
+    !is_off(sh, p) && in_range(sh, slack(sh), p)
 }

@@ -1,68 +1,51 @@
-// The cuts that other curves make, kept in four columns: parameter, place and cutter.
-ghost use Rattle.std.specs.Prelude.{◌≡◌, ◌+◌, ◌≤◌, ◌<◌, ◌++◌, length, get_or};
+// The cuts that other curves make, one behind the other.
+ghost use Rattle.std.specs.Prelude.{◌≡◌, ◌+◌, ◌≤◌, ◌<◌, ◌++◌, length, get_or, take};
 ghost use Rattle.geom.specs.Plane.{origin};
 ghost use Rattle.shape.specs.Intersections.{points, direction_of};
 ghost use Rattle.cuts.specs.Bounded as B;
 ghost use Rattle.cuts.specs.Cuts as C;
-ghost use Rattle.cuts.specs.Cuts.{cut_step, cuts_by};
-ghost use Rattle.cuts.specs.Columns.{Room, Places, cuts_in, places_in, found_among, crossing_at};
+ghost use Rattle.cuts.specs.Cuts.{found_near, cut_step, cuts_by};
+ghost use Rattle.cuts.specs.Crossings.{crossing_at};
 
-use crate::Cutter;
 use crate::bounded::{lies_on, on_bounded};
-use geom::{Direction, Vec2};
+use crate::{Cut, Cutter};
+use geom::Vec2;
 use shape::{Crossings, Shape};
-use sketch::Id;
 
-// Whether one of the first n places is nearer than 1e-6 to q.
-fn seen<'a>(px: &'a [f64], py: &'a [f64], n: usize, q: Vec2) -> bool
-    requires { Places n px.now py.now }
-    ensures { result ≡ found_among (places_in n px.now py.now) q }
+// Whether one of the cuts is nearer than 1e-6 to q.
+fn seen(found: &[Cut], q: Vec2) -> bool
+    ensures { result ≡ found_near found.now q }
 {
-    let mut i: usize = 0;
-    while i < n {
-        if Vec2::new(px[i], py[i]).dist2(q) < float::bounds::BELOW_1E_6 {
+    for k in found {
+        if k.at.dist2(q) < float::bounds::BELOW_1E_6 {
             return true;
         }
-        i += 1;
     }
     false
 }
 
 // A point where the other curve may cut: if it is on both curves and none was found there, it goes behind the first n. The target is
 // asked first: most points are off it.
-fn candidate<'a>(
-    sh: Shape,
-    slack: f64,
-    o: Cutter,
-    q: Vec2,
-    n: usize,
-    ts: &'a mut [f64],
-    px: &'a mut [f64],
-    py: &'a mut [f64],
-    who: &'a mut [Id],
-) -> usize
+fn candidate(sh: Shape, slack: f64, o: Cutter, q: Vec2, n: usize, cuts: &mut [Cut]) -> usize
     requires slack_value { slack ≡ B.slack sh }
-    requires room { Room (n + 1) ts.old px.old py.old who.old }
-    ensures who_after { cuts_in result ts.new px.new py.new who.new
-        ≡ cut_step sh o (cuts_in n ts.old px.old py.old who.old) q }
+    requires room { n < length cuts.old }
+    ensures found { take result cuts.new ≡ cut_step sh o (take n cuts.old) q }
     ensures upper_bound { result ≤ n + 1 }
 {
     if !lies_on(sh, slack, q) {
         return n;
     }
-    if !o.infinite {
-        let shape = o.shape;
-        if !on_bounded(shape, q) {
-            return n;
-        }
-    }
-    if seen(px, py, n, q) {
+    if !o.infinite && !on_bounded(o.shape, q) {
         return n;
     }
-    ts[n] = sh.param(q);
-    px[n] = q.x;
-    py[n] = q.y;
-    who[n] = o.id;
+    if seen(&cuts[..n], q) {
+        return n;
+    }
+    cuts[n] = Cut {
+        t: sh.param(q),
+        at: q,
+        by: o.id,
+    };
     n + 1
 }
 
@@ -98,12 +81,7 @@ fn nth(c: Crossings, k: usize) -> Vec2
     match c {
         Crossings::Zero => Vec2::ZERO,
         Crossings::One(p) => p,
-        Crossings::Two(p, q) => {
-            if k == 0 {
-                return p;
-            }
-            q
-        },
+        Crossings::Two(p, q) => { if k == 0 { p } else { q } },
     }
 }
 
@@ -121,42 +99,24 @@ fn candidate_at(c: Crossings, d: Crossings, k: usize) -> Vec2
 
 // The cuts of one other curve: where it crosses, then where its ends touch. All these points go through
 // one call, which is then compiled in place: passing shapes on to calls costs more than the tests do.
-pub(crate) fn cuts_by<'a>(
+pub(crate) fn cuts_by(
     sh: Shape,
-    d: Direction,
+    d: Option<Vec2>,
     slack: f64,
     o: Cutter,
     n: usize,
-    ts: &'a mut [f64],
-    px: &'a mut [f64],
-    py: &'a mut [f64],
-    who: &'a mut [Id],
+    cuts: &mut [Cut],
 ) -> usize
     requires slack_value { (slack ≡ B.slack sh) × (d ≡ direction_of sh) }
-    requires room { Room (n + 4) ts.old px.old py.old who.old }
-    ensures who_after { cuts_in result ts.new px.new py.new who.new
-        ≡ cuts_by sh o (cuts_in n ts.old px.old py.old who.old) }
+    requires room { n + 4 ≤ length cuts.old }
+    ensures found { take result cuts.new ≡ cuts_by sh o (take n cuts.old) }
     ensures upper_bound { result ≤ n + 4 }
 {
-    let shape = o.shape;
-    let crossings = shape::intersections_by(sh, d, shape);
-    let ends = end_points(shape);
-    let all = count(crossings) + count(ends);
+    let crossings = shape::intersections_by(sh, d, o.shape);
+    let ends = end_points(o.shape);
     let mut m = n;
-    let mut k: usize = 0;
-    while k < all {
-        m = candidate(
-            sh,
-            slack,
-            o,
-            candidate_at(crossings, ends, k),
-            m,
-            ts,
-            px,
-            py,
-            who,
-        );
-        k += 1;
+    for k in 0..count(crossings) + count(ends) {
+        m = candidate(sh, slack, o, candidate_at(crossings, ends, k), m, cuts);
     }
     m
 }

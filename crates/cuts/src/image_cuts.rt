@@ -1,163 +1,81 @@
 // The cuts that the other curves of an image make on one of its curves, straight from its records.
-ghost use Rattle.std.specs.Prelude.{◌*◌, ◌≤◌};
-ghost use Rattle.cuts.specs.Columns.{Room, cuts_in};
+ghost use Rattle.std.specs.Prelude.{◌*◌, ◌≤◌, length, take};
 ghost use Rattle.cuts.specs.ImageCuts.{BracketIn};
 ghost use Rattle.cuts.specs.ImageContracts.{CutsOfFirst, BracketOfFirst};
 
 use crate::bounded::slack;
 use crate::brackets::{around, beside};
 use crate::gather::cuts_by;
-use crate::{Cutter, Neighbours};
+use crate::{Cut, Cutter, Neighbours};
+use geom::Vec2;
 use image::{read_curve_id, read_infinite, read_kind};
-use rows::{curve_count, curve_record, curves_of, points_of};
+use rows::{Tables, curve_count, curve_record};
 use shape::Shape;
 use sketch::Id;
-use sketch_geometry::Outline;
 use sketch_geometry::positions::shape_of;
 
+// What stands where no cut was found.
+const NO_CUT: Cut = Cut {
+    t: 0.0,
+    at: Vec2::ZERO,
+    by: 0,
+};
+
 // The cuts of the first n curves but the one with the id, in their order: at most four of each.
-fn cuts_in<'a, 'b>(
-    sh: Shape,
-    id: Id,
-    n: usize,
-    image: &'b [u8],
-    near: &'b [u16],
-    ts: &'a mut [f64],
-    px: &'a mut [f64],
-    py: &'a mut [f64],
-    who: &'a mut [Id],
-) -> usize
-    requires n_bound { n ≤ 128 }
-    requires room { Room (4 * n) ts.old px.old py.old who.old }
-    ensures cuts_of_first { CutsOfFirst image.now n sh id (cuts_in result ts.new px.new py.new who.new) }
+fn cuts_in(sh: Shape, id: Id, n: usize, t: &Tables, cuts: &mut [Cut]) -> usize
+    requires { 4 * n ≤ length cuts.old }
+    ensures cuts_of_first { CutsOfFirst t.now.image.now n sh id (take result cuts.new) }
     ensures upper_bound { result ≤ 4 * n }
 {
-    let curves = curves_of(image);
-    let points = points_of(image);
     let slack = slack(sh);
     let d = shape::direction_of(sh);
     let mut found: usize = 0;
-    let mut i: usize = 0;
-    while i < n {
-        let r = curve_record(curves, i);
+    for i in 0..n {
+        let r = curve_record(t.curves, i);
         let other = read_curve_id(r);
-        i += 1;
         if other != id {
-            match shape_of(read_kind(r), points, near) {
-                Outline::Freeform => {}
-                Outline::Analytic(shape) => {
-                    let o = Cutter {
-                        id: other,
-                        infinite: read_infinite(r),
-                        shape,
-                    };
-                    found = cuts_by(sh, d, slack, o, found, ts, px, py, who);
-                }
+            if let Some(shape) = shape_of(read_kind(r), t.points, t.near) {
+                let o = Cutter {
+                    id: other,
+                    infinite: read_infinite(r),
+                    shape,
+                };
+                found = cuts_by(sh, d, slack, o, found, cuts);
             }
         }
     }
     found
 }
 
-// The cuts around tq of the first n curves, where there is room for the cuts of n.
-fn bracket_in<'a, 'b>(
-    sh: Shape,
-    tq: f64,
-    id: Id,
-    n: usize,
-    image: &'b [u8],
-    near: &'b [u16],
-    ts: &'a mut [f64],
-    px: &'a mut [f64],
-    py: &'a mut [f64],
-    who: &'a mut [Id],
-) -> Neighbours
-    requires n_bound { n ≤ 128 }
-    requires room { Room (4 * n) ts.old px.old py.old who.old }
-    ensures { BracketOfFirst image.now n sh tq id result }
+// The cuts around tq of the first n curves, kept in an array of four for each.
+fn bracket_in<const N: usize>(sh: Shape, tq: f64, id: Id, n: usize, t: &Tables) -> Neighbours
+    requires { (4 * n ≤ N) × (N ≤ 512) }
+    ensures { BracketOfFirst t.now.image.now n sh tq id result }
 {
-    let found = cuts_in(sh, id, n, image, near, ts, px, py, who);
+    let mut cuts = [NO_CUT; N];
+    let found = cuts_in(sh, id, n, t, &mut cuts);
     if sh.is_full() {
-        return around(sh, tq, found, ts, px, py, who);
+        around(sh, tq, &cuts[..found])
+    } else {
+        beside(sh, tq, &cuts[..found])
     }
-    beside(sh, tq, found, ts, px, py, who)
-}
-
-fn bracket_of_few<'a>(
-    sh: Shape,
-    tq: f64,
-    id: Id,
-    n: usize,
-    image: &'a [u8],
-    near: &'a [u16],
-) -> Neighbours
-    requires { n ≤ 16 }
-    ensures { BracketOfFirst image.now n sh tq id result }
-{
-    let mut ts = [0.0; 64];
-    let mut px = [0.0; 64];
-    let mut py = [0.0; 64];
-    let mut who: [Id; 64] = [0; 64];
-    bracket_in(
-        sh, tq, id, n, image, near, &mut ts, &mut px, &mut py, &mut who,
-    )
-}
-
-fn bracket_of_some<'a>(
-    sh: Shape,
-    tq: f64,
-    id: Id,
-    n: usize,
-    image: &'a [u8],
-    near: &'a [u16],
-) -> Neighbours
-    requires { n ≤ 64 }
-    ensures { BracketOfFirst image.now n sh tq id result }
-{
-    let mut ts = [0.0; 256];
-    let mut px = [0.0; 256];
-    let mut py = [0.0; 256];
-    let mut who: [Id; 256] = [0; 256];
-    bracket_in(
-        sh, tq, id, n, image, near, &mut ts, &mut px, &mut py, &mut who,
-    )
-}
-
-fn bracket_of_many<'a>(
-    sh: Shape,
-    tq: f64,
-    id: Id,
-    n: usize,
-    image: &'a [u8],
-    near: &'a [u16],
-) -> Neighbours
-    requires { n ≤ 128 }
-    ensures { BracketOfFirst image.now n sh tq id result }
-{
-    let mut ts = [0.0; 512];
-    let mut px = [0.0; 512];
-    let mut py = [0.0; 512];
-    let mut who: [Id; 512] = [0; 512];
-    bracket_in(
-        sh, tq, id, n, image, near, &mut ts, &mut px, &mut py, &mut who,
-    )
 }
 
 // Of the curves of an image but the one with the id, the cuts on both sides of tq: before and after it, or on a full curve behind and
-// ahead, in order. A full curve under two cuts has none. A small drawing needs no large columns, which cost more to clear than its cuts
+// ahead, in order. A full curve under two cuts has none. A small drawing needs no large array, which costs more to clear than its cuts
 // do.
-pub fn bracket<'a>(sh: Shape, tq: f64, id: Id, image: &'a [u8], near: &'a [u16]) -> Neighbours
-    ensures { BracketIn image.now sh tq id result }
+pub fn bracket(sh: Shape, tq: f64, id: Id, t: &Tables) -> Neighbours
+    ensures { BracketIn t.now.image.now sh tq id result }
 {
-    let n = curve_count(curves_of(image));
+    let n = curve_count(t.curves);
     if n <= 16 {
-        return bracket_of_few(sh, tq, id, n, image, near);
+        return bracket_in::<64>(sh, tq, id, n, t);
     }
     if n <= 64 {
-        return bracket_of_some(sh, tq, id, n, image, near);
+        return bracket_in::<256>(sh, tq, id, n, t);
     }
     if n > 128 {
         return Neighbours::Zero;
     }
-    bracket_of_many(sh, tq, id, n, image, near)
+    bracket_in::<512>(sh, tq, id, n, t)
 }

@@ -1,13 +1,15 @@
 // The first or the last of the cuts that a search is for, without sorting them.
-ghost use Rattle.std.specs.Prelude.{◌≡◌, ℕ, ◌≤◌, ◌<◌, length};
+ghost use Rattle.std.specs.Prelude.{◌≡◌, option_to_list};
+ghost use Rattle.image.specs.Stored.{Binary64};
 ghost use Rattle.cuts.specs.Nearest as N;
-ghost use Rattle.cuts.specs.Nearest.{nearer_at, nearest_at};
+ghost use Rattle.cuts.specs.Nearest.{Fit};
 
-use crate::Side;
+use crate::{Cut, Side};
 
 // Whether a search is for a cut at t. The ends are low and high.
 fn wanted(side: Side, low: f64, high: f64, tq: f64, t: f64) -> bool
-    ensures { result ≡ N.wanted side low high tq t }
+    ensures side { result ≡ N.wanted side low high tq t }
+    ensures number { Binary64 t }
 {
     match side {
         Side::Before => (low < t) & (t < high) & (t < tq),
@@ -18,53 +20,33 @@ fn wanted(side: Side, low: f64, high: f64, tq: f64, t: f64) -> bool
     }
 }
 
-// The place of the best cut so far, n for none, after the one at i. Of equals the last found stands last, and the first found first.
-fn nearer(
-    side: Side,
-    last: bool,
-    low: f64,
-    high: f64,
-    tq: f64,
-    ts: &[f64],
-    n: usize,
-    i: usize,
-    best: usize,
-) -> usize
-    requires { (n ≤ length ts.now) × (i < n) }
-    ensures { result ≡ nearer_at last (N.wanted side low high tq) ts.now n i best }
+// The better of a cut and the best found before it: of equals the last found stands last, and the first found first.
+fn nearer(last: bool, best: Option<Cut>, k: Cut) -> Cut
+    ensures { result ≡ N.nearer last best k }
 {
-    let t = ts[i];
-    if !wanted(side, low, high, tq, t) {
-        return best;
-    }
-    if best >= n {
-        return i;
-    }
-    if float::before_in_order(t, ts[best]) == last {
-        best
-    } else {
-        i
+    match best {
+        Some(b) if float::before_in_order(k.t, b.t) == last => b,
+        _ => k,
     }
 }
 
-// The place of the first or the last of those wanted, n for none.
+// The first or the last of those wanted, if there is one.
 pub(crate) fn nearest(
     side: Side,
     last: bool,
     low: f64,
     high: f64,
     tq: f64,
-    ts: &[f64],
-    n: usize,
-) -> usize
-    requires { n ≤ length ts.now }
-    ensures { result ≡ nearest_at last (N.wanted side low high tq) ts.now n n }
+    cuts: &[Cut],
+) -> Option<Cut>
+    ensures found { option_to_list result ≡ N.nearest last (N.wanted side low high tq) cuts.now }
+    ensures numbers { Fit cuts.now }
 {
-    let mut best = n;
-    let mut i: usize = 0;
-    while i < n {
-        best = nearer(side, last, low, high, tq, ts, n, i, best);
-        i += 1;
+    let mut best: Option<Cut> = None;
+    for k in cuts {
+        if wanted(side, low, high, tq, k.t) {
+            best = Some(nearer(last, best, *k));
+        }
     }
     best
 }

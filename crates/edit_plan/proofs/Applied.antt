@@ -35,7 +35,7 @@ use Rattle.edit_plan.proofs.Finals.{same, Given, stays, with_pieces, swapped, re
 use Rattle.edit_plan.proofs.AtOnce.{final_of, orphans_of, room_number, left_cut, freed_is, given, sound, start_old, end_old, target_old, pin_apart, old_other}
 
 module _ {m : Limits} {d : Drawing} (v : Valid m d) (c : Curve) (found : curve_in d.curves c.id ≡ some c) where
-  module _ (met : Drawing → Bool) (k n : ℕ) where
+  module _ (met : Drawing → Bool) where
     abbrev i : ℕ
     i = d.next
 
@@ -88,12 +88,12 @@ module _ {m : Limits} {d : Drawing} (v : Valid m d) (c : Curve) (found : curve_i
           (λ q. omega (arith, start_old v c found o)) (λ q. omega (arith, end_old v c found o))
           (λ p. used_is d c (suc i) at_g ps rs (suc (suc i)) kept gone [] refl p ∙ or_false _)
 
-      pub cut_bridge : let e = extent_of c.kind c.id (Cut w b) in let h = change_for c k n (Cut w b) i in
+      pub cut_bridge : let e = extent_of c.kind c.id (Cut w b) in let h = change_for c (Cut w b) i in
           apply_plan_to met m d c (Cut w b) ≡ unless_refused (room_number m d c (Cut w b) e) (accepted (final_of d c h e (orphans_of d c (Cut w b))) h.removed)
       unfolding change_for additions_for is_whole
       cut_bridge =
           let e = extent_of c.kind c.id (Cut w b) in
-          let h = change_for c k n (Cut w b) i in
+          let h = change_for c (Cut w b) i in
           let np = length d.points in
           let nc = length d.curves in
           let nr = length (freed c d.relations) in
@@ -168,13 +168,13 @@ module _ {m : Limits} {d : Drawing} (v : Valid m d) (c : Curve) (found : curve_i
       report_middle : reported g (ends_of middle) ≡ record { curve = g; from = i; to = j }
       report_middle = report_is true c.kind g i j 0 (rw o)
 
-      pub middle_bridge : let e = extent_of c.kind c.id (CutTwo w u false) in let h = change_for c k n (CutTwo w u false) i in
+      pub middle_bridge : let e = extent_of c.kind c.id (CutTwo w u false) in let h = change_for c (CutTwo w u false) i in
           apply_plan_to met m d c (CutTwo w u false) ≡ unless_refused (room_number m d c (CutTwo w u false) e) (accepted (final_of d c h e (orphans_of d c (CutTwo w u false))) h.removed)
       unfolding change_for additions_for candidates_for is_whole
       middle_bridge =
           let plan = CutTwo w u false in
           let e = extent_of c.kind c.id plan in
-          let h = cut_middle c n w u i in
+          let h = cut_middle c w u i in
           let np = length d.points in
           let nc = length d.curves in
           let fs = freed c d.relations in

@@ -8,6 +8,7 @@ use native.Mathlib.Omega.{arith}
 use lib.Dec.{eqb, ltb}
 use lib.ListN.{length}
 use borrow.Author.Tests.{eq-eqb, ne_eqb}
+use Rattle.std.specs.Prelude.{Some}
 use Rattle.geom.specs.declared.Vec2.{Vec2}
 use Rattle.sketch.specs.declared.Point.{Point}
 use Rattle.sketch.specs.declared.Curve.{Curve}
@@ -41,18 +42,18 @@ use Rattle.edit_plan.proofs.Finals.{Given}
 
 -- ---- the curve that stays has another kind alone
 
-pub kept_recut : (c : Curve) (k n : ℕ) (plan : Plan) (i : ℕ) → (change_for c k n plan i).kept ≡ recut c (change_for c k n plan i).kept.kind
+pub kept_recut : (c : Curve) (plan : Plan) (i : ℕ) → (change_for c plan i).kept ≡ recut c (change_for c plan i).kept.kind
 unfolding change_for
-kept_recut c k n Whole i = refl
-kept_recut c k n (Cut w b) i = refl
-kept_recut c k n (CutTwo w v b) i = go (is_circle c.kind)
+kept_recut c Whole i = refl
+kept_recut c (Cut w b) i = refl
+kept_recut c (CutTwo w v b) i = go (is_circle c.kind)
   where
-    go : (x : Bool) → let h = ite x (cut_once c k (half_circles w.at v.at i) b (pin_relation w.pin i) (pin_relation v.pin (suc i))) (cut_middle c n w v i) in h.kept ≡ recut c h.kept.kind
+    go : (x : Bool) → let h = ite x (cut_once c (half_circles w.at v.at i) b (pin_relation w.pin i) (Some (pin_relation v.pin (suc i)))) (cut_middle c w v i) in h.kept ≡ recut c h.kept.kind
     go true = refl
     go false = refl
-kept_recut c k n (Divide v) i = refl
-kept_recut c k n (DivideTwo v u) i = refl
-kept_recut c k n (Move b v w) i = refl
+kept_recut c (Divide v) i = refl
+kept_recut c (DivideTwo v u) i = refl
+kept_recut c (Move b v w) i = refl
 
 -- ---- kinds that plans suit
 

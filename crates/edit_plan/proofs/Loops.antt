@@ -1,15 +1,16 @@
 -- For the code: what a test leaves is `concat_map` (and `keep`); a place is a look-up; a store at the place of an id is `map`. Assumes nothing.
 use mathlib.Core.Path.{◌≡◌, refl, ap, sym, ◌∙◌}
-use mathlib.Core.Bool.{Bool, true, false, ◌||◌}
+use mathlib.Core.Bool.{Bool, true, false}
 use mathlib.Core.List.{List, [], ◌∷◌, ◌++◌, map}
 use mathlib.Core.Option.{some}
-use Prim.Native.Nat.{ℕ, zero, suc, ◌+◌, ◌≤◌, ◌<◌}
-use native.Mathlib.Numerals.{add-one}
+use Prim.Native.Nat.{ℕ, zero, suc, ◌≤◌, ◌<◌}
 use native.Mathlib.Omega.{arith}
 use lib.Dec.{eqb}
-use lib.ListN.{length, take, drop, get_or, set, length-take, drop_of_length-le}
-use lib.Seq.{get_or-take, take-set-lt, drop-cons}
+use lib.ListN.{length, take, get_or, set, length-take}
+use lib.Seq.{get_or-take, take-set-lt}
 use borrow.Author.Tests.{eq-eqb, ne_eqb}
+use Rattle.std.proofs.lemmas.Bool.Decides.{nat_tests}
+use Rattle.std.specs.List.{list_any}
 use Rattle.sketch.specs.declared.Curve.{Curve}
 use Rattle.sketch.specs.declared.CurveKind.{CurveKind}
 use Rattle.sketch.specs.Lists.{ite, keep, concat_map}
@@ -40,21 +41,12 @@ keep_is f (a ∷ l) = go (f a) (keep_is f l)
 
 -- ---- a search
 
-module _ (p n i : ℕ) (l : List ℕ) where
-  pub among_next : i < n → i < length l → among p (drop i (take n l)) ≡ (eqb p (get_or l i 0) || among p (drop (i + 1) (take n l)))
-  among_next h k =
-      let e : i < length (take n l) = rw length-take (omega arith) in
-      rw (add-one, drop-cons (take n l) i 0 e, get_or-take n l i 0 h)
+eqb_flip : (a b : ℕ) → eqb a b ≡ eqb b a
+eqb_flip a b = grind (arith, nat_tests)
 
-  pub among_end : n ≤ i → among p (drop i (take n l)) ≡ false
-  among_end h =
-      let e : length (take n l) ≤ i = rw length-take (omega arith) in
-      rw (drop_of_length-le (take n l) e)
-
-  pub among_past : length l ≤ i → among p (drop i (take n l)) ≡ false
-  among_past h =
-      let e : length (take n l) ≤ i = rw length-take (omega arith) in
-      rw (drop_of_length-le (take n l) e)
+pub any_among : (p : ℕ) (l : List ℕ) → list_any (λ q. eqb q p) l ≡ among p l
+any_among p [] = refl
+any_among p (q ∷ l) = rw (eqb_flip q p, any_among p l)
 
 -- ---- ids rise, so the place of an id is the only one
 

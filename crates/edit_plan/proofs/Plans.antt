@@ -101,22 +101,21 @@ module _ {m : Limits} {d : Drawing} (v : Valid m d) (c : Curve) (found : curve_i
 
   -- ---- cuts and divisions
 
-  abbrev pub AtOnce : ℕ → ℕ → Plan → Type 0
-  AtOnce k n plan =
+  abbrev pub AtOnce : Plan → Type 0
+  AtOnce plan =
       apply_plan_to met m d c plan
-      ≡ unless_refused (room_number m d c plan (extent_of c.kind c.id plan)) (accepted (final_of d c (change_for c k n plan d.next) (extent_of c.kind c.id plan) (orphans_of d c plan)) (change_for c k n plan d.next).removed)
+      ≡ unless_refused (room_number m d c plan (extent_of c.kind c.id plan)) (accepted (final_of d c (change_for c plan d.next) (extent_of c.kind c.id plan) (orphans_of d c plan)) (change_for c plan d.next).removed)
 
-  module _ (k n : ℕ) where
-    two_cuts : (w u : PinnedPoint) (b : Bool) → Suited d c (CutTwo w u b) → (x : Bool) → is_circle c.kind ≡ x → AtOnce k n (CutTwo w u b)
-    two_cuts w u b s true o = cut_circle_bridge v c found met k n w u b o s.pins.0 s.pins.1
-    two_cuts w u true s false o = never (sym (open_middle c.kind w u true o s.kind).1)
-    two_cuts w u false s false o = middle_bridge v c found met k n w u (open_middle c.kind w u false o s.kind).0 o s.pins.0 s.pins.1
+  two_cuts : (w u : PinnedPoint) (b : Bool) → Suited d c (CutTwo w u b) → (x : Bool) → is_circle c.kind ≡ x → AtOnce (CutTwo w u b)
+  two_cuts w u b s true o = cut_circle_bridge v c found met w u b o s.pins.0 s.pins.1
+  two_cuts w u true s false o = never (sym (open_middle c.kind w u true o s.kind).1)
+  two_cuts w u false s false o = middle_bridge v c found met w u (open_middle c.kind w u false o s.kind).0 o s.pins.0 s.pins.1
 
-    pub cuts_bridge : (plan : Plan) → Suited d c plan → is_whole plan ≡ false → AtOnce k n plan
-    unfolding is_whole
-    cuts_bridge Whole s h = never (sym h)
-    cuts_bridge (Cut w b) s h = cut_bridge v c found met k n w b (open_cut c.kind w b s.kind) s.pins
-    cuts_bridge (CutTwo w u b) s h = two_cuts w u b s (is_circle c.kind) refl
-    cuts_bridge (Divide p) s h = divide_bridge v c found met k n p (open_divide c.kind p s.kind)
-    cuts_bridge (DivideTwo p q) s h = divide_circle_bridge v c found met k n p q (circle_divide c.kind p q s.kind)
-    cuts_bridge (Move b p w) s h = no_move c.kind b p w s.kind
+  pub cuts_bridge : (plan : Plan) → Suited d c plan → is_whole plan ≡ false → AtOnce plan
+  unfolding is_whole
+  cuts_bridge Whole s h = never (sym h)
+  cuts_bridge (Cut w b) s h = cut_bridge v c found met w b (open_cut c.kind w b s.kind) s.pins
+  cuts_bridge (CutTwo w u b) s h = two_cuts w u b s (is_circle c.kind) refl
+  cuts_bridge (Divide p) s h = divide_bridge v c found met p (open_divide c.kind p s.kind)
+  cuts_bridge (DivideTwo p q) s h = divide_circle_bridge v c found met p q (circle_divide c.kind p q s.kind)
+  cuts_bridge (Move b p w) s h = no_move c.kind b p w s.kind

@@ -7,6 +7,7 @@ use Prim.Native.Nat.{ℕ, suc, ◌+◌}
 use native.Mathlib.Omega.{arith}
 use lib.Dec.{ltb}
 use lib.ListN.{length}
+use Rattle.std.specs.Prelude.{Some}
 use Rattle.geom.specs.declared.Vec2.{Vec2}
 use Rattle.sketch.specs.declared.Point.{Point}
 use Rattle.sketch.specs.declared.Curve.{Curve}
@@ -32,7 +33,7 @@ use Rattle.edit_plan.proofs.Finals.{same, Given, stays, with_pieces, swapped, re
 use Rattle.edit_plan.proofs.AtOnce.{final_of, orphans_of, room_number, nobody_goes, left_all, left_cut, freed_is, seam_used, given, pin_apart, old_other}
 
 module _ {m : Limits} {d : Drawing} (v : Valid m d) (c : Curve) (found : curve_in d.curves c.id ≡ some c) where
-  module _ (met : Drawing → Bool) (k n : ℕ) where
+  module _ (met : Drawing → Bool) where
     abbrev i : ℕ
     i = d.next
 
@@ -86,13 +87,13 @@ module _ {m : Limits} {d : Drawing} (v : Valid m d) (c : Curve) (found : curve_i
       turned true = swapped d c g' free' points' relations' (suc g') (piece_of c.kind i j') (piece_of c.kind j' i)
       turned false = refl
 
-      pub cut_circle_bridge : let e = extent_of c.kind c.id (CutTwo w u b) in let h = change_for c k n (CutTwo w u b) i in
+      pub cut_circle_bridge : let e = extent_of c.kind c.id (CutTwo w u b) in let h = change_for c (CutTwo w u b) i in
           apply_plan_to met m d c (CutTwo w u b) ≡ unless_refused (room_number m d c (CutTwo w u b) e) (accepted (final_of d c h e (orphans_of d c (CutTwo w u b))) h.removed)
       unfolding change_for additions_for candidates_for is_whole
       cut_circle_bridge =
           let plan = CutTwo w u b in
           let e = extent_of c.kind c.id plan in
-          let h = cut_once c k (half_circles w.at u.at i) b (pin_relation w.pin i) (pin_relation u.pin j') in
+          let h = cut_once c (half_circles w.at u.at i) b (pin_relation w.pin i) (Some (pin_relation u.pin j')) in
           let np = length d.points in
           let nc = length d.curves in
           let fs = freed c d.relations in
@@ -116,13 +117,13 @@ module _ {m : Limits} {d : Drawing} (v : Valid m d) (c : Curve) (found : curve_i
 
     -- ---- divisions: nothing goes
 
-    pub divide_bridge : (p : Vec2) → is_open c.kind ≡ true → let e = extent_of c.kind c.id (Divide p) in let h = change_for c k n (Divide p) i in
+    pub divide_bridge : (p : Vec2) → is_open c.kind ≡ true → let e = extent_of c.kind c.id (Divide p) in let h = change_for c (Divide p) i in
         apply_plan_to met m d c (Divide p) ≡ unless_refused (room_number m d c (Divide p) e) (accepted (final_of d c h e (orphans_of d c (Divide p))) h.removed)
     unfolding change_for additions_for candidates_for is_whole
     divide_bridge p o =
         let plan = Divide p in
         let e = extent_of c.kind c.id plan in
-        let h = divide_once c n (halves_of c.kind p i) in
+        let h = divide_once c (halves_of c.kind p i) in
         let np = length d.points in
         let nc = length d.curves in
         let fs = freed c d.relations in
@@ -136,13 +137,13 @@ module _ {m : Limits} {d : Drawing} (v : Valid m d) (c : Curve) (found : curve_i
         ∙ sym (room_one m i np nc nr r p)
         ∙ ap (λ x. unless_refused (room_with m i np nc (not (ltb (x + 0) m.relations)) (mk_additions p p 0 0 0)) r) (sym (freed_is c plan d.relations))
 
-    pub divide_circle_bridge : (p q : Vec2) → is_circle c.kind ≡ true → let e = extent_of c.kind c.id (DivideTwo p q) in let h = change_for c k n (DivideTwo p q) i in
+    pub divide_circle_bridge : (p q : Vec2) → is_circle c.kind ≡ true → let e = extent_of c.kind c.id (DivideTwo p q) in let h = change_for c (DivideTwo p q) i in
         apply_plan_to met m d c (DivideTwo p q) ≡ unless_refused (room_number m d c (DivideTwo p q) e) (accepted (final_of d c h e (orphans_of d c (DivideTwo p q))) h.removed)
     unfolding change_for additions_for candidates_for is_whole
     divide_circle_bridge p q o =
         let plan = DivideTwo p q in
         let e = extent_of c.kind c.id plan in
-        let h = divide_once c n (half_circles p q i) in
+        let h = divide_once c (half_circles p q i) in
         let np = length d.points in
         let nc = length d.curves in
         let fs = freed c d.relations in

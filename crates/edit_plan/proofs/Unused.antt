@@ -4,11 +4,11 @@ use mathlib.Core.Bool.{Bool, true, false, not, ◌&&◌, ◌||◌}
 use mathlib.Core.List.{List, [], ◌∷◌, ◌++◌, append_assoc, append-nil}
 use Prim.Native.Nat.{ℕ, ◌+◌, ◌<◌}
 use native.Mathlib.Numerals.{add-one}
-use native.Mathlib.Omega.{arith}
 use lib.Dec.{eqb}
 use lib.ListN.{length, take, get_or}
 use lib.Seq.{take-suc}
 use borrow.Author.Tests.{eq-eqb, ne_eqb}
+use Rattle.std.specs.Prelude.{option_to_list}
 use Rattle.sketch.specs.declared.Curve.{Curve}
 use Rattle.sketch.specs.Lists.{ite, keep}
 use Rattle.sketch.specs.Lookup.{among}
@@ -17,7 +17,7 @@ use Rattle.sketch.specs.Blanks.{no_curve}
 use Rattle.sketch.proofs.Lists.{keep_append, keep_twice, keep_same, keep_true}
 use Rattle.edit_plan.specs.declared.Orphans.{Orphans}
 use Rattle.edit_plan.specs.Tables.{uses, others}
-use Rattle.edit_plan.specs.Changes.{lone, orphan_list, unused_by}
+use Rattle.edit_plan.specs.Changes.{orphan_list, unused_by}
 use Rattle.edit_plan.proofs.Leaves.{among_append}
 
 pub uses_append : (xs ys : List Curve) → uses (xs ++ ys) ≡ uses xs ++ uses ys
@@ -66,23 +66,7 @@ module _ (g i : ℕ) (cs : List Curve) (h : i < length cs) where
 
 -- ---- up to three points
 
-lone_kept : (f : ℕ → Bool) (b : Bool) (p : ℕ) → lone (b && f p) p ≡ keep f (lone b p)
-lone_kept f true p = refl
-lone_kept f false p = refl
-
-pub orphans_kept : (f : ℕ → Bool) (o : Orphans) → lone (o.pgoes && f o.p) o.p ++ (lone (o.qgoes && f o.q) o.q ++ lone (o.rgoes && f o.r) o.r) ≡ keep f (orphan_list o)
+pub orphans_kept : (f : ℕ → Bool) (o : Orphans) → keep f (option_to_list o.first) ++ (keep f (option_to_list o.second) ++ keep f (option_to_list o.third)) ≡ keep f (orphan_list o)
 orphans_kept f o =
-    ap (λ t. t ++ (lone (o.qgoes && f o.q) o.q ++ lone (o.rgoes && f o.r) o.r)) (lone_kept f o.pgoes o.p)
-    ∙ ap (λ t. keep f (lone o.pgoes o.p) ++ (t ++ lone (o.rgoes && f o.r) o.r)) (lone_kept f o.qgoes o.q)
-    ∙ ap (λ t. keep f (lone o.pgoes o.p) ++ (keep f (lone o.qgoes o.q) ++ t)) (lone_kept f o.rgoes o.r)
-    ∙ ap (λ t. keep f (lone o.pgoes o.p) ++ t) (sym (keep_append f (lone o.qgoes o.q) (lone o.rgoes o.r)))
-    ∙ sym (keep_append f (lone o.pgoes o.p) (lone o.qgoes o.q ++ lone o.rgoes o.r))
-
-pub none_go : (o : Orphans) → ((o.pgoes || o.qgoes) || o.rgoes) ≡ false → orphan_list o ≡ []
-none_go o h = go o.pgoes o.qgoes o.rgoes h
-  where
-    go : (a b c : Bool) → ((a || b) || c) ≡ false → lone a o.p ++ (lone b o.q ++ lone c o.r) ≡ []
-    go false false false e = refl
-    go true b c e = let z : ◌≡◌ {A = ℕ} 0 1 = cc in absurd (omega arith)
-    go false true c e = let z : ◌≡◌ {A = ℕ} 0 1 = cc in absurd (omega arith)
-    go false false true e = let z : ◌≡◌ {A = ℕ} 0 1 = cc in absurd (omega arith)
+    ap (λ t. keep f (option_to_list o.first) ++ t) (sym (keep_append f (option_to_list o.second) (option_to_list o.third)))
+    ∙ sym (keep_append f (option_to_list o.first) (option_to_list o.second ++ option_to_list o.third))

@@ -1,5 +1,6 @@
 -- All that applying a plan writes, as one record: the new points and pieces, the curve's new kind, what is removed. Definitions only.
-use Rattle.std.specs.Prelude.{ℕ, suc, Bool, true, false, not, List, [], ◌∷◌, ◌++◌, eqb}
+use Rattle.std.specs.Prelude as P
+use Rattle.std.specs.Prelude.{ℕ, suc, Bool, true, false, not, List, [], ◌∷◌, ◌++◌, eqb, Some, None, option_to_list}
 use Rattle.std.proofs.Math.Option.{Option, some, none}
 use Rattle.geom.specs.declared.Vec2.{Vec2}
 use Rattle.geom.specs.Plane.{origin}
@@ -20,8 +21,6 @@ use Rattle.edit_plan.specs.declared.Plan.TheVariants.{Whole, Cut, CutTwo, Divide
 use Rattle.edit_plan.specs.declared.Removed.{Removed}
 use Rattle.edit_plan.specs.declared.Extent.{Extent}
 use Rattle.edit_plan.specs.declared.Orphans.{Orphans}
-use Rattle.edit_plan.specs.declared.Kept.{Kept}
-use Rattle.edit_plan.specs.declared.Kept.TheVariants.{Keep, Dropped}
 use Rattle.edit_plan.specs.declared.Halves.{Halves}
 use Rattle.edit_plan.specs.declared.Change.{Change}
 use Rattle.edit_plan.specs.Tables.{new_point, new_curve, curves_of, uses}
@@ -99,9 +98,8 @@ recut c k =
 abbrev pub halves_of : CurveKind → Vec2 → ℕ → Halves
 halves_of k v i =
     record {
-      p = new_point i v;
-      q = new_point i v;
-      points = 0;
+      point = new_point i v;
+      second_point = None;
       from = start_of k;
       at = i;
       to = end_of k;
@@ -112,9 +110,8 @@ halves_of k v i =
 abbrev pub half_circles : Vec2 → Vec2 → ℕ → Halves
 half_circles v u i =
     record {
-      p = new_point i v;
-      q = new_point (suc i) u;
-      points = 1;
+      point = new_point i v;
+      second_point = Some (new_point (suc i) u);
       from = i;
       at = suc i;
       to = i;
@@ -125,9 +122,8 @@ half_circles v u i =
 abbrev pub no_halves : ℕ → Halves
 no_halves i =
     record {
-      p = new_point 0 origin;
-      q = new_point 0 origin;
-      points = 0;
+      point = new_point 0 origin;
+      second_point = None;
       from = 0;
       at = 0;
       to = 0;
@@ -135,86 +131,68 @@ no_halves i =
       next = i;
     }
 
-abbrev pub cut_once : Curve → ℕ → Halves → Bool → Relation → Relation → Change
-cut_once c k h first_goes r s =
-    let kept = recut c (kept_piece c.kind first_goes h.from h.at h.to) in
+abbrev pub cut_once : Curve → Halves → Bool → Relation → P.Option Relation → Change
+cut_once c h first_goes r s =
     record {
       next = h.next;
-      p = h.p;
-      q = h.q;
-      points = h.points;
-      kept = kept;
-      added = kept;
-      place = k;
-      curves = 0;
-      r = r;
-      s = s;
-      t = s;
-      second = h.points;
-      third = h.points;
+      point = h.point;
+      second_point = h.second_point;
+      kept = recut c (kept_piece c.kind first_goes h.from h.at h.to);
+      added = None;
+      relation = r;
+      second_relation = s;
+      third_relation = None;
       removed = gone_as h.half first_goes h.from h.at h.to;
     }
 
-abbrev pub divide_once : Curve → ℕ → Halves → Change
-divide_once c n h =
-    let tie = tie_relation (is_line c.kind) c.id h.half in
+abbrev pub divide_once : Curve → Halves → Change
+divide_once c h =
     record {
       next = h.next;
-      p = h.p;
-      q = h.q;
-      points = h.points;
+      point = h.point;
+      second_point = h.second_point;
       kept = recut c (piece_of c.kind h.from h.at);
-      added = new_curve h.half (piece_of c.kind h.at h.to) c.construction;
-      place = n;
-      curves = 1;
-      r = tie;
-      s = tie;
-      t = tie;
-      second = 0;
-      third = 0;
+      added = Some (new_curve h.half (piece_of c.kind h.at h.to) c.construction);
+      relation = tie_relation (is_line c.kind) c.id h.half;
+      second_relation = None;
+      third_relation = None;
       removed = nothing;
     }
 
-abbrev pub cut_middle : Curve → ℕ → PinnedPoint → PinnedPoint → ℕ → Change
-cut_middle c n w v i =
+abbrev pub cut_middle : Curve → PinnedPoint → PinnedPoint → ℕ → Change
+cut_middle c w v i =
     record {
       next = suc (suc (suc (suc i)));
-      p = new_point i w.at;
-      q = new_point (suc i) v.at;
-      points = 1;
+      point = new_point i w.at;
+      second_point = Some (new_point (suc i) v.at);
       kept = recut c (piece_of c.kind (start_of c.kind) i);
-      added = new_curve (suc (suc (suc i))) (piece_of c.kind (suc i) (end_of c.kind)) c.construction;
-      place = n;
-      curves = 1;
-      r = pin_relation w.pin i;
-      s = pin_relation v.pin (suc i);
-      t = tie_relation (is_line c.kind) c.id (suc (suc (suc i)));
-      second = 1;
-      third = 2;
+      added = Some (new_curve (suc (suc (suc i))) (piece_of c.kind (suc i) (end_of c.kind)) c.construction);
+      relation = pin_relation w.pin i;
+      second_relation = Some (pin_relation v.pin (suc i));
+      third_relation = Some (tie_relation (is_line c.kind) c.id (suc (suc (suc i))));
       removed = record { curve = suc (suc i); from = i; to = suc i };
     }
 
--- for the curve c at place k of n
-unfoldable pub change_for : Curve → ℕ → ℕ → Plan → ℕ → Change
-change_for c k n Whole i = divide_once c n (no_halves i)
-change_for c k n (Cut w first_goes) i =
-    cut_once c k (halves_of c.kind w.at i) first_goes (pin_relation w.pin i) (pin_relation w.pin i)
-change_for c k n (CutTwo w v first_goes) i =
+-- for the curve c
+unfoldable pub change_for : Curve → Plan → ℕ → Change
+change_for c Whole i = divide_once c (no_halves i)
+change_for c (Cut w first_goes) i = cut_once c (halves_of c.kind w.at i) first_goes (pin_relation w.pin i) None
+change_for c (CutTwo w v first_goes) i =
     ite (is_circle c.kind)
-    (cut_once c k (half_circles w.at v.at i) first_goes (pin_relation w.pin i) (pin_relation v.pin (suc i)))
-    (cut_middle c n w v i)
-change_for c k n (Divide v) i = divide_once c n (halves_of c.kind v i)
-change_for c k n (DivideTwo v u) i = divide_once c n (half_circles v u i)
-change_for c k n (Move at_end v w) i = divide_once c n (no_halves i)
+    (cut_once c (half_circles w.at v.at i) first_goes (pin_relation w.pin i) (Some (pin_relation v.pin (suc i))))
+    (cut_middle c w v i)
+change_for c (Divide v) i = divide_once c (halves_of c.kind v i)
+change_for c (DivideTwo v u) i = divide_once c (half_circles v u i)
+change_for c (Move at_end v w) i = divide_once c (no_halves i)
 
 abbrev pub points_new : Change → List Point
-points_new h = ite (eqb h.points 0) (h.p ∷ []) (h.p ∷ h.q ∷ [])
+points_new h = h.point ∷ option_to_list h.second_point
 
 abbrev pub curves_new : Change → List Curve
-curves_new h = ite (eqb h.curves 0) [] (h.added ∷ [])
+curves_new h = option_to_list h.added
 
 abbrev pub relations_new : Change → List Relation
-relations_new h = ite (eqb h.third 0) (h.r ∷ []) (ite (eqb h.third 1) (h.r ∷ h.s ∷ []) (h.r ∷ h.s ∷ h.t ∷ []))
+relations_new h = h.relation ∷ (option_to_list h.second_relation ++ option_to_list h.third_relation)
 
 -- ---- what is removed
 
@@ -228,15 +206,8 @@ whole_gone e = record { curve = e.id; from = e.from; to = e.to }
 abbrev pub chord : Extent → Option (ℕ × ℕ)
 chord e = ite e.line (some (e.from, e.to)) none
 
-abbrev pub kept_of : Kept → List Relation
-kept_of (Keep r) = r ∷ []
-kept_of Dropped = []
-
-abbrev pub lone : Bool → ℕ → List ℕ
-lone b p = ite b (p ∷ []) []
-
 abbrev pub orphan_list : Orphans → List ℕ
-orphan_list o = lone o.pgoes o.p ++ (lone o.qgoes o.q ++ lone o.rgoes o.r)
+orphan_list o = option_to_list o.first ++ (option_to_list o.second ++ option_to_list o.third)
 
 abbrev pub staying : List ℕ → ℕ → Bool
 staying os p = not (among p os)
@@ -252,23 +223,23 @@ left_of e os v = keep (λ r. every (staying os) (points_of r)) (left_by e v)
 abbrev pub unused_by : List Curve → List ℕ → List ℕ
 unused_by cs ps = keep (λ p. not (among p (uses cs))) ps
 
-abbrev pub mk_orphans : ℕ → ℕ → ℕ → Bool → Bool → Bool → Orphans
-mk_orphans p q r b c d = record { p = p; q = q; r = r; pgoes = b; qgoes = c; rgoes = d }
-
 abbrev pub no_orphans : Orphans
-no_orphans = mk_orphans 0 0 0 false false false
+no_orphans = record { first = None; second = None; third = None }
+
+abbrev pub lone_orphan : ℕ → Orphans
+lone_orphan p = record { first = Some p; second = None; third = None }
 
 -- all points of a curve that is removed
 unfoldable pub own_points : CurveKind → Orphans
-own_points (Line a b) = mk_orphans a b 0 true true false
-own_points (Arc c a b) = mk_orphans c a b true true true
-own_points (Circle c r) = mk_orphans c 0 0 true false false
+own_points (Line a b) = record { first = Some a; second = Some b; third = None }
+own_points (Arc c a b) = record { first = Some c; second = Some a; third = Some b }
+own_points (Circle c r) = lone_orphan c
 own_points (Bezier n) = no_orphans
 own_points (Conic a p b rho) = no_orphans
 
 -- the far end of a curve that loses its first piece, or its last
 abbrev pub far_end : Bool → CurveKind → Orphans
-far_end first_goes k = mk_orphans (ite first_goes (start_of k) (end_of k)) 0 0 true false false
+far_end first_goes k = lone_orphan (ite first_goes (start_of k) (end_of k))
 
 unfoldable pub candidates_for : CurveKind → Plan → Orphans
 candidates_for k Whole = own_points k

@@ -18,6 +18,10 @@ abbrev pub mk_additions : Vec2 → Vec2 → ℕ → ℕ → ℕ → Additions
 mk_additions v u points curves relations =
     record { first = v; second = u; points = points; curves = curves; relations = relations }
 
+-- one point, one curve and one relation
+abbrev pub one_place : Vec2 → Additions
+one_place v = mk_additions v v 0 0 0
+
 unfoldable pub additions_for : CurveKind → Plan → Additions
 additions_for k Whole = mk_additions origin origin 0 0 0
 additions_for k (Cut w first_goes) = mk_additions w.at w.at 0 0 0

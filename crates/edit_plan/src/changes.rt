@@ -18,11 +18,9 @@ fn halves(kind: CurveKind, v: Vec2, next: Id) -> Halves
     requires { next + 2 ≤ limits.ids }
     ensures { result ≡ halves_of kind v next }
 {
-    let p = new_point(next, v);
     Halves {
-        p: p,
-        q: p,
-        points: 0,
+        point: new_point(next, v),
+        second_point: None,
         from: start_of(kind),
         at: next,
         to: end_of(kind),
@@ -38,9 +36,8 @@ fn half_circles(v: Vec2, u: Vec2, next: Id) -> Halves
 {
     let i = next + 1;
     Halves {
-        p: new_point(next, v),
-        q: new_point(i, u),
-        points: 1,
+        point: new_point(next, v),
+        second_point: Some(new_point(i, u)),
         from: next,
         at: i,
         to: next,
@@ -53,120 +50,83 @@ fn half_circles(v: Vec2, u: Vec2, next: Id) -> Halves
 fn no_halves(next: Id) -> Halves
     ensures { result ≡ no_halves next }
 {
-    let p = new_point(0, Vec2::ZERO);
     Halves {
-        p: p,
-        q: p,
-        points: 0,
+        point: new_point(0, Vec2::ZERO),
+        second_point: None,
         from: 0,
         at: 0,
         to: 0,
         half: 0,
-        next: next,
+        next,
     }
 }
 
 // One half is removed, and the ends of the other are pinned.
-fn cut_once(c: Curve, k: usize, h: Halves, lead: bool, r: Relation, s: Relation) -> Change
-    ensures { result ≡ cut_once c k h lead r s }
+fn cut_once(
+    c: Curve,
+    h: Halves,
+    lead: bool,
+    relation: Relation,
+    second_relation: Option<Relation>,
+) -> Change
+    ensures { result ≡ cut_once c h lead relation second_relation }
 {
-    let p = h.p;
-    let q = h.q;
-    let kind = c.kind;
-    let left = recut(c, kept_piece(kind, lead, h.from, h.at, h.to));
     Change {
         next: h.next,
-        p: p,
-        q: q,
-        points: h.points,
-        kept: left,
-        added: left,
-        place: k,
-        curves: 0,
-        r: r,
-        s: s,
-        t: s,
-        second: h.points,
-        third: h.points,
+        point: h.point,
+        second_point: h.second_point,
+        kept: recut(c, kept_piece(c.kind, lead, h.from, h.at, h.to)),
+        added: None,
+        relation,
+        second_relation,
+        third_relation: None,
         removed: gone_piece(h.half, lead, h.from, h.at, h.to),
     }
 }
 
-// Both halves stay, and are tied; the second comes after n curves.
-fn divide_once(c: Curve, n: usize, h: Halves) -> Change
-    ensures { result ≡ divide_once c n h }
+// Both halves stay, and are tied.
+fn divide_once(c: Curve, h: Halves) -> Change
+    ensures { result ≡ divide_once c h }
 {
-    let p = h.p;
-    let q = h.q;
-    let kind = c.kind;
-    let tie = tie_relation(kind, c.id, h.half);
     Change {
         next: h.next,
-        p: p,
-        q: q,
-        points: h.points,
-        kept: recut(c, piece(kind, h.from, h.at)),
-        added: new_curve(h.half, piece(kind, h.at, h.to), c.construction),
-        place: n,
-        curves: 1,
-        r: tie,
-        s: tie,
-        t: tie,
-        second: 0,
-        third: 0,
-        removed: Removed {
-            curve: 0,
-            from: 0,
-            to: 0,
-        },
+        point: h.point,
+        second_point: h.second_point,
+        kept: recut(c, piece(c.kind, h.from, h.at)),
+        added: Some(new_curve(h.half, piece(c.kind, h.at, h.to), c.construction)),
+        relation: tie_relation(c.kind, c.id, h.half),
+        second_relation: None,
+        third_relation: None,
+        removed: Removed::NOTHING,
     }
 }
 
 // A circle becomes the arc between its cuts, or the other one.
-fn cut_circle(c: Curve, k: usize, w: PinnedPoint, v: PinnedPoint, lead: bool, next: Id) -> Change
+fn cut_circle(c: Curve, w: PinnedPoint, v: PinnedPoint, lead: bool, next: Id) -> Change
     requires { next + 3 ≤ limits.ids }
-    ensures { result ≡ cut_once c k (half_circles w.at v.at next) lead (pin_relation w.pin next) (pin_relation v.pin (suc next)) }
+    ensures { result ≡ cut_once c (half_circles w.at v.at next) lead (pin_relation w.pin next) (Some (pin_relation v.pin (suc next))) }
 {
-    let x = w.at;
-    let y = v.at;
-    let first = w.pin;
-    let second = v.pin;
-    let r = pin_relation(first, next);
-    let s = pin_relation(second, next + 1);
-    cut_once(c, k, half_circles(x, y, next), lead, r, s)
+    let first = pin_relation(w.pin, next);
+    let second = pin_relation(v.pin, next + 1);
+    cut_once(c, half_circles(w.at, v.at, next), lead, first, Some(second))
 }
 
-// The middle piece of a line or an arc is removed; its last piece is new, and comes after n curves.
-fn cut_middle(c: Curve, n: usize, w: PinnedPoint, v: PinnedPoint, next: Id) -> Change
+// The middle piece of a line or an arc is removed; its last piece is new.
+fn cut_middle(c: Curve, w: PinnedPoint, v: PinnedPoint, next: Id) -> Change
     requires { next + 4 ≤ limits.ids }
-    ensures { result ≡ cut_middle c n w v next }
+    ensures { result ≡ cut_middle c w v next }
 {
-    let kind = c.kind;
-    let a = start_of(kind);
-    let b = end_of(kind);
     let i = next + 1;
     let g = next + 3;
-    let x = w.at;
-    let y = v.at;
-    let first = w.pin;
-    let second = v.pin;
-    let r = pin_relation(first, next);
-    let s = pin_relation(second, i);
-    let tie = tie_relation(kind, c.id, g);
     Change {
         next: next + 4,
-        p: new_point(next, x),
-        q: new_point(i, y),
-        points: 1,
-        kept: recut(c, piece(kind, a, next)),
-        added: new_curve(g, piece(kind, i, b), c.construction),
-        place: n,
-        curves: 1,
-        r: r,
-        s: s,
-        t: tie,
-        second: 1,
-        third: 2,
+        point: new_point(next, w.at),
+        second_point: Some(new_point(i, v.at)),
+        kept: recut(c, piece(c.kind, start_of(c.kind), next)),
+        added: Some(new_curve(g, piece(c.kind, i, end_of(c.kind)), c.construction)),
+        relation: pin_relation(w.pin, next),
+        second_relation: Some(pin_relation(v.pin, i)),
+        third_relation: Some(tie_relation(c.kind, c.id, g)),
         removed: Removed {
             curve: next + 2,
             from: next,
@@ -175,52 +135,50 @@ fn cut_middle(c: Curve, n: usize, w: PinnedPoint, v: PinnedPoint, next: Id) -> C
     }
 }
 
-// What the plan writes for the curve c, which stands at place k of n.
-pub(crate) fn change_for(c: Curve, k: usize, n: usize, plan: Plan, next: Id) -> Change
+// What the plan writes for the curve c.
+#[tactic(auto, unfolding(crate::specs::Changes::change_for, crate::specs::Room::takes))]
+pub(crate) fn change_for(c: Curve, plan: Plan, next: Id) -> Change
     requires { next + takes c.kind plan ≤ limits.ids }
-    ensures { result ≡ change_for c k n plan next }
+    ensures { result ≡ change_for c plan next }
 {
-    let kind = c.kind;
     match plan {
-        Plan::Cut(w, lead) => {
-            let v = w.at;
-            let end = w.pin;
-            let pin = pin_relation(end, next);
-            cut_once(c, k, halves(kind, v, next), lead, pin, pin)
-        }
-        Plan::CutTwo(w, v, lead) => if is_circle(kind) {
-            cut_circle(c, k, w, v, lead, next)
+        Plan::Cut(w, lead) => cut_once(
+            c,
+            halves(c.kind, w.at, next),
+            lead,
+            pin_relation(w.pin, next),
+            None,
+        ),
+        Plan::CutTwo(w, v, lead) => if is_circle(c.kind) {
+            cut_circle(c, w, v, lead, next)
         } else {
-            cut_middle(c, n, w, v, next)
+            cut_middle(c, w, v, next)
         },
-        Plan::Divide(v) => divide_once(c, n, halves(kind, v, next)),
-        Plan::DivideTwo(v, u) => divide_once(c, n, half_circles(v, u, next)),
-        _ => divide_once(c, n, no_halves(next)),
+        Plan::Divide(v) => divide_once(c, halves(c.kind, v, next)),
+        Plan::DivideTwo(v, u) => divide_once(c, half_circles(v, u, next)),
+        _ => divide_once(c, no_halves(next)),
     }
 }
 
 // How many ids the plan takes.
+#[tactic(auto, unfolding(crate::specs::Room::takes))]
 fn ids_taken(kind: CurveKind, plan: Plan) -> Id
     ensures { (result ≡ takes kind plan) × (result ≤ 4) }
 {
     match plan {
-        Plan::Whole => 0,
-        Plan::Cut(_, _) => 2,
+        Plan::Whole | Plan::Move(_, _, _) => 0,
+        Plan::Cut(_, _) | Plan::Divide(_) => 2,
         Plan::CutTwo(_, _, _) => if is_circle(kind) { 3 } else { 4 },
-        Plan::Divide(_) => 2,
         Plan::DivideTwo(_, _) => 3,
-        Plan::Move(_, _, _) => 0,
     }
 }
 
-// What the plan writes for the curve c, which stands at place k of n, whatever the next id is: where too few ids are left after it,
-// those from 0 on are taken.
-pub fn plan_change(c: Curve, k: usize, n: usize, plan: Plan, next: Id) -> Change
-    ensures { result ≡ change_for c k n plan (ite (leb (next + takes c.kind plan) limits.ids) next 0) }
+// What the plan writes for the curve c, whatever the next id is: where too few ids are left after it, those from 0 on are taken.
+pub fn plan_change(c: Curve, plan: Plan, next: Id) -> Change
+    ensures { result ≡ change_for c plan (ite (leb (next + takes c.kind plan) limits.ids) next 0) }
 {
-    let kind = c.kind;
-    if MAX_NEXT_ID - ids_taken(kind, plan) < next {
-        return change_for(c, k, n, plan, 0);
+    if MAX_NEXT_ID - ids_taken(c.kind, plan) < next {
+        return change_for(c, plan, 0);
     }
-    change_for(c, k, n, plan, next)
+    change_for(c, plan, next)
 }

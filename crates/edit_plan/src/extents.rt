@@ -10,26 +10,21 @@ use sketch::{CurveKind, Id};
 fn is_line(kind: CurveKind) -> bool
     ensures { result ≡ is_line kind }
 {
-    match kind {
-        CurveKind::Line(_, _) => true,
-        _ => false,
-    }
+    matches!(kind, CurveKind::Line(_, _))
 }
 
+#[tactic(auto, unfolding(crate::specs::Changes::is_whole))]
 pub(crate) fn is_whole(plan: Plan) -> bool
     ensures { result ≡ is_whole plan }
 {
-    match plan {
-        Plan::Whole => true,
-        _ => false,
-    }
+    matches!(plan, Plan::Whole)
 }
 
 pub fn extent_of(kind: CurveKind, id: Id, plan: Plan) -> Extent
     ensures { result ≡ extent_of kind id plan }
 {
     Extent {
-        id: id,
+        id,
         line: is_line(kind),
         whole: is_whole(plan),
         from: start_of(kind),

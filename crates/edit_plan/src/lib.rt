@@ -12,10 +12,10 @@ pub use changes::plan_change;
 pub use extents::extent_of;
 use geom::Vec2;
 pub use pieces::pin_relation;
-pub use removal::{is_orphan, left_of};
+pub use removal::left_of;
 pub use room::room_for;
-use sketch::{Curve, Id, Point, Relation, Sketch};
-pub use unused_points::{candidates_of, curve_uses, unless_used};
+use sketch::{Curve, Id, Point, Relation};
+pub use unused_points::{candidates_of, curve_uses};
 
 // The constraint on a new end: on the curve that cut there, or at an end of it, which is a point.
 #[derive(Clone, Copy)]
@@ -53,14 +53,12 @@ pub struct Removed {
     pub to: Id,
 }
 
-// What an edit leaves. Where it is refused, by a number other than 0, that is the sketch it was given. A place comes with the
-// numbers 13 and 19: that of the first relation that is not met, with 19 in the table that the edit would have left.
-#[derive(Clone, Copy)]
-pub struct Edited {
-    pub sketch: Sketch,
-    pub refusal: u8,
-    pub place: usize,
-    pub removed: Removed,
+impl Removed {
+    pub const NOTHING: Removed = Removed {
+        curve: 0,
+        from: 0,
+        to: 0,
+    };
 }
 
 // The curve that is cut, or removed whole (`whole`), with the ends of a line (`line`) or an arc; zeros where there are none.
@@ -73,26 +71,17 @@ pub struct Extent {
     pub to: Id,
 }
 
-// Up to three points, each with whether it is removed.
+// Up to three points that are removed with a curve, or with a piece of it.
 #[derive(Clone, Copy)]
 pub struct Orphans {
-    pub p: Id,
-    pub q: Id,
-    pub r: Id,
-    pub pgoes: bool,
-    pub qgoes: bool,
-    pub rgoes: bool,
-}
-
-// What is left of a relation.
-#[derive(Clone, Copy)]
-pub enum Kept {
-    Keep(Relation),
-    Dropped,
+    pub first: Option<Id>,
+    pub second: Option<Id>,
+    pub third: Option<Id>,
 }
 
 // What a cut or a division adds: a point, a curve and a relation, and how many more of each. Where no second point is
-// added, its place is that of the first.
+// added, its place is that of the first. These are no options, so that the tests of room stand one after another: what
+// is not added passes the test that the first passed.
 #[derive(Clone, Copy)]
 struct Additions {
     first: Vec2,
@@ -105,9 +94,8 @@ struct Additions {
 // A curve in two: the new points, the way through the last of them, the id of its second half and the next id then.
 #[derive(Clone, Copy)]
 struct Halves {
-    p: Point,
-    q: Point,
-    points: usize,
+    point: Point,
+    second_point: Option<Point>,
     from: Id,
     at: Id,
     to: Id,
@@ -115,22 +103,16 @@ struct Halves {
     next: Id,
 }
 
-// What a cut or a division writes. A second point comes `points` places after the first: where there is none, that is
-// the same again at the same place; and so for a new piece, which stands at `place`, and for the relations.
+// What a cut or a division writes: one point or two, the curve that stays, a new piece or none, and up to three relations.
 #[derive(Clone, Copy)]
 pub struct Change {
     pub next: Id,
-    pub p: Point,
-    pub q: Point,
-    pub points: usize,
+    pub point: Point,
+    pub second_point: Option<Point>,
     pub kept: Curve,
-    pub added: Curve,
-    pub place: usize,
-    pub curves: usize,
-    pub r: Relation,
-    pub s: Relation,
-    pub t: Relation,
-    pub second: usize,
-    pub third: usize,
+    pub added: Option<Curve>,
+    pub relation: Relation,
+    pub second_relation: Option<Relation>,
+    pub third_relation: Option<Relation>,
     pub removed: Removed,
 }

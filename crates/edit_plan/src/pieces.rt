@@ -9,45 +9,43 @@ use crate::{Pin, Removed};
 use geom::Vec2;
 use sketch::{Curve, CurveKind, Id, Point, Relation};
 
+#[tactic(auto, unfolding(crate::specs::Changes::is_circle))]
 pub(crate) fn is_circle(kind: CurveKind) -> bool
     ensures { result ≡ is_circle kind }
 {
-    match kind {
-        CurveKind::Circle(_, _) => true,
-        _ => false,
-    }
+    matches!(kind, CurveKind::Circle(_, _))
 }
 
 // The start of a line or an arc, 0 for other curves.
+#[tactic(auto, unfolding(crate::specs::Changes::start_of))]
 pub(crate) fn start_of(kind: CurveKind) -> Id
     ensures { result ≡ start_of kind }
 {
     match kind {
-        CurveKind::Line(a, _) => a,
-        CurveKind::Arc(_, a, _) => a,
+        CurveKind::Line(a, _) | CurveKind::Arc(_, a, _) => a,
         _ => 0,
     }
 }
 
 // The end of a line or an arc, 0 for other curves.
+#[tactic(auto, unfolding(crate::specs::Changes::end_of))]
 pub(crate) fn end_of(kind: CurveKind) -> Id
     ensures { result ≡ end_of kind }
 {
     match kind {
-        CurveKind::Line(_, b) => b,
-        CurveKind::Arc(_, _, b) => b,
+        CurveKind::Line(_, b) | CurveKind::Arc(_, _, b) => b,
         _ => 0,
     }
 }
 
 // The piece of a curve from point to point.
+#[tactic(auto, unfolding(crate::specs::Changes::piece_of))]
 pub(crate) fn piece(kind: CurveKind, from: Id, to: Id) -> CurveKind
     ensures { result ≡ piece_of kind from to }
 {
     match kind {
         CurveKind::Line(_, _) => CurveKind::Line(from, to),
-        CurveKind::Arc(c, _, _) => CurveKind::Arc(c, from, to),
-        CurveKind::Circle(c, _) => CurveKind::Arc(c, from, to),
+        CurveKind::Arc(c, _, _) | CurveKind::Circle(c, _) => CurveKind::Arc(c, from, to),
         _ => kind,
     }
 }
@@ -83,6 +81,7 @@ pub(crate) fn gone_piece(g: Id, lead: bool, a: Id, m: Id, b: Id) -> Removed
 }
 
 // The relation that a pin adds for a point.
+#[tactic(auto, unfolding(crate::specs::Changes::pin_relation))]
 pub fn pin_relation(pin: Pin, p: Id) -> Relation
     ensures { result ≡ pin_relation pin p }
 {
@@ -105,7 +104,7 @@ pub(crate) fn new_point(id: Id, v: Vec2) -> Point
     ensures { result ≡ new_point id v }
 {
     Point {
-        id: id,
+        id,
         fixed: false,
         x: v.x,
         y: v.y,
@@ -115,14 +114,13 @@ pub(crate) fn new_point(id: Id, v: Vec2) -> Point
 pub(crate) fn new_curve(id: Id, kind: CurveKind, construction: bool) -> Curve
     ensures { result ≡ new_curve id kind construction }
 {
-    let slots: [Id; 8] = [0; 8];
     Curve {
-        id: id,
-        construction: construction,
+        id,
+        construction,
         centerline: false,
         infinite: false,
-        kind: kind,
-        slots: slots,
+        kind,
+        slots: [0; 8],
     }
 }
 
@@ -130,13 +128,5 @@ pub(crate) fn new_curve(id: Id, kind: CurveKind, construction: bool) -> Curve
 pub(crate) fn recut(c: Curve, kind: CurveKind) -> Curve
     ensures { result ≡ O.recut c kind }
 {
-    let slots = c.slots;
-    Curve {
-        id: c.id,
-        construction: c.construction,
-        centerline: c.centerline,
-        infinite: c.infinite,
-        kind: kind,
-        slots: slots,
-    }
+    Curve { kind, ..c }
 }

@@ -1,103 +1,110 @@
 // Whether there is room for what a plan adds: the tests 22, 23 and 24 of every addition, in order, on numbers alone.
 ghost use Rattle.std.specs.Prelude.{◌≡◌, ◌+◌, ◌≤◌};
 ghost use Rattle.sketch.specs.Drawing.{limits};
-ghost use Rattle.edit_plan.specs.Room.{mk_additions, additions_for, point_room, curve_room, room_with, room_for};
+ghost use Rattle.refusal.specs.Refusals.{refusal_number};
+ghost use Rattle.edit_plan.specs.Room.{one_place, additions_for, point_room, curve_room, room_with, room_for};
 
 use crate::extents::is_whole;
 use crate::pieces::is_circle;
 use crate::{Additions, Plan};
 use geom::Vec2;
+use refusal::Refusal;
 use sketch::{CurveKind, Id, MAX_NEXT_ID, coordinate_ok};
 
-fn additions(first: Vec2, second: Vec2, points: Id, curves: Id, relations: usize) -> Additions
-    ensures { result ≡ mk_additions first second points curves relations }
+// One point, one curve and one relation.
+fn one_place(at: Vec2) -> Additions
+    ensures { result ≡ one_place at }
 {
     Additions {
-        first: first,
-        second: second,
-        points: points,
-        curves: curves,
-        relations: relations,
+        first: at,
+        second: at,
+        points: 0,
+        curves: 0,
+        relations: 0,
     }
 }
 
+#[tactic(auto, unfolding(crate::specs::Room::additions_for))]
 fn additions_for(kind: CurveKind, plan: Plan) -> Additions
     ensures { result ≡ additions_for kind plan }
 {
     match plan {
-        Plan::Cut(w, _) => additions(w.at, w.at, 0, 0, 0),
+        Plan::Cut(w, _) => one_place(w.at),
         Plan::CutTwo(w, v, _) => if is_circle(kind) {
-            additions(w.at, v.at, 1, 0, 1)
+            Additions {
+                second: v.at,
+                points: 1,
+                relations: 1,
+                ..one_place(w.at)
+            }
         } else {
-            additions(w.at, v.at, 1, 1, 2)
+            Additions {
+                second: v.at,
+                points: 1,
+                curves: 1,
+                relations: 2,
+                ..one_place(w.at)
+            }
         },
-        Plan::Divide(v) => additions(v, v, 0, 0, 0),
-        Plan::DivideTwo(v, u) => additions(v, u, 1, 0, 0),
-        _ => additions(Vec2::ZERO, Vec2::ZERO, 0, 0, 0),
+        Plan::Divide(v) => one_place(v),
+        Plan::DivideTwo(v, u) => Additions {
+            second: u,
+            points: 1,
+            ..one_place(v)
+        },
+        _ => one_place(Vec2::ZERO),
     }
 }
 
-// The refusal of a point, or 0.
-fn point_room(next: Id, n: usize, v: Vec2) -> u8
-    ensures { result ≡ point_room limits next n v 0 }
+// What refuses a point more.
+#[tactic(auto, unfolding(sketch::specs::Lists::guard_number))]
+fn point_room(next: Id, n: usize, v: Vec2) -> Result<(), Refusal>
+    ensures { refusal_number result ≡ point_room limits next n v 0 }
 {
     if next >= MAX_NEXT_ID {
-        return 23;
+        return Err(Refusal::IdsSpent);
     }
     if n >= 512 {
-        return 22;
+        return Err(Refusal::TableFull);
     }
     if !(coordinate_ok(v.x) & coordinate_ok(v.y)) {
-        return 24;
+        return Err(Refusal::PointFarAway);
     }
-    0
+    Ok(())
 }
 
-// The refusal of a curve, or 0.
-fn curve_room(next: Id, n: usize) -> u8
-    ensures { result ≡ curve_room limits next n 0 }
+// What refuses a curve more.
+#[tactic(auto, unfolding(sketch::specs::Lists::guard_number))]
+fn curve_room(next: Id, n: usize) -> Result<(), Refusal>
+    ensures { refusal_number result ≡ curve_room limits next n 0 }
 {
     if next >= MAX_NEXT_ID {
-        return 23;
+        return Err(Refusal::IdsSpent);
     }
     if n >= 128 {
-        return 22;
+        return Err(Refusal::TableFull);
     }
-    0
+    Ok(())
 }
 
-// The first refusal of all that is added, or 0: of points and curves with the numbers given, the relations being `full`.
-fn room(next: Id, points: usize, curves: usize, full: bool, d: Additions) -> u8
+// The first refusal of all that is added: of points and curves with the numbers given, the relations being `full`.
+fn room(next: Id, points: usize, curves: usize, full: bool, d: Additions) -> Result<(), Refusal>
     requires { (d.points ≤ 1) × (d.curves ≤ 1) }
-    ensures { result ≡ room_with limits next points curves full d }
+    ensures { refusal_number result ≡ room_with limits next points curves full d }
 {
-    let x = d.first;
-    let y = d.second;
-    let a = point_room(next, points, x);
-    if a != 0 {
-        return a;
-    }
-    let b = point_room(next + d.points, points + d.points as usize, y);
-    if b != 0 {
-        return b;
-    }
+    point_room(next, points, d.first)?;
+    point_room(next + d.points, points + d.points as usize, d.second)?;
     let i = next + d.points + 1;
-    let e = curve_room(i, curves);
-    if e != 0 {
-        return e;
-    }
-    let f = curve_room(i + d.curves, curves + d.curves as usize);
-    if f != 0 {
-        return f;
-    }
+    curve_room(i, curves)?;
+    curve_room(i + d.curves, curves + d.curves as usize)?;
     if full {
-        return 22;
+        return Err(Refusal::TableFull);
     }
-    0
+    Ok(())
 }
 
-// The number that the plan's additions are refused by, or 0: of points and curves with the numbers given, where so many relations are
-// left once the curve is released.
+// What refuses the plan's additions: of points and curves with the numbers given, where so many relations are left once the curve is
+// released.
 pub fn room_for(
     kind: CurveKind,
     plan: Plan,
@@ -105,11 +112,11 @@ pub fn room_for(
     points: usize,
     curves: usize,
     left: usize,
-) -> u8
-    ensures { result ≡ room_for kind plan next points curves left }
+) -> Result<(), Refusal>
+    ensures { refusal_number result ≡ room_for kind plan next points curves left }
 {
     if is_whole(plan) {
-        return 0;
+        return Ok(());
     }
     let d = additions_for(kind, plan);
     room(next, points, curves, 256 - d.relations <= left, d)

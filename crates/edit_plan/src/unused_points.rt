@@ -1,104 +1,109 @@
 // Which points go with a curve, or with a piece of it: those that no other curve uses.
-ghost use Rattle.std.specs.Prelude.{◌≡◌, not, ◌&&◌, take};
+ghost use Rattle.std.specs.Prelude.{◌≡◌, not, take, [], ◌↔◌, IsTrue, option_to_list};
 ghost use Rattle.sketch.specs.Lists.{keep};
 ghost use Rattle.sketch.specs.Lookup.{among};
 ghost use Rattle.sketch.specs.Drawing.{uses_of};
-ghost use Rattle.edit_plan.specs.Changes.{mk_orphans, own_points, candidates_for, orphan_list};
+ghost use Rattle.edit_plan.specs.Changes.{own_points, candidates_for, orphan_list};
 
 use crate::pieces::{end_of, start_of};
 use crate::{Orphans, Plan};
 use sketch::{Curve, CurveKind, Id};
 
 // Whether a point is among the first n slots.
-fn in_slots(slots: [Id; 8], n: usize, p: Id) -> bool
-    ensures { result ≡ among p (take n slots) }
+fn in_slots(slots: &[Id], n: usize, p: Id) -> bool
+    ensures { result ≡ among p (take n slots.now) }
 {
-    let mut i: usize = 0;
-    while i < 8 {
-        if n <= i {
-            return false;
-        }
-        if p == slots[i] {
-            return true;
-        }
-        i += 1;
-    }
-    false
+    slots[..n.min(slots.len())].contains(&p)
 }
 
 // Whether a curve uses a point.
+#[tactic(auto, unfolding(sketch::specs::Drawing::uses_of))]
 pub fn curve_uses(c: Curve, p: Id) -> bool
     ensures { result ≡ among p (uses_of c.kind c.slots) }
 {
-    let slots = c.slots;
-    let kind = c.kind;
-    match kind {
+    match c.kind {
         CurveKind::Line(a, b) => (p == a) | (p == b),
         CurveKind::Arc(o, a, b) => (p == o) | (p == a) | (p == b),
         CurveKind::Circle(o, _) => p == o,
-        CurveKind::Bezier(n) => in_slots(slots, n as usize + 1, p),
+        CurveKind::Bezier(n) => in_slots(&c.slots, n as usize + 1, p),
         CurveKind::Conic(a, q, b, _) => (p == a) | (p == q) | (p == b),
     }
 }
 
-// Whether a point stays an orphan once the curve c is looked at.
-fn still_unused(goes: bool, c: Curve, p: Id) -> bool
-    ensures { result ≡ (goes && not (among p (uses_of c.kind c.slots))) }
+// The point, unless the curve uses it.
+fn still_unused(point: Option<Id>, c: Curve) -> Option<Id>
+    ensures { option_to_list result ≡ keep (λ p. not (among p (uses_of c.kind c.slots))) (option_to_list point) }
 {
-    if goes { !curve_uses(c, p) } else { false }
+    let p = point?;
+    if curve_uses(c, p) { None } else { point }
 }
 
-// Three points, each with whether it is an orphan.
-fn orphans_of_three(p: Id, q: Id, r: Id, pgoes: bool, qgoes: bool, rgoes: bool) -> Orphans
-    ensures { result ≡ mk_orphans p q r pgoes qgoes rgoes }
-{
-    Orphans {
-        p: p,
-        q: q,
-        r: r,
-        pgoes: pgoes,
-        qgoes: qgoes,
-        rgoes: rgoes,
+impl Orphans {
+    pub const NONE: Orphans = Orphans {
+        first: None,
+        second: None,
+        third: None,
+    };
+
+    pub fn is_empty(self) -> bool
+        ensures { IsTrue result ↔ (orphan_list self ≡ []) }
+    {
+        self.first.is_none() && self.second.is_none() && self.third.is_none()
+    }
+
+    pub fn contains(self, p: Id) -> bool
+        ensures { result ≡ among p (orphan_list self) }
+    {
+        self.first == Some(p) || self.second == Some(p) || self.third == Some(p)
+    }
+
+    // Those of the points that the curve c doesn't use.
+    pub fn unless_used(self, c: Curve) -> Orphans
+        ensures { orphan_list result ≡ keep (λ p. not (among p (uses_of c.kind c.slots))) (orphan_list self) }
+    {
+        Orphans {
+            first: still_unused(self.first, c),
+            second: still_unused(self.second, c),
+            third: still_unused(self.third, c),
+        }
     }
 }
 
 // All points of a line, an arc or a circle.
+#[tactic(auto, unfolding(crate::specs::Changes::own_points))]
 fn own_points(kind: CurveKind) -> Orphans
     ensures { result ≡ own_points kind }
 {
     match kind {
-        CurveKind::Line(a, b) => orphans_of_three(a, b, 0, true, true, false),
-        CurveKind::Arc(o, a, b) => orphans_of_three(o, a, b, true, true, true),
-        CurveKind::Circle(o, _) => orphans_of_three(o, 0, 0, true, false, false),
-        _ => orphans_of_three(0, 0, 0, false, false, false),
+        CurveKind::Line(a, b) => Orphans {
+            first: Some(a),
+            second: Some(b),
+            third: None,
+        },
+        CurveKind::Arc(o, a, b) => Orphans {
+            first: Some(o),
+            second: Some(a),
+            third: Some(b),
+        },
+        CurveKind::Circle(o, _) => Orphans {
+            first: Some(o),
+            ..Orphans::NONE
+        },
+        _ => Orphans::NONE,
     }
 }
 
 // The points that may be orphaned: all points of a curve that is removed, the far end of one that loses its first or its last piece.
+#[tactic(auto, unfolding(crate::specs::Changes::candidates_for))]
 pub fn candidates_of(kind: CurveKind, plan: Plan) -> Orphans
     ensures { result ≡ candidates_for kind plan }
 {
     match plan {
         Plan::Whole => own_points(kind),
-        Plan::Cut(_, lead) => if lead {
-            orphans_of_three(start_of(kind), 0, 0, true, false, false)
-        } else {
-            orphans_of_three(end_of(kind), 0, 0, true, false, false)
+        Plan::Cut(_, lead) => Orphans {
+            first: Some(if lead { start_of(kind) } else { end_of(kind) }),
+            ..Orphans::NONE
         },
-        _ => orphans_of_three(0, 0, 0, false, false, false),
-    }
-}
-
-// Those of the points that go that the curve c doesn't use.
-pub fn unless_used(os: Orphans, c: Curve) -> Orphans
-    ensures { orphan_list result ≡ keep (λ p. not (among p (uses_of c.kind c.slots))) (orphan_list os) }
-{
-    Orphans {
-        p: os.p,
-        q: os.q,
-        r: os.r,
-        pgoes: still_unused(os.pgoes, c, os.p),
-        qgoes: still_unused(os.qgoes, c, os.q),
-        rgoes: still_unused(os.rgoes, c, os.r),
+        _ => Orphans::NONE,
     }
 }

@@ -3,8 +3,7 @@ use Rattle.std.specs.Prelude.{◌≡◌, List, [], ◌∷◌, ℕ, Float, true}
 use Rattle.std.specs.Float.{nan, inf, binary64}
 use Rattle.std.specs.Float.Ieee.{neg, of_bits}
 use Rattle.float.specs.Numbers.{as_float, ½, 0f, 1f}
-use Rattle.float.specs.Magnitude.{magnitude_of}
-use Rattle.float.specs.declared.Magnitude.TheVariants.{Largest, NotFinite}
+use Rattle.float.specs.Magnitude.{Largest, NotFinite, magnitude_of}
 use Rattle.bernstein.specs.Roots as R
 use Rattle.bernstein.specs.Roots.{roots_of, found}
 use Rattle.geom.specs.Plane.{vec}
@@ -13,7 +12,7 @@ use Rattle.sketch.specs.declared.Relation.TheVariants.{PointOnCurve, Collinear, 
 use Rattle.sketch.specs.Drawing.{Drawing, limits}
 use Rattle.message.specs.declared.Operation.TheVariants.{Trim, Split, Extend}
 use Rattle.message.specs.declared.Message.{Message}
-use Rattle.message.specs.declared.MessageRead.TheVariants.{Accepted, Refused}
+use Rattle.refusal.specs.Refusals.{Accepted, Refused}
 use Rattle.message.specs.Message as G
 use Rattle.window.specs.Window.{window_size, empty_window, slot, slid, due_bytes, catch_up_fault}
 use Rattle.image.specs.Image as I

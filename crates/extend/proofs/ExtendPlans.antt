@@ -29,32 +29,15 @@ use Rattle.edit_plan.specs.declared.Pin.{Pin}
 use Rattle.edit_plan.specs.declared.Plan.TheVariants as P
 use Rattle.edit_plan.specs.Tables.{uses, others}
 use Rattle.edit_plan.specs.Steps.{ends_at, is_line}
-use Rattle.planning.specs.declared.PlanResult.{PlanResult}
-use Rattle.planning.specs.declared.PlanResult.TheVariants.{Refused, Accepted}
+use Rattle.std.specs.Prelude.{Result, Ok, Err}
+use Rattle.std.specs.Prelude as O
+use Rattle.refusal.specs.declared.Refusal.{Refusal}
+use Rattle.refusal.specs.Refusals.{number, Refused}
 use Rattle.hit_search.specs.declared.Nearest.{Nearest}
-use Rattle.hit_search.specs.declared.SearchResult.{SearchResult}
-use Rattle.hit_search.specs.declared.SearchResult.TheVariants as R
-use Rattle.planning.specs.Planning.{guard_plan, pin_to}
+use Rattle.planning.specs.Planning.{PlanResult, guard_plan}
 use Rattle.hit_search.specs.NearestHit.{Support, Search, finished, nearest_hit}
 use Rattle.extend.specs.Extend.{plan_move, is_fixed, extend_end, extend_curve}
 use Rattle.hit_search.specs.Values.{support, best_in, search_in}
-
--- ---- the place that the end moves to
-
-module _ (d : Drawing) (at_b : Bool) (best : Nearest) where
-  pub held_none : best.found ≡ false → Refused 18 ≡ plan_move d at_b (finished (best_in best))
-  unfolding plan_move
-  held_none h = sym (rw h)
-
-  module _ (h : best.found ≡ true) where
-    pub held_tied : best.tied ≡ true → Refused 17 ≡ plan_move d at_b (finished (best_in best))
-    unfolding plan_move guard_plan
-    held_tied k = sym (rw (h, k))
-
-    pub held_moves : best.tied ≡ false → {w : Pin} → w ≡ pin_to d.points best.at best.by (ends_at (curve_in d.curves best.by))
-        → Accepted (P.Move at_b best.at w) ≡ plan_move d at_b (finished (best_in best))
-    unfolding plan_move guard_plan
-    held_moves k {w} e = ap (λ (x : Pin). Accepted (P.Move at_b best.at x)) e ∙ sym (rw (h, k))
 
 -- ---- the end that moves
 
@@ -96,13 +79,13 @@ module _ (d : Drawing) (id : ℕ) (p : Vec2) (s : Support) (end : ℕ) {used : B
           ∙ sym (free ∙ ap (λ b. guard_plan (not b) 14 planned) g)
 
 -- what was reached, as a plan
-module _ (d : Drawing) (at_b : Bool) (x : SearchResult) where
-  pub reached_stop : {n : ℕ} → x ≡ R.Stopped n → Refused n ≡ plan_move d at_b (search_in x)
+module _ (d : Drawing) (at_b : Bool) {x : Result (O.Option Nearest) Refusal} where
+  pub reached_stop : {why : Refusal} → x ≡ Err why → Refused (number why) ≡ plan_move d at_b (search_in x)
   unfolding plan_move
-  reached_stop e = sym (ap (λ (y : SearchResult). plan_move d at_b (search_in y)) e)
+  reached_stop e = sym (ap (λ (y : Result (O.Option Nearest) Refusal). plan_move d at_b (search_in y)) e)
 
-  pub reached_best : {best : Nearest} → x ≡ R.Best best → {r : PlanResult} → r ≡ plan_move d at_b (finished (best_in best)) → r ≡ plan_move d at_b (search_in x)
-  reached_best e h = h ∙ sym (ap (λ (y : SearchResult). plan_move d at_b (search_in y)) e)
+  pub reached_best : {best : O.Option Nearest} → x ≡ Ok best → {r : PlanResult} → r ≡ plan_move d at_b (finished (best_in best)) → r ≡ plan_move d at_b (search_in x)
+  reached_best e h = h ∙ sym (ap (λ (y : Result (O.Option Nearest) Refusal). plan_move d at_b (search_in y)) e)
 
 -- ---- the curve
 

@@ -7,7 +7,7 @@ use Prim.Native.Nat.{ℕ, zero, suc, ◌+◌, ◌≤◌, ◌<◌}
 use native.Mathlib.Omega.{arith}
 use lib.Dec.{eqb, ltb, leb}
 use lib.ListN.{length, get_or, length-append}
-use borrow.Author.Tests.{ne_eqb}
+use borrow.Author.Tests.{ne_eqb, ltb-true, ltb-false}
 use Rattle.big_endian.specs.Laws.{Bytes}
 use Rattle.geom.specs.declared.Vec2.{Vec2}
 use Rattle.sketch.specs.declared.Point.{Point}
@@ -31,7 +31,7 @@ use Rattle.image.proofs.GoodImages.{drawing_good}
 use Rattle.rows.specs.Rows.{point_table, curve_table, relation_table, row_in, relations_in}
 use Rattle.rows.proofs.GoodTables.{relations_in_lem}
 use Rattle.rows.proofs.Holds.{holds_points, held_points, held_point, holds_curves, held_curves, held_curve}
-use Rattle.relations.specs.Met.{met, all_met, first_failing, first_unmet}
+use Rattle.relations.specs.Met.{met, all_met, first_failing, first_unmet, below}
 use Rattle.relations.specs.Moves.{first_named_unmet}
 use Rattle.relations.proofs.Failing.{none_fails, some_fails, first_in_front, first_behind}
 use Rattle.relations.proofs.Unmoved.{named_enough}
@@ -46,7 +46,8 @@ use Rattle.edit_plan.specs.Suited.{Pinned}
 use Rattle.edit_plan.specs.ApplyPlan.{check_met, move_end, apply_plan_to, apply_plan_at}
 use Rattle.edit_plan.proofs.Bridge.{unless_refused}
 use Rattle.edit_plan.proofs.Loops.{look_at}
-use Rattle.apply.specs.declared.Applied.{Applied}
+use Rattle.apply.specs.Answers.{Answer}
+use Rattle.apply.specs.Answers as A
 use Rattle.apply.specs.Applied.{Answered}
 use Rattle.apply.specs.Moved.{pinned_by, point_at_place, drawing_moved, move_refusal}
 use Rattle.apply.proofs.MovedRows.{pinned_few, pinned_one, pinned_none}
@@ -54,20 +55,25 @@ use Rattle.apply.proofs.MoveDefinition.{drawing_moved_lem, move_is}
 use Rattle.apply.proofs.NewImages.{Numbers, new_image, drawing_numbers}
 use Rattle.apply.proofs.PlanNumbers.{VecNumbers, move_numbers}
 use Rattle.chains.proofs.Edits.{plan_valid}
-use Rattle.planning.specs.declared.PlanResult.TheVariants.{Refused, Accepted}
-use Rattle.extend.specs.declared.EndPlan.{EndPlan}
-use Rattle.extend.specs.declared.EndPlan.TheVariants as N
-use Rattle.extend.specs.declared.EditedImage.{EditedImage}
+use Rattle.std.specs.Prelude.{Result, Ok, Err}
+use Rattle.std.specs.Prelude as O
+use Rattle.refusal.specs.declared.Refusal.{Refusal}
+use Rattle.refusal.specs.Refusals.{Refused, Accepted}
+use Rattle.refusal.specs.Refusals as N
+use Rattle.refusal.proofs.Numbers.{number_above_0}
+use Rattle.extend.specs.declared.EndMove.{EndMove}
+use Rattle.apply.specs.declared.Applied.{Applied}
+use Rattle.extend.specs.Answers.{ImageAnswer, refused_at, answer_of}
 use Rattle.extend.specs.Extend.{extend_curve}
 use Rattle.extend.specs.ExtendAnswer.{apply_planned, reported_place}
 use Rattle.extend.specs.ExtendContracts.{plan_of}
-use Rattle.extend.specs.ImageExtend.{if_fits, OutcomeWritten, refused_at, extend_in, ExtendWritten}
+use Rattle.extend.specs.ImageExtend.{if_fits, OutcomeWritten, extend_in, ExtendWritten}
 use Rattle.extend.specs.ImageExtendContracts.{MovesEnd, ExtendIn, PlansExtendIn, move_in, MoveAnswer, MovesIfMet}
-use Rattle.extend.proofs.Places.{Placeless, placeless_below, placeless_above, place_none, place_13, place_after}
+use Rattle.extend.proofs.Places.{Placeless, without_place, placeless_below, placeless_above, place_none, place_13, place_after}
 use Rattle.extend.proofs.Refusing.{extend_number}
 use Rattle.extend.proofs.ExtendPlans.{not_line_lem, unmet_line}
 use Rattle.extend.proofs.Moves.{extend_moves_end}
-use Rattle.extend.proofs.OutcomesWritten.{edited_by, answered_outcome, refused_outcome, not_accepted}
+use Rattle.extend.proofs.OutcomesWritten.{edited_by, applied_answer, answered_outcome, refused_outcome, not_accepted}
 
 -- ---- lists of which one more entry stands last
 
@@ -88,6 +94,22 @@ module _ {A : Type 0} (f : A → Bool) where
       go : (b : Bool) → (b && every f xs) ≡ true → (every f xs ≡ true → every f ys ≡ true → every f (xs ++ ys) ≡ true) → (b && every f (xs ++ ys)) ≡ true
       go true h w = w h k
       go false h w = never h
+
+-- ---- a place below a length, or none
+
+below_some : (n k : ℕ) {j : ℕ} → O.Some j ≡ below n k → (j ≡ k) × (j < n)
+below_some n k {j} e = go (ltb k n) refl e
+  where
+    go : (b : Bool) → ltb k n ≡ b → O.Some j ≡ ite b (O.Some k) O.None → (j ≡ k) × (j < n)
+    go true q f = let z : j ≡ k = cc in (z, omega (arith, ltb-true k n q))
+    go false q f = cc
+
+below_none : (n k : ℕ) → O.None ≡ below n k → n ≤ k
+below_none n k e = go (ltb k n) refl e
+  where
+    go : (b : Bool) → ltb k n ≡ b → ◌≡◌ {A = O.Option ℕ} O.None (ite b (O.Some k) O.None) → n ≤ k
+    go true q f = cc
+    go false q f = ltb-false k n q
 
 -- ---- the pin's own relation
 
@@ -129,10 +151,13 @@ module _ (d : Drawing) (k : ℕ) (v : Vec2) (w : Pin) where
   abbrev p : ℕ
   p = (point_at_place d k).id
 
-  pub move_refused_by : {n : ℕ} (l : List ℕ) → n ≡ number → (n ≡ 0 → ⊥) → MoveAnswer d k v w l l (refused_at n 0)
-  move_refused_by {n} l e h =
+  pub move_refused_by : (why : Refusal) (l : List ℕ) → N.number why ≡ number → MoveAnswer d k v w l l (answer_of (Err why))
+  move_refused_by why l e =
+      let n : ℕ = N.number why in
+      let h : n ≡ 0 → ⊥ = λ z. omega (arith, number_above_0 why) in
+      let p : Placeless n = subst Placeless (sym e) (move_number d.points d.relations k v w) in
       let o : move_in all_met d k v w ≡ refused n = ap (λ x. ite (eqb x 0) (check_met all_met after_move) (refused x)) (sym e) ∙ ap (λ b. ite b (check_met all_met after_move) (refused n)) (ne_eqb n 0 h) in
-      record { written = refused_outcome n 0 o; place = place_none d _ (subst Placeless (sym e) (move_number d.points d.relations k v w)) }
+      rw (without_place why p) (record { written = refused_outcome n 0 o; place = place_none d _ p })
 
   module _ (z : number ≡ 0) where
     moves : (f : Drawing → Bool) → move_in f d k v w ≡ check_met f after_move
@@ -144,23 +169,26 @@ module _ (d : Drawing) (k : ℕ) (v : Vec2) (w : Pin) where
         let o : move_in all_met d k v w ≡ refused 19 = moves all_met ∙ ap (λ b. guard b 19 (accepted after_move nothing)) u.unmet in
         record { written = refused_outcome 19 j o; place = u.first ∙ sym (place_after d _ after_move nothing (moves (λ d'. true))) }
 
-    pub move_met : all_met after_move ≡ true → (before after : List ℕ) (a : Applied) → Answered number (encode after_move) nothing before after a → MoveAnswer d k v w before after (edited_by a)
+    pub move_met : all_met after_move ≡ true → (before after : List ℕ) (x : Result Applied Refusal) → Answered number (encode after_move) nothing before after (A.answer_of x) → MoveAnswer d k v w before after (answer_of x)
     unfolding check_met guard
-    move_met u before after a g =
+    move_met u before after x g =
+        let a : Answer = A.answer_of x in
         let o : move_in all_met d k v w ≡ accepted after_move nothing = moves all_met ∙ ap (λ b. guard b 19 (accepted after_move nothing)) u in
         let t : Answered 0 (encode after_move) nothing before after a = subst (λ x. Answered x (encode after_move) nothing before after a) z g in
-        record {
+        let h = go (leb (length (encode after_move)) (length before)) t.refusal in
+        subst (MoveAnswer d k v w before after) (applied_answer x h)
+        (record {
           written = subst (λ x. OutcomeWritten (if_fits (length before) x) before after (edited_by a)) (sym o) (answered_outcome after_move nothing t);
-          place = place_none d _ (go (leb (length (encode after_move)) (length before)) t.refusal);
-        }
+          place = place_none d _ h;
+        })
       where
-        go : (b : Bool) → a.refusal ≡ ite b 0 25 → Placeless a.refusal
+        go : (b : Bool) {n : ℕ} → n ≡ ite b 0 25 → Placeless n
         go true e = placeless_below (omega arith)
         go false e = placeless_above (omega arith)
 
 -- ---- which relations are met then
 
-module _ {d : Drawing} (valid : Valid limits d) (k : ℕ) (below : k < length d.points) (v : Vec2) (w : Pin) (all : all_met d ≡ true) (id : ℕ)
+module _ {d : Drawing} (valid : Valid limits d) (k : ℕ) (inside : k < length d.points) (v : Vec2) (w : Pin) (all : all_met d ≡ true) (id : ℕ)
     (alone : among (point_at_place d k).id (uses (others id d.curves)) ≡ false) where
   abbrev q : ℕ
   q = (point_at_place d k).id
@@ -172,7 +200,7 @@ module _ {d : Drawing} (valid : Valid limits d) (k : ℕ) (below : k < length d.
   f = met shifted d.curves
 
   is_moved : drawing_moved d k v w ≡ record { next = d.next; points = shifted; curves = d.curves; relations = d.relations ++ pinned_by w q }
-  is_moved = drawing_moved_lem valid k below v w
+  is_moved = drawing_moved_lem valid k inside v w
 
   module _ {j : ℕ} (e : j ≡ first_named_unmet q v id d) where
     first : j ≡ first_failing f d.relations
@@ -218,33 +246,38 @@ module _ (s : List ℕ) (e : image_fault s ≡ 0) where
 
 -- ---- the move in an image
 
-module _ (s : List ℕ) (b : Bytes s) (id k : ℕ) (v : Vec2) (w : Pin) (e : image_fault s ≡ 0) (all : all_met (drawing_of s) ≡ true) (below : k < length (drawing_of s).points)
+module _ (s : List ℕ) (b : Bytes s) (id k : ℕ) (v : Vec2) (w : Pin) (e : image_fault s ≡ 0) (all : all_met (drawing_of s) ≡ true) (within : k < length (drawing_of s).points)
     (alone : among (point_at_place (drawing_of s) k).id (uses (others id (drawing_of s).curves)) ≡ false) {number : ℕ} (u : number ≡ move_refusal (drawing_of s).points (drawing_of s).relations k v w) (z : number ≡ 0)
     {t : List ℕ} {p : Point} (et : t ≡ point_table s) (ep : p ≡ read_point (row_in point_size t k)) {r : List ℕ} {n : ℕ} (er : r ≡ relation_table s) (en : n ≡ length (relations_in r))
-    {j : ℕ} (ej : j ≡ first_named_unmet p.id v id (drawing_of s)) where
+    {o : O.Option ℕ} (ej : o ≡ below (length (drawing_of s).relations) (first_named_unmet p.id v id (drawing_of s))) where
   point_so : p ≡ point_at_place (drawing_of s) k
-  point_so = placed_point s e k below et ep
+  point_so = placed_point s e k within et ep
 
   count_so : n ≡ length (drawing_of s).relations
   count_so = counted_relations s e er en
 
-  first_so : j ≡ first_named_unmet (point_at_place (drawing_of s) k).id v id (drawing_of s)
-  first_so = ej ∙ ap (λ (x : Point). first_named_unmet x.id v id (drawing_of s)) point_so
+  abbrev named : ℕ
+  named = first_named_unmet (point_at_place (drawing_of s) k).id v id (drawing_of s)
 
-  pub answer_unmet : (l : List ℕ) → j < n → MoveAnswer (drawing_of s) k v w l l (refused_at 19 j)
-  answer_unmet l h = move_unmet (drawing_of s) k v w (sym u ∙ z) l (named_unmet (image_valid s e b) k below v w all id alone first_so (omega (arith, count_so)))
+  first_so : o ≡ below (length (drawing_of s).relations) named
+  first_so = ej ∙ ap (λ (x : Point). below (length (drawing_of s).relations) (first_named_unmet x.id v id (drawing_of s))) point_so
 
-  module _ (h : n ≤ j) {m : Bool} (em : m ≡ every (met (map (moved p.id v) (drawing_of s).points) (drawing_of s).curves) (pinned_by w p.id)) where
+  pub answer_unmet : (l : List ℕ) {j : ℕ} → o ≡ O.Some j → MoveAnswer (drawing_of s) k v w l l (refused_at 19 j)
+  answer_unmet l h =
+      let q = below_some _ _ (sym h ∙ first_so) in
+      move_unmet (drawing_of s) k v w (sym u ∙ z) l (named_unmet (image_valid s e b) k within v w all id alone q.0 q.1)
+
+  module _ (h : o ≡ O.None) {m : Bool} (em : m ≡ every (met (map (moved p.id v) (drawing_of s).points) (drawing_of s).curves) (pinned_by w p.id)) where
     pin_so : m ≡ every (met (map (moved (point_at_place (drawing_of s) k).id v) (drawing_of s).points) (drawing_of s).curves) (pinned_by w (point_at_place (drawing_of s) k).id)
     pin_so = em ∙ ap (λ (x : Point). every (met (map (moved x.id v) (drawing_of s).points) (drawing_of s).curves) (pinned_by w x.id)) point_so
 
     pub answer_pin_unmet : (l : List ℕ) → m ≡ false → MoveAnswer (drawing_of s) k v w l l (refused_at 19 n)
     answer_pin_unmet l x =
         move_unmet (drawing_of s) k v w (sym u ∙ z) l
-        (subst (FirstIn (drawing_moved (drawing_of s) k v w)) (sym count_so) (pin_unmet (image_valid s e b) k below v w all id alone first_so (omega (arith, count_so)) pin_so x))
+        (subst (FirstIn (drawing_moved (drawing_of s) k v w)) (sym count_so) (pin_unmet (image_valid s e b) k within v w all id alone refl (below_none _ _ (sym h ∙ first_so)) pin_so x))
 
-    pub answer_met : m ≡ true → (before after : List ℕ) (a : Applied) → Answered (move_refusal (drawing_of s).points (drawing_of s).relations k v w) (encode (drawing_moved (drawing_of s) k v w)) nothing before after a → MoveAnswer (drawing_of s) k v w before after (edited_by a)
-    answer_met x before after a g = move_met (drawing_of s) k v w (sym u ∙ z) (pin_met (image_valid s e b) k below v w all id alone first_so (omega (arith, count_so)) pin_so x) before after a g
+    pub answer_met : m ≡ true → (before after : List ℕ) (a : Result Applied Refusal) → Answered (move_refusal (drawing_of s).points (drawing_of s).relations k v w) (encode (drawing_moved (drawing_of s) k v w)) nothing before after (A.answer_of a) → MoveAnswer (drawing_of s) k v w before after (answer_of a)
+    answer_met x before after a g = move_met (drawing_of s) k v w (sym u ∙ z) (pin_met (image_valid s e b) k within v w all id alone refl (below_none _ _ (sym h ∙ first_so)) pin_so x) before after a g
 
 -- ---- the extend
 
@@ -265,15 +298,28 @@ module _ (d : Drawing) (k : ℕ) (at : Vec2) where
       let o : extend_in all_met d k at ≡ refused 13 = ap (apply_planned all_met limits d target.id) (sym (unmet_line d at target target.kind q u.unmet)) in
       record { written = refused_outcome 13 j o; sound = λ d' removed a. not_accepted o a; place = u.first ∙ sym (place_13 d _) }
 
-  module _ (all : all_met d ≡ true) {y : EndPlan} (i : ExtendIn d target at y) where
-    pub plan_refused : (l : List ℕ) {n : ℕ} → y ≡ N.Refused n → ExtendWritten d k at l l (refused_at n 0)
+  module _ (all : all_met d ≡ true) {y : Result EndMove Refusal} (i : ExtendIn d target at y) where
+    pub plan_refused : (l : List ℕ) {why : Refusal} → y ≡ Err why → ExtendWritten d k at l l (answer_of (Err why))
     unfolding apply_planned
-    plan_refused l {n} g =
-        let u : extend_curve d at target target.kind ≡ Refused n = sym i.plan ∙ ap plan_of g in
-        refused_by_lem l n (extend_number d at target target.kind n all u).1 (ap (apply_planned all_met limits d target.id) u)
+    plan_refused l {why} g =
+        let u : extend_curve d at target target.kind ≡ Refused (N.number why) = sym i.plan ∙ ap plan_of g in
+        let h = (extend_number d at target target.kind (N.number why) all u).1 in
+        rw (without_place why h) (refused_by_lem l (N.number why) h (ap (apply_planned all_met limits d target.id) u))
 
-    module _ {at_b : Bool} {j : ℕ} {v : Vec2} {w : Pin} (g : y ≡ N.Move at_b j v w) where
-      ends : MovesEnd d target (N.Move at_b j v w)
+    module _ {m : EndMove} (g : y ≡ Ok m) where
+      abbrev j : ℕ
+      j = m.place
+
+      abbrev v : Vec2
+      v = m.to
+
+      abbrev w : Pin
+      w = m.pin
+
+      abbrev at_b : Bool
+      at_b = m.at_b
+
+      ends : MovesEnd d target (Ok m)
       ends = subst (MovesEnd d target) g i.place
 
       pub moving_within : j < length d.points
@@ -282,13 +328,13 @@ module _ (d : Drawing) (k : ℕ) (at : Vec2) where
       pub moving_alone : among (point_at_place d j).id (uses (others target.id d.curves)) ≡ false
       moving_alone = ap (λ x. among x (uses (others target.id d.curves))) ends.2.is ∙ ends.2.unshared
 
-      module _ (valid : Valid limits d) (below : k < length d.curves) where
+      module _ (valid : Valid limits d) (inside : k < length d.curves) where
         extends_so : (f : Drawing → Bool) → extend_in f d k at ≡ move_in f d j v w
         unfolding apply_planned apply_plan_at apply_plan_to unless_refused
         extends_so f =
             let u : extend_curve d at target target.kind ≡ Accepted (P.Move at_b v w) = sym i.plan ∙ ap plan_of g in
             ap (apply_planned f limits d target.id) u
-            ∙ ap (apply_plan_at f limits d (P.Move at_b v w)) (look_at no_curve d.next 0 d.curves k valid.curves_rise below)
+            ∙ ap (apply_plan_at f limits d (P.Move at_b v w)) (look_at no_curve d.next 0 d.curves k valid.curves_rise inside)
             ∙ ap (move_end f limits d at_b v w) ends.1
             ∙ move_is valid j moving_within v w f at_b ends.0 ends.2.is
 
@@ -310,7 +356,7 @@ module _ (d : Drawing) (k : ℕ) (at : Vec2) where
             (plan_valid all_met limits d valid target.id (P.Move at_b v w) d' removed (sym (ap (apply_planned all_met limits d target.id) u) ∙ a) (subst (Pinned d target.id) (sym m.is) m.held))
             (subst Numbers (sym (new_drawing d' removed a)) (move_numbers d j v w ns fits.0 fits.1))
 
-        pub move_extends : Numbers d → VecNumbers v → (before after : List ℕ) (r : EditedImage) → MoveAnswer d j v w before after r → ExtendWritten d k at before after r
+        pub move_extends : Numbers d → VecNumbers v → (before after : List ℕ) (r : ImageAnswer) → MoveAnswer d j v w before after r → ExtendWritten d k at before after r
         move_extends ns fits before after r m =
             record {
               written = subst (λ x. OutcomeWritten (if_fits (length before) x) before after r) (sym (extends_so all_met)) m.written;
@@ -323,31 +369,33 @@ module _ (d : Drawing) (k : ℕ) (at : Vec2) where
 line_so : {c : CurveKind} {i j : ℕ} → c ≡ Line i j → is_line c ≡ true
 line_so e = ap is_line e
 
-module _ (s : List ℕ) (b : Bytes s) (k : ℕ) (at : Vec2) (e : image_fault s ≡ 0) (below : k < length (drawing_of s).curves) {t : List ℕ} {c : Curve} (et : t ≡ curve_table s) (ec : c ≡ read_curve (row_in curve_size t k)) where
+module _ (s : List ℕ) (b : Bytes s) (k : ℕ) (at : Vec2) (e : image_fault s ≡ 0) (within : k < length (drawing_of s).curves) {t : List ℕ} {c : Curve} (et : t ≡ curve_table s) (ec : c ≡ read_curve (row_in curve_size t k)) where
   curve_so : c ≡ get_or (drawing_of s).curves k no_curve
-  curve_so = placed_curve s e k below et ec
+  curve_so = placed_curve s e k within et ec
 
   pub image_no_line : (l : List ℕ) → ((i j : ℕ) → c.kind ≡ Line i j → ⊥) → ExtendWritten (drawing_of s) k at l l (refused_at 10 0)
   image_no_line l h = no_line (drawing_of s) k at l (subst (λ (x : Curve). (i j : ℕ) → x.kind ≡ Line i j → ⊥) curve_so h)
 
-  module _ {u : ℕ} (eu : u ≡ first_unmet (drawing_of s)) {r : List ℕ} {n : ℕ} (er : r ≡ relation_table s) (en : n ≡ length (relations_in r)) where
-    pub image_unmet : (l : List ℕ) {i j : ℕ} → c.kind ≡ Line i j → u < n → ExtendWritten (drawing_of s) k at l l (refused_at 13 u)
-    image_unmet l q h =
-        unmet_first (drawing_of s) k at l (sym (ap (λ (x : Curve). is_line x.kind) curve_so) ∙ line_so q) (first_in (drawing_of s) u eu (omega (arith, counted_relations s e er en)))
+  module _ {o : O.Option ℕ} (eu : o ≡ below (length (drawing_of s).relations) (first_unmet (drawing_of s))) where
+    pub image_unmet : (l : List ℕ) {i j u : ℕ} → c.kind ≡ Line i j → o ≡ O.Some u → ExtendWritten (drawing_of s) k at l l (refused_at 13 u)
+    image_unmet l {u = u} q h =
+        let f = below_some _ _ (sym h ∙ eu) in
+        unmet_first (drawing_of s) k at l (sym (ap (λ (x : Curve). is_line x.kind) curve_so) ∙ line_so q) (first_in (drawing_of s) u f.0 f.1)
 
-    module _ (h : n ≤ u) where
+    module _ (h : o ≡ O.None) where
       pub all_so : all_met (drawing_of s) ≡ true
-      all_so = none_fails (met (drawing_of s).points (drawing_of s).curves) (drawing_of s).relations (omega (arith, eu, counted_relations s e er en))
+      all_so = none_fails (met (drawing_of s).points (drawing_of s).curves) (drawing_of s).relations (below_none _ _ (sym h ∙ eu))
 
-      module _ {y : EndPlan} (g : PlansExtendIn s k at y) where
+      module _ {y : Result EndMove Refusal} (g : PlansExtendIn s k at y) where
         planned : ExtendIn (drawing_of s) (get_or (drawing_of s).curves k no_curve) at y
-        planned = g e below all_so
+        planned = g e within all_so
 
-        pub image_plan_refused : (l : List ℕ) {m : ℕ} → y ≡ N.Refused m → ExtendWritten (drawing_of s) k at l l (refused_at m 0)
+        pub image_plan_refused : (l : List ℕ) {why : Refusal} → y ≡ Err why → ExtendWritten (drawing_of s) k at l l (answer_of (Err why))
         image_plan_refused l q = plan_refused (drawing_of s) k at all_so planned l q
 
-        pub image_moved_lem : {at_b : Bool} {j : ℕ} {v : Vec2} {w : Pin} → y ≡ N.Move at_b j v w → (before after : List ℕ) (a : EditedImage) → MovesIfMet s c.id j v w before after a → ExtendWritten (drawing_of s) k at before after a
-        image_moved_lem {j = j} q before after a m =
+        pub image_moved_lem : {m : EndMove} → y ≡ Ok m → (before after : List ℕ) (a : ImageAnswer) → MovesIfMet s c.id m.place m.to m.pin before after a → ExtendWritten (drawing_of s) k at before after a
+        image_moved_lem {m} q before after a f =
+            let j : ℕ = m.place in
             let x = moving_within (drawing_of s) k at all_so planned q in
             let z : among (point_at_place (drawing_of s) j).id (uses (others c.id (drawing_of s).curves)) ≡ false = ap (λ (i : Curve). among (point_at_place (drawing_of s) j).id (uses (others i.id (drawing_of s).curves))) curve_so ∙ moving_alone (drawing_of s) k at all_so planned q in
-            move_extends (drawing_of s) k at all_so planned q (image_valid s e b) below (drawing_numbers s) (m.0, m.1) before after a (m.2 e all_so x z)
+            move_extends (drawing_of s) k at all_so planned q (image_valid s e b) within (drawing_numbers s) (f.0, f.1) before after a (f.2 e all_so x z)

@@ -29,7 +29,7 @@ use Rattle.edit_plan.specs.declared.Plan.TheVariants as P
 use Rattle.edit_plan.specs.Tables.{uses, others}
 use Rattle.edit_plan.specs.Steps.{is_line, ends_at}
 use Rattle.edit_plan.specs.Suited.{PinHolds}
-use Rattle.planning.specs.declared.PlanResult.TheVariants.{Accepted}
+use Rattle.refusal.specs.Refusals.{Accepted}
 use Rattle.planning.specs.Planning.{pin_to}
 use Rattle.hit_search.specs.NearestHit.{Support, gap_of, curve_hits, Best, better, best_of, Search, stopped, finished, continue_with, nearest_hit}
 use Rattle.extend.specs.Extend.{plan_move, is_fixed, extend_end, extend_curve}

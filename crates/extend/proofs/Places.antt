@@ -1,5 +1,8 @@
 -- The place that comes with a refusal, by its number. Assumes nothing.
 use mathlib.Core.Path.{◌≡◌, refl, ap, ◌∙◌}
+use Rattle.refusal.specs.declared.Refusal.{Refusal}
+use Rattle.refusal.specs.declared.Refusal.TheVariants.{RelationsUnmet, RelationsBroken}
+use Rattle.refusal.specs.Refusals.{number, place}
 use Prim.Native.Nat.{ℕ, ◌≤◌}
 use native.Mathlib.Omega.{arith}
 use borrow.Author.Tests.{ne_eqb}
@@ -19,6 +22,12 @@ placeless_below h = record { not_13 = λ z. omega arith; not_19 = λ z. omega ar
 
 pub placeless_above : {n : ℕ} → 20 ≤ n → Placeless n
 placeless_above h = record { not_13 = λ z. omega arith; not_19 = λ z. omega arith }
+
+-- nor does the refusal come with one
+pub without_place : (r : Refusal) → Placeless (number r) → place r ≡ 0
+without_place (RelationsUnmet k) h = absurd (h.not_13 refl)
+without_place (RelationsBroken k) h = absurd (h.not_19 refl)
+without_place r h = refl
 
 module _ (d : Drawing) (untested : Outcome Drawing Removed) where
   pub place_none : {n : ℕ} → Placeless n → 0 ≡ reported_place d untested n

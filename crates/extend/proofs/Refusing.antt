@@ -10,8 +10,7 @@ use Rattle.float.specs.Numbers.{1e-28, 1e-7}
 use Rattle.float.specs.Sign.{abs}
 use Rattle.geom.specs.Plane.{◌-ᵥ◌, normalized, distance}
 use Rattle.geom.specs.declared.Vec2.{Vec2}
-use Rattle.geom.specs.declared.Direction.{Direction}
-use Rattle.geom.specs.declared.Direction.TheVariants as D
+use Rattle.std.specs.Prelude as D
 use Rattle.shape.specs.declared.Shape.{Shape}
 use Rattle.shape.specs.declared.Shape.TheVariants as S
 use Rattle.shape.specs.Measures.{param, point, dist}
@@ -31,9 +30,8 @@ use Rattle.support.specs.Freeform.{Freeform, point_at}
 use Rattle.support.specs.Hits as H
 use Rattle.support.specs.Hits.{shape_hits, resolved, resolved_at, freeform_by, freeform_along, has_near_hit, polynomial}
 use Rattle.edit_plan.specs.Tables.{uses, others}
-use Rattle.planning.specs.declared.PlanResult.{PlanResult}
-use Rattle.planning.specs.declared.PlanResult.TheVariants.{Refused, Accepted}
-use Rattle.planning.specs.Planning.{guard_plan}
+use Rattle.refusal.specs.Refusals.{Refused, Accepted}
+use Rattle.planning.specs.Planning.{PlanResult, guard_plan}
 use Rattle.hit_search.specs.NearestHit.{Support, curve_hits, Best, best_of, Search, stopped, finished, continue_with, nearest_hit}
 use Rattle.extend.specs.Extend.{plan_move, is_fixed, extend_end, extend_curve}
 use Rattle.extend.proofs.Places.{Placeless, placeless_below}
@@ -64,10 +62,10 @@ unfolding resolved_at
 later_at line f (R.found ts b) h = later_resolved line f [] ts b
 later_at line f (R.refused n b) h = (omega (arith, h.0), λ z. omega (arith, h.0))
 
-later_along : (a b : Vec2) (d : Direction) (f : Freeform) (budget : ℕ) → Later (freeform_along a b d f budget)
+later_along : (a b : Vec2) (d : D.Option Vec2) (f : Freeform) (budget : ℕ) → Later (freeform_along a b d f budget)
 unfolding freeform_along freeform_by
 later_along a b D.None f budget = (omega arith, λ z. omega arith)
-later_along a b (D.Unit d) f budget =
+later_along a b (D.Some d) f budget =
     later_need (not (every (λ x. lt (abs x) 1e-28) (polynomial d a f))) 15 budget _ (omega arith, λ z. omega arith) (later_at (S.Line a b) f (roots_of (polynomial d a f) budget) (roots_refused (polynomial d a f) budget))
 
 later_shape : (a b : Vec2) (piece : Shape) (budget : ℕ) → Later (shape_hits a b piece budget)

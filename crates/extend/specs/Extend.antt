@@ -18,9 +18,8 @@ use Rattle.relations.specs.Met.{all_met}
 use Rattle.edit_plan.specs.declared.Plan.TheVariants as P
 use Rattle.edit_plan.specs.Tables.{uses, others}
 use Rattle.edit_plan.specs.Steps.{ends_at}
-use Rattle.planning.specs.declared.PlanResult.{PlanResult}
-use Rattle.planning.specs.declared.PlanResult.TheVariants.{Refused, Accepted}
-use Rattle.planning.specs.Planning.{guard_plan, pin_to}
+use Rattle.refusal.specs.Refusals.{Refused, Accepted}
+use Rattle.planning.specs.Planning.{PlanResult, guard_plan, pin_to}
 use Rattle.hit_search.specs.NearestHit.{Support, Search, stopped, finished, nearest_hit}
 
 -- 17 where two lie as near, 18 where there is none

@@ -6,8 +6,8 @@ use Rattle.relations.specs.Met.{first_unmet}
 use Rattle.edit_plan.specs.declared.Removed.{Removed}
 use Rattle.edit_plan.specs.Outcome.{Outcome, refused, accepted}
 use Rattle.edit_plan.specs.ApplyPlan.{apply_plan}
-use Rattle.planning.specs.declared.PlanResult.{PlanResult}
-use Rattle.planning.specs.declared.PlanResult.TheVariants.{Refused, Accepted}
+use Rattle.refusal.specs.Refusals.{Refused, Accepted}
+use Rattle.planning.specs.Planning.{PlanResult}
 
 -- ---- plan, then apply
 

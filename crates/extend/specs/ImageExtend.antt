@@ -11,9 +11,8 @@ use Rattle.image.specs.Encode.{encode, drawing_size}
 use Rattle.relations.specs.Met.{all_met}
 use Rattle.edit_plan.specs.declared.Removed.{Removed}
 use Rattle.edit_plan.specs.Outcome.{Outcome, refused, accepted, guard}
-use Rattle.edit_plan.specs.Steps.{nothing}
 use Rattle.edit_plan.specs.Suited.{report_of}
-use Rattle.extend.specs.declared.EditedImage.{EditedImage}
+use Rattle.extend.specs.Answers.{ImageAnswer}
 use Rattle.extend.specs.Extend.{extend_curve}
 use Rattle.extend.specs.ExtendAnswer.{apply_planned, reported_place}
 
@@ -38,15 +37,11 @@ buffer_with (refused n) before = before
 buffer_with (accepted d removed) before = over before 0 (encode d)
 
 -- the outcome's number, report and size, and every byte of the buffer
-pub record OutcomeWritten (o : Outcome Drawing Removed) (before after : List ℕ) (r : EditedImage) : Type 0 where
+pub record OutcomeWritten (o : Outcome Drawing Removed) (before after : List ℕ) (r : ImageAnswer) : Type 0 where
   pub refusal : r.refusal ≡ number_in o
   pub removed : r.removed ≡ report_of o
   pub size : r.size ≡ size_in o
   pub bytes : after ≡ buffer_with o before
-
--- a refusal, with the place of a relation or 0
-abbrev pub refused_at : ℕ → ℕ → EditedImage
-refused_at n place = record { refusal = n; place = place; removed = nothing; size = 0 }
 
 -- ---- an extend
 
@@ -57,12 +52,12 @@ extend_in met d k p =
     apply_planned met limits d c.id (extend_curve d p c c.kind)
 
 -- the outcome, and the place that comes with its number
-pub record ExtendWritten (d : Drawing) (k : ℕ) (p : Vec2) (before after : List ℕ) (r : EditedImage) : Type 0 where
+pub record ExtendWritten (d : Drawing) (k : ℕ) (p : Vec2) (before after : List ℕ) (r : ImageAnswer) : Type 0 where
   pub written : OutcomeWritten (if_fits (length before) (extend_in all_met d k p)) before after r
   -- a new image is as long as it says, and is read as the new drawing
   pub sound : (d' : Drawing) (removed : Removed) → extend_in all_met d k p ≡ accepted d' removed → (length (encode d') ≡ drawing_size d') × (parse (encode d') ≡ I.accepted d')
   pub place : r.place ≡ reported_place d (extend_in (λ d'. true) d k p) r.refusal
 
 -- of a curve of a good image
-abbrev pub ExtendsImage : List ℕ → ℕ → Vec2 → List ℕ → List ℕ → EditedImage → Type 0
+abbrev pub ExtendsImage : List ℕ → ℕ → Vec2 → List ℕ → List ℕ → ImageAnswer → Type 0
 ExtendsImage s k p before after r = image_fault s ≡ 0 → k < length (drawing_of s).curves → ExtendWritten (drawing_of s) k p before after r

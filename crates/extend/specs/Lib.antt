@@ -2,5 +2,6 @@
 pub mod Extend
 pub mod ExtendAnswer
 pub mod ExtendContracts
+pub mod Answers
 pub mod ImageExtend
 pub mod ImageExtendContracts

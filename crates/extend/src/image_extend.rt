@@ -8,16 +8,15 @@ ghost use Rattle.rows.specs.Rows.{curves_in};
 ghost use Rattle.hit_search.specs.Values.{support};
 ghost use Rattle.extend.specs.ImageExtendContracts.{PlansMoveIn, PlansEndIn, PlansExtendIn};
 
-use crate::EndPlan;
+use crate::EndMove;
 use edit_plan::curve_uses;
 use geom::Vec2;
+use hit_search::Nearest;
 use hit_search::image_search::nearest_hit;
-use hit_search::{Nearest, SearchResult};
 use image::{read_curve, read_curve_id, read_kind};
 use planning::image_pins::pin_at;
-use rows::{
-    curve_at, curve_count, curve_record, curves_of, point_at, point_count, point_place, points_of,
-};
+use refusal::Refusal;
+use rows::{Tables, curve_at, curve_count, curve_record, point_at, point_place};
 use shape::Shape;
 use sketch::{CurveKind, Id};
 use sketch_geometry::positions::position_of;
@@ -38,89 +37,83 @@ fn record_uses(r: &[u8], p: Id) -> bool
 fn used_by_other(curves: &[u8], id: Id, p: Id) -> bool
     ensures { result ≡ among p (uses (others id (curves_in curves.now))) }
 {
-    let n = curve_count(curves);
-    let mut i: usize = 0;
-    while i < n {
+    for i in 0..curve_count(curves) {
         let r = curve_record(curves, i);
-        i += 1;
-        if id != read_curve_id(r) {
-            if record_uses(r, p) {
-                return true;
-            }
+        if id != read_curve_id(r) && record_uses(r, p) {
+            return true;
         }
     }
     false
 }
 
-// The end at place k goes to the nearest hit: 18 where there is none, 17 where another lies as near.
-fn plan_move<'a>(best: Nearest, atb: bool, k: usize, image: &'a [u8], near: &'a [u16]) -> EndPlan
-    ensures { PlansMoveIn image.now best atb k result }
+// The end at a place goes to the nearest hit, if there is one, and no other lies as near.
+#[tactic(auto, unfolding(crate::specs::Extend::plan_move, planning::specs::Planning::guard_plan))]
+fn plan_move(
+    nearest: Option<Nearest>,
+    at_b: bool,
+    place: usize,
+    t: &Tables,
+) -> Result<EndMove, Refusal>
+    ensures { PlansMoveIn t.now.image.now nearest at_b place result }
 {
-    if !best.found {
-        return EndPlan::Refused(18);
+    let Some(hit) = nearest else {
+        return Err(Refusal::NothingMet);
+    };
+    if hit.tied {
+        return Err(Refusal::Tie);
     }
-    if best.tied {
-        return EndPlan::Refused(17);
-    }
-    let q = best.at;
-    EndPlan::Move(atb, k, q, pin_at(q, best.by, image, near))
+    Ok(EndMove {
+        at_b,
+        place,
+        to: hit.at,
+        pin: pin_at(hit.at, hit.by, t),
+    })
 }
 
 // The end of a line that moves: b or (false) a.
-fn moving_end(atb: bool, i: Id, j: Id) -> Id
-    ensures { result ≡ cond atb j i }
+fn moving_end(at_b: bool, i: Id, j: Id) -> Id
+    ensures { result ≡ cond at_b j i }
 {
-    if atb { j } else { i }
+    if at_b { j } else { i }
 }
 
-// The end b or (false) a of a line: 14 where another curve uses it, or it is fixed. An end of a good image's line is one of its points.
-fn plan_end<'a>(
-    image: &'a [u8],
-    near: &'a [u16],
+// The end b or (false) a of a line: it is held where another curve uses it, or it is fixed. An end of a good image's line is one of its points.
+fn plan_end(
+    t: &Tables,
     id: Id,
     a: Vec2,
     b: Vec2,
-    atb: bool,
+    at_b: bool,
     end: Id,
     at: Vec2,
-) -> EndPlan
-    ensures { PlansEndIn image.now id at (support a b atb) end result }
+) -> Result<EndMove, Refusal>
+    ensures { PlansEndIn t.now.image.now id at (support a b at_b) end result }
 {
-    let points = points_of(image);
-    let curves = curves_of(image);
-    if used_by_other(curves, id, end) {
-        return EndPlan::Refused(14);
+    if used_by_other(t.curves, id, end) {
+        return Err(Refusal::EndHeld);
     }
-    let k = point_place(points, near, end);
-    if k >= point_count(points) {
-        return EndPlan::Refused(14);
-    }
-    let p = point_at(points, k);
-    if p.fixed {
-        return EndPlan::Refused(14);
+    let Some(place) = point_place(t.points, t.near, end) else {
+        return Err(Refusal::EndHeld);
+    };
+    if point_at(t.points, place).fixed {
+        return Err(Refusal::EndHeld);
     }
     let line = Shape::from_line(a, b);
     let foot = line.point(line.param(at));
-    match nearest_hit(a, b, atb, foot, id, image, near) {
-        SearchResult::Stopped(number) => EndPlan::Refused(number),
-        SearchResult::Best(best) => plan_move(best, atb, k, image, near),
-    }
+    let nearest = nearest_hit(a, b, at_b, foot, id, t)?;
+    plan_move(nearest, at_b, place, t)
 }
 
-// The end nearer to the pick, b where they are as near; 10 for anything but a line. Whether the relations are met is asked before.
-pub(crate) fn plan_extend<'a>(image: &'a [u8], near: &'a [u16], place: usize, at: Vec2) -> EndPlan
-    ensures { PlansExtendIn image.now place at result }
+// The end nearer to the pick, b where they are as near, of a line alone. Whether the relations are met is asked before.
+pub(crate) fn plan_extend(t: &Tables, place: usize, at: Vec2) -> Result<EndMove, Refusal>
+    ensures { PlansExtendIn t.now.image.now place at result }
 {
-    let points = points_of(image);
-    let curves = curves_of(image);
-    let c = curve_at(curves, place);
-    let kind = c.kind;
-    let CurveKind::Line(i, j) = kind else {
-        return EndPlan::Refused(10);
+    let c = curve_at(t.curves, place);
+    let CurveKind::Line(i, j) = c.kind else {
+        return Err(Refusal::WrongKind);
     };
-    let a = position_of(i, points, near);
-    let b = position_of(j, points, near);
-    let atb = at.dist(b) <= at.dist(a);
-    let end = moving_end(atb, i, j);
-    plan_end(image, near, c.id, a, b, atb, end, at)
+    let a = position_of(i, t.points, t.near);
+    let b = position_of(j, t.points, t.near);
+    let at_b = at.dist(b) <= at.dist(a);
+    plan_end(t, c.id, a, b, at_b, moving_end(at_b, i, j), at)
 }

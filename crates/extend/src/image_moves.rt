@@ -1,101 +1,60 @@
 // The extend of a line of an image. The image is left as it is, and the moved point goes as a value beside it, until nothing refuses any more.
-ghost use Rattle.std.specs.Prelude.{◌≡◌};
-ghost use Rattle.extend.specs.ImageExtend.{refused_at, ExtendsImage};
+ghost use Rattle.extend.specs.Answers.{answer_of};
+ghost use Rattle.extend.specs.ImageExtend.{ExtendsImage};
 ghost use Rattle.extend.specs.ImageExtendContracts.{PinMet, MovesIfMet};
 
 use crate::image_extend::plan_extend;
-use crate::{EditedImage, EndPlan};
-use apply::{apply_move, count_pinned, move_refusal};
-use edit_plan::{Pin, Removed, pin_relation};
+use apply::{Applied, apply_move, count_pinned, move_refusal};
+use edit_plan::{Pin, pin_relation};
 use geom::Vec2;
+use refusal::Refusal;
 use relations::image_search::{first_unmet, first_unmet_after, is_met_after};
-use rows::{curve_at, curves_of, point_at, points_of, relation_count, relations_of};
+use rows::{Tables, curve_at, point_at, relation_count};
 use sketch::{CurveKind, Id};
 
-// A refusal, with the place of a relation or 0.
-pub fn refused(number: u8, place: usize) -> EditedImage
-    ensures { result ≡ refused_at number place }
-{
-    EditedImage {
-        refusal: number,
-        place,
-        removed: Removed {
-            curve: 0,
-            from: 0,
-            to: 0,
-        },
-        size: 0,
-    }
-}
-
 // Whether the relation that a pin of the point p adds is met once p is at v.
-fn is_pin_met<'a>(pin: Pin, p: Id, v: Vec2, image: &'a [u8], near: &'a [u16]) -> bool
-    ensures { PinMet image.now pin p v result }
+fn is_pin_met(pin: Pin, p: Id, v: Vec2, t: &Tables) -> bool
+    ensures { PinMet t.now.image.now pin p v result }
 {
-    if count_pinned(pin, p) == 0 {
-        return true;
-    }
-    is_met_after(pin_relation(pin, p), image, near, p, v)
+    count_pinned(pin, p) == 0 || is_met_after(pin_relation(pin, p), t, p, v)
 }
 
-// The point at place k moved to v and pinned there, if the relations are met then: 19 with the place of the first that is not. Only those
+// The point at place k moved to v and pinned there, if the relations are met then: else the place of the first that is not. Only those
 // that name the point, or the one curve that uses it, can change by the move.
-fn move_if_met<'a>(
-    image: &'a [u8],
-    near: &'a [u16],
+fn move_if_met(
+    t: &Tables,
     id: Id,
     k: usize,
     v: Vec2,
     pin: Pin,
     out: &mut [u8],
-) -> EditedImage
-    ensures { MovesIfMet image.now id k v pin out.old out.new result }
+) -> Result<Applied, Refusal>
+    ensures { MovesIfMet t.now.image.now id k v pin out.old out.new (answer_of result) }
 {
-    let number = move_refusal(image, k, v, pin);
-    if number != 0 {
-        return refused(number, 0);
+    move_refusal(t, k, v, pin)?;
+    let p = point_at(t.points, k);
+    if let Some(unmet) = first_unmet_after(t, p.id, v, id) {
+        return Err(Refusal::RelationsBroken(unmet));
     }
-    let p = point_at(points_of(image), k);
-    let n = relation_count(relations_of(image));
-    let unmet = first_unmet_after(image, near, p.id, v, id);
-    if unmet < n {
-        return refused(19, unmet);
+    if !is_pin_met(pin, p.id, v, t) {
+        // The relation that the pin adds would stand past the present ones.
+        return Err(Refusal::RelationsBroken(relation_count(t.relations)));
     }
-    if !is_pin_met(pin, p.id, v, image, near) {
-        return refused(19, n);
-    }
-    let a = apply_move(image, k, v, pin, out);
-    let removed = a.removed;
-    EditedImage {
-        refusal: a.refusal,
-        place: 0,
-        removed,
-        size: a.size,
-    }
+    apply_move(t, k, v, pin, out)
 }
 
-// The extend of the curve at a place of an image, picked at a point: 10 for anything but a line, then 13 with the place of the first
+// The extend of the curve at a place of an image, picked at a point: refused for anything but a line, and then by the place of the first
 // relation that is not met.
-pub fn extend_image<'a>(
-    image: &'a [u8],
-    near: &'a [u16],
-    place: usize,
-    at: Vec2,
-    out: &mut [u8],
-) -> EditedImage
-    ensures { ExtendsImage image.now place at out.old out.new result }
+pub fn extend_image(t: &Tables, place: usize, at: Vec2, out: &mut [u8]) -> Result<Applied, Refusal>
+    ensures { ExtendsImage t.now.image.now place at out.old out.new (answer_of result) }
 {
-    let c = curve_at(curves_of(image), place);
-    let kind = c.kind;
-    let CurveKind::Line(_, _) = kind else {
-        return refused(10, 0);
+    let c = curve_at(t.curves, place);
+    let CurveKind::Line(_, _) = c.kind else {
+        return Err(Refusal::WrongKind);
     };
-    let unmet = first_unmet(image, near);
-    if unmet < relation_count(relations_of(image)) {
-        return refused(13, unmet);
+    if let Some(unmet) = first_unmet(t) {
+        return Err(Refusal::RelationsUnmet(unmet));
     }
-    match plan_extend(image, near, place, at) {
-        EndPlan::Refused(number) => refused(number, 0),
-        EndPlan::Move(_, k, v, pin) => move_if_met(image, near, c.id, k, v, pin, out),
-    }
+    let end = plan_extend(t, place, at)?;
+    move_if_met(t, c.id, end.place, end.to, end.pin, out)
 }

@@ -17,9 +17,7 @@ use Rattle.float.specs.Root.{plain}
 use Rattle.float.specs.Numbers.{0f}
 use Rattle.float.specs.Sign.{abs, is_finite}
 use Rattle.float.specs.Order.{max}
-use Rattle.float.specs.Magnitude.{all_finite, largest_of, finite_front, magnitude_of, MagnitudeWritten}
-use Rattle.float.specs.declared.Magnitude.{Magnitude}
-use Rattle.float.specs.declared.Magnitude.TheVariants.{Largest, NotFinite}
+use Rattle.float.specs.Magnitude.{all_finite, largest_of, finite_front, Magnitude, Largest, NotFinite, magnitude_of, MagnitudeWritten}
 use Rattle.float.proofs.Plain.{◌⊑◌, plain_lt, plain_le}
 
 -- ---- either answer tells whether all are finite

@@ -1,10 +1,14 @@
 -- A list's largest magnitude, or where a number is not finite. Definitions only.
-use Rattle.std.specs.Prelude.{ℕ, suc, List, [], ◌∷◌, Bool, true, false, cond, ◌≡◌, set, Float}
+use Rattle.std.specs.Prelude.{ℕ, suc, List, [], ◌∷◌, Bool, true, false, cond, ◌≡◌, Result, Ok, Err, set, Float}
 use Rattle.float.specs.Numbers.{0f}
 use Rattle.float.specs.Sign.{abs, is_finite}
 use Rattle.float.specs.Order.{max}
-use Rattle.float.specs.declared.Magnitude.{Magnitude}
-use Rattle.float.specs.declared.Magnitude.TheVariants.{Largest, NotFinite}
+use Rattle.float.specs.declared.NotFinite.{NotFinite as FirstNotFinite}
+
+-- the largest magnitude in a list; or the place, from 0, of the first number that is not finite
+pub data Magnitude : Type 0 where
+  Largest : Float → Magnitude
+  NotFinite : ℕ → Magnitude
 
 unfoldable pub all_finite : List Float → Bool
 all_finite [] = true
@@ -23,6 +27,11 @@ finite_front (x ∷ xs) = cond (is_finite x) (suc (finite_front xs)) 0
 -- the place of the first number that is not finite, else the largest magnitude, which is +0 for an empty list
 unfoldable pub magnitude_of : List Float → Magnitude
 magnitude_of c = cond (all_finite c) (Largest (largest_of 0f c)) (NotFinite (finite_front c))
+
+-- what a call answers
+abbrev pub magnitude_in : Result Float FirstNotFinite → Magnitude
+magnitude_in (Ok m) = Largest m
+magnitude_in (Err f) = NotFinite f.place
 
 -- ---- the same as plain numbers
 

@@ -12,9 +12,8 @@ pub use order::{before_in_order, max};
 pub use root::sqrt;
 pub use sign::{abs, is_finite, is_negative, signum};
 
-// The largest magnitude in a list, +0 for an empty one; or the place, from 0, of the first number that is not finite.
-#[derive(Clone, Copy)]
-pub enum Magnitude {
-    Largest(f64),
-    NotFinite(usize),
+// The place, from 0, of the first number of a list that is not finite.
+#[derive(Clone, Copy, Debug, PartialEq, Eq)]
+pub struct NotFinite {
+    pub place: usize,
 }

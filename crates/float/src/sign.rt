@@ -17,10 +17,7 @@ pub fn is_finite(x: f64) -> bool
 pub fn is_negative(x: f64) -> bool
     ensures { result ≡ negative x }
 {
-    if x != x {
-        return false;
-    }
-    SIGN_BIT <= f64::to_bits(x)
+    x == x && SIGN_BIT <= f64::to_bits(x)
 }
 
 // The sign bit cleared.

@@ -2,19 +2,19 @@
 use mathlib.Core.Path.{◌≡◌}
 use mathlib.Core.Bool.{true, false}
 use lib.Ieee.{lt}
+use Rattle.std.specs.Prelude.{Some, None}
 use Rattle.float.specs.Numbers.{1e-12}
 use Rattle.float.specs.Thresholds.{least_of, at_1e-12}
 use Rattle.float.proofs.Lengths.{length_below, exact_1e-12}
 use Rattle.geom.specs.Plane.{◌/ᵥ◌, dot, len, normalized}
 use Rattle.geom.specs.declared.Vec2.{Vec2}
-use Rattle.geom.specs.declared.Direction.TheVariants.{None, Unit}
 
 module _ (u : Vec2) where
   pub no_direction : lt (len u) 1e-12 ≡ true → normalized u ≡ None
   unfolding normalized
   no_direction h = rw h
 
-  pub direction : lt (len u) 1e-12 ≡ false → normalized u ≡ Unit (u /ᵥ len u)
+  pub direction : lt (len u) 1e-12 ≡ false → normalized u ≡ Some (u /ᵥ len u)
   unfolding normalized
   direction h = rw h
 

@@ -1,10 +1,8 @@
 -- Points and vectors of the plane: each operation on a coordinate is rounded once, from left to right. Definitions only.
-use Rattle.std.specs.Prelude.{cond, Float}
+use Rattle.std.specs.Prelude.{cond, Option, Some, None, Float}
 use Rattle.std.specs.Float.Ieee.{neg, lt}
 use Rattle.float.specs.Numbers.{◌⊕◌, ◌⊖◌, ◌⊗◌, ◌⊘◌, √, 0f, 1e-12}
 use Rattle.geom.specs.declared.Vec2.{Vec2}
-use Rattle.geom.specs.declared.Direction.{Direction}
-use Rattle.geom.specs.declared.Direction.TheVariants.{None, Unit}
 
 infixl 70 ◌+ᵥ◌
 infixl 70 ◌-ᵥ◌
@@ -46,7 +44,7 @@ abbrev pub distance : Vec2 → Vec2 → Float
 distance p q = len (p -ᵥ q)
 
 -- a vector over its length; below a length of 1e-12 it has no direction
-unfoldable pub normalized : Vec2 → Direction
+unfoldable pub normalized : Vec2 → Option Vec2
 normalized u =
     let l = len u in
-    cond (lt l 1e-12) None (Unit (u /ᵥ l))
+    cond (lt l 1e-12) None (Some (u /ᵥ l))

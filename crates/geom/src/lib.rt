@@ -5,17 +5,65 @@ ghost use Rattle.std.specs.Prelude.{◌≡◌};
 ghost use Rattle.geom.specs.Plane as P;
 ghost use Rattle.geom.specs.Plane.{vec, ◌+ᵥ◌, ◌-ᵥ◌, ◌·ᵥ◌, ◌/ᵥ◌, distance};
 
+use std::ops::{Add, Div, Mul, Sub};
+
 #[derive(Clone, Copy)]
 pub struct Vec2 {
     pub x: f64,
     pub y: f64,
 }
 
-// Where a vector points: a vector of length 1, or none for one too short to tell.
-#[derive(Clone, Copy)]
-pub enum Direction {
-    None,
-    Unit(Vec2),
+impl Add for Vec2 {
+    type Output = Vec2;
+
+    ghost add_gives = { λ u v r. r ≡ u +ᵥ v };
+
+    fn add(self, v: Vec2) -> Vec2 {
+        Vec2 {
+            x: self.x + v.x,
+            y: self.y + v.y,
+        }
+    }
+}
+
+impl Sub for Vec2 {
+    type Output = Vec2;
+
+    ghost sub_gives = { λ u v r. r ≡ u -ᵥ v };
+
+    fn sub(self, v: Vec2) -> Vec2 {
+        Vec2 {
+            x: self.x - v.x,
+            y: self.y - v.y,
+        }
+    }
+}
+
+impl Mul<f64> for Vec2 {
+    type Output = Vec2;
+
+    ghost mul_gives = { λ u k r. r ≡ u ·ᵥ k };
+
+    fn mul(self, k: f64) -> Vec2 {
+        Vec2 {
+            x: self.x * k,
+            y: self.y * k,
+        }
+    }
+}
+
+// Each coordinate divided: scaling by 1 / k would round twice.
+impl Div<f64> for Vec2 {
+    type Output = Vec2;
+
+    ghost div_gives = { λ u k r. r ≡ u /ᵥ k };
+
+    fn div(self, k: f64) -> Vec2 {
+        Vec2 {
+            x: self.x / k,
+            y: self.y / k,
+        }
+    }
 }
 
 impl Vec2 {
@@ -31,44 +79,7 @@ impl Vec2 {
     pub fn from_points(a: Vec2, b: Vec2) -> Vec2
         ensures { result ≡ b -ᵥ a }
     {
-        b.sub(a)
-    }
-
-    pub fn add(self, v: Vec2) -> Vec2
-        ensures { result ≡ self +ᵥ v }
-    {
-        Vec2 {
-            x: self.x + v.x,
-            y: self.y + v.y,
-        }
-    }
-
-    pub fn sub(self, v: Vec2) -> Vec2
-        ensures { result ≡ self -ᵥ v }
-    {
-        Vec2 {
-            x: self.x - v.x,
-            y: self.y - v.y,
-        }
-    }
-
-    pub fn scale(self, k: f64) -> Vec2
-        ensures { result ≡ self ·ᵥ k }
-    {
-        Vec2 {
-            x: self.x * k,
-            y: self.y * k,
-        }
-    }
-
-    // Each coordinate divided: scaling by 1 / k would round twice.
-    pub fn div(self, k: f64) -> Vec2
-        ensures { result ≡ self /ᵥ k }
-    {
-        Vec2 {
-            x: self.x / k,
-            y: self.y / k,
-        }
+        b - a
     }
 
     pub fn dot(self, v: Vec2) -> f64
@@ -102,25 +113,22 @@ impl Vec2 {
     pub fn dist(self, q: Vec2) -> f64
         ensures { result ≡ distance self q }
     {
-        self.sub(q).len()
+        (self - q).len()
     }
 
     // The square of the distance, for a bound that float::bounds has.
     pub fn dist2(self, q: Vec2) -> f64
         ensures { result ≡ P.dot (self -ᵥ q) (self -ᵥ q) }
     {
-        let d = self.sub(q);
+        let d = self - q;
         d.dot(d)
     }
 
-    pub fn normalized(self) -> Direction
+    // Where a vector points: a vector of length 1, or none for one too short to tell.
+    pub fn normalized(self) -> Option<Vec2>
         ensures { result ≡ P.normalized self }
     {
         let l = self.len();
-        if l < 1e-12 {
-            Direction::None
-        } else {
-            Direction::Unit(self.div(l))
-        }
+        if l < 1e-12 { None } else { Some(self / l) }
     }
 }

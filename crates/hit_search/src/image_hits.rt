@@ -1,67 +1,59 @@
 // Where the endless line of a support meets one curve of an image, straight from its records.
-ghost use Rattle.std.specs.Prelude.{◌≡◌, suc, ◌≤◌, length};
-ghost use Rattle.geom.specs.Plane.{◌-ᵥ◌, normalized};
+ghost use Rattle.std.specs.Prelude.{◌≤◌, length};
+ghost use Rattle.bernstein.specs.Answers.{answer_in};
 ghost use Rattle.hit_search.specs.Clauses.{Fits};
 ghost use Rattle.hit_search.specs.ImageContracts.{ControlsIn, CurveHitsIn};
 
-use crate::Controls;
 use crate::boundaries::boundary;
-use geom::{Direction, Vec2};
+use crate::{Controls, SupportLine};
+use bernstein::{Found, Stopped};
+use geom::Vec2;
+use rows::Tables;
 use sketch::{Curve, CurveKind, Id};
-use sketch_geometry::Outline;
 use sketch_geometry::positions::{position_of, shape_of};
+use support::Piece;
 use support::search::{hits, hits_along};
-use support::{Hits, Piece};
 
-// The coordinates of the points in the first n + 1 slots.
-fn controls<'a>(slots: [Id; 8], n: usize, points: &'a [u8], near: &'a [u16]) -> Controls
-    ensures { ControlsIn points.now slots (suc n) result }
+// The coordinates of the points in the first `count` slots.
+fn controls(slots: [Id; 8], count: usize, t: &Tables) -> Controls
+    ensures { ControlsIn t.now.points.now slots count result }
 {
-    let mut px = [0.0; 8];
-    let mut py = [0.0; 8];
-    let mut i: usize = 0;
-    while i < 8 {
-        if n < i {
-            return Controls { xs: px, ys: py };
-        }
-        let p = position_of(slots[i], points, near);
-        px[i] = p.x;
-        py[i] = p.y;
-        i += 1;
+    let mut xs = [0.0; 8];
+    let mut ys = [0.0; 8];
+    for i in 0..count.min(8) {
+        let p = position_of(slots[i], t.points, t.near);
+        xs[i] = p.x;
+        ys[i] = p.y;
     }
-    Controls { xs: px, ys: py }
+    Controls { xs, ys }
 }
 
-// The hits of a support, whose direction is given, with a curve, put to the front of hx and hy, under a budget.
-pub(crate) fn curve_hits<'a, 'b>(
-    a: Vec2,
-    b: Vec2,
-    along: Direction,
+// The hits of a support with a curve, put to the front of hx and hy, under a budget.
+pub(crate) fn curve_hits<'b>(
+    line: &SupportLine,
     foot: Vec2,
     c: Curve,
     budget: usize,
-    points: &'a [u8],
-    near: &'a [u16],
+    t: &Tables,
     hx: &'b mut [f64],
     hy: &'b mut [f64],
-) -> Hits
-    requires { (28 ≤ length hx.old) × (28 ≤ length hy.old) × (along ≡ normalized (b -ᵥ a)) }
-    ensures curve_hits_in { CurveHitsIn points.now a b foot c budget hx.old hy.old hx.new hy.new result }
-    ensures fits { Fits hx.new hy.new result }
+) -> Result<Found, Stopped>
+    requires { (28 ≤ length hx.old) × (28 ≤ length hy.old) }
+    ensures curve_hits_in { CurveHitsIn t.now.points.now line.now foot c budget hx.old hy.old hx.new hy.new (answer_in result) }
+    ensures fits { Fits hx.new hy.new (answer_in result) }
 {
-    let kind = c.kind;
-    match kind {
+    let a = line.a;
+    let b = line.b;
+    match c.kind {
         CurveKind::Bezier(n) => {
-            let slots = c.slots;
-            let k = controls(slots, n as usize, points, near);
-            let px = k.xs;
-            let py = k.ys;
-            hits(a, b, Piece::Bezier(n as usize + 1), px, py, hx, hy, budget)
+            let count = n as usize + 1;
+            let k = controls(c.slots, count, t);
+            hits(a, b, Piece::Bezier(count), k.xs, k.ys, hx, hy, budget)
         }
         CurveKind::Conic(i, j, k, rho) => {
-            let p = position_of(i, points, near);
-            let m = position_of(j, points, near);
-            let q = position_of(k, points, near);
+            let p = position_of(i, t.points, t.near);
+            let m = position_of(j, t.points, t.near);
+            let q = position_of(k, t.points, t.near);
             let px = [p.x, m.x, q.x, 0.0, 0.0, 0.0, 0.0, 0.0];
             let py = [p.y, m.y, q.y, 0.0, 0.0, 0.0, 0.0, 0.0];
             hits(
@@ -77,11 +69,11 @@ pub(crate) fn curve_hits<'a, 'b>(
         }
         // Every other curve has an outline.
         _ => {
-            let Outline::Analytic(sh) = shape_of(kind, points, near) else {
-                return Hits::Found(0, budget);
+            let Some(sh) = shape_of(c.kind, t.points, t.near) else {
+                return Ok(Found { count: 0, budget });
             };
             let bound = boundary(c.infinite, sh, foot);
-            hits_along(a, b, along, bound, hx, hy, budget)
+            hits_along(a, b, line.direction, bound, hx, hy, budget)
         }
     }
 }

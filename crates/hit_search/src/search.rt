@@ -1,14 +1,13 @@
 // The nearest of the hits beyond the end of a line that moves.
-ghost use Rattle.std.specs.Prelude.{◌≡◌, true, cond, ◌≤◌, length, take};
+ghost use Rattle.std.specs.Prelude.{◌≡◌, cond, length};
 ghost use Rattle.std.specs.Float.Ieee.{lt};
 ghost use Rattle.float.specs.Numbers.{1e-6};
-ghost use Rattle.geom.specs.Plane.{distance};
 ghost use Rattle.support.specs.Pieces.{zip_points};
 ghost use Rattle.hit_search.specs.NearestHit as E;
 ghost use Rattle.hit_search.specs.NearestHit.{gap_of, best_of};
-ghost use Rattle.hit_search.specs.Values.{support, best_in};
+ghost use Rattle.hit_search.specs.Values.{support_in, some_best, best_in};
 
-use crate::Nearest;
+use crate::{Nearest, SupportLine};
 use geom::Vec2;
 use shape::Shape;
 use sketch::Id;
@@ -16,101 +15,72 @@ use sketch::Id;
 // The budget of one edit.
 pub(crate) const BUDGET: usize = 1000000;
 
-// How far beyond the end that moves, b or (false) a, a place on the line lies, whose length is l.
-fn gap_of(a: Vec2, b: Vec2, atb: bool, l: f64, q: Vec2) -> f64
-    requires { l ≡ distance a b }
-    ensures { result ≡ gap_of (support a b atb) q }
+// How far beyond the end that moves a place on the line lies.
+#[tactic(auto, unfolding(crate::specs::NearestHit::gap_of))]
+fn gap_of(line: &SupportLine, q: Vec2) -> f64
+    ensures { result ≡ gap_of (support_in line.now) q }
 {
-    let t = Shape::from_line(a, b).param(q);
-    if atb {
-        return (t - 1.0) * l;
-    }
-    -t * l
-}
-
-fn mark_tied(best: Nearest) -> Nearest
-    ensures { (result.found ≡ best.found) × (result.gap ≡ best.gap) × (result.at ≡ best.at) × (result.by ≡ best.by) × (result.tied ≡ true) }
-{
-    let at = best.at;
-    Nearest {
-        found: best.found,
-        gap: best.gap,
-        at,
-        by: best.by,
-        tied: true,
+    let t = Shape::from_line(line.a, line.b).param(q);
+    if line.at_b {
+        (t - 1.0) * line.length
+    } else {
+        -t * line.length
     }
 }
 
 // A hit beside the best so far.
-fn better(gap: f64, q: Vec2, by: Id, best: Nearest) -> Nearest
-    ensures { best_in result ≡ E.better gap q by (best_in best) }
+#[tactic(auto, unfolding(crate::specs::NearestHit::better))]
+fn better(gap: f64, q: Vec2, by: Id, best: Option<Nearest>) -> Nearest
+    ensures { some_best result ≡ E.better gap q by (best_in best) }
 {
     let fresh = Nearest {
-        found: true,
         gap,
         at: q,
         by,
         tied: false,
     };
-    if !best.found {
+    let Some(old) = best else {
+        return fresh;
+    };
+    if gap < old.gap - 1e-7 {
         return fresh;
     }
-    if gap < best.gap - 1e-7 {
-        return fresh;
+    if float::abs(gap - old.gap) <= 1e-7 && (old.by != by || 1e-7 < old.at.dist(q)) {
+        return Nearest { tied: true, ..old };
     }
-    if !(float::abs(gap - best.gap) <= 1e-7) {
-        return best;
-    }
-    if best.by != by {
-        return mark_tied(best);
-    }
-    let at = best.at;
-    if 1e-7 < at.dist(q) {
-        return mark_tied(best);
-    }
-    best
+    old
 }
 
 // Only what lies more than 1e-6 beyond the end counts.
 pub(crate) fn consider(
-    a: Vec2,
-    b: Vec2,
-    atb: bool,
-    l: f64,
+    line: &SupportLine,
     q: Vec2,
     by: Id,
-    best: Nearest,
-) -> Nearest
-    requires { l ≡ distance a b }
-    ensures { best_in result ≡ cond (lt 1e-6 (gap_of (support a b atb) q)) (E.better (gap_of (support a b atb) q) q by (best_in best)) (best_in best) }
+    best: Option<Nearest>,
+) -> Option<Nearest>
+    ensures { best_in result ≡ cond (lt 1e-6 (gap_of (support_in line.now) q)) (E.better (gap_of (support_in line.now) q) q by (best_in best)) (best_in best) }
 {
-    let gap = gap_of(a, b, atb, l, q);
+    let gap = gap_of(line, q);
     if 1e-6 < gap {
-        return better(gap, q, by, best);
+        return Some(better(gap, q, by, best));
     }
     best
 }
 
-// The first n hits, of the curve `by`, on the line whose length is l.
-pub(crate) fn best_along<'a>(
-    a: Vec2,
-    b: Vec2,
-    atb: bool,
-    l: f64,
+// All hits of the curve `by`, by their coordinates.
+#[tactic(auto, unfolding(crate::specs::NearestHit::best_of, support::specs::Pieces::zip_points))]
+pub(crate) fn best_along(
+    line: &SupportLine,
     by: Id,
-    best: Nearest,
-    n: usize,
-    hx: &'a [f64],
-    hy: &'a [f64],
-) -> Nearest
-    requires { (l ≡ distance a b) × (n ≤ length hx.now) × (n ≤ length hy.now) }
-    ensures { best_in result ≡ best_of (support a b atb) by (best_in best) (zip_points (take n hx.now) (take n hy.now)) }
+    best: Option<Nearest>,
+    hx: &[f64],
+    hy: &[f64],
+) -> Option<Nearest>
+    ensures { best_in result ≡ best_of (support_in line.now) by (best_in best) (zip_points hx.now hy.now) }
 {
-    let mut now = best;
-    let mut i: usize = 0;
-    while i < n {
-        now = consider(a, b, atb, l, Vec2::new(hx[i], hy[i]), by, now);
-        i += 1;
+    let mut nearest = best;
+    for (x, y) in hx.iter().zip(hy) {
+        nearest = consider(line, Vec2::new(*x, *y), by, nearest);
     }
-    now
+    nearest
 }

@@ -11,3 +11,4 @@ pub mod RecordChecks
 pub mod RelationChecks
 pub mod GoodImages
 pub mod WrittenRecords
+pub mod Slots

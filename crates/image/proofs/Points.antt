@@ -10,6 +10,7 @@ use lib.Dec.{leb, eqb, lit<}
 use lib.Ieee.{of_bits, binary64}
 use lib.Ieee.Bits.{of_bits-to_bits, to_bits-lt}
 use borrow.Author.Tests.{leb-true}
+use Rattle.std.specs.Int.{from_bool}
 use Rattle.big_endian.specs.Fields.{field, bytes}
 use Rattle.big_endian.specs.Laws.{Bytes, length_bytes, field_in, bytes_field, part_join}
 use Rattle.sketch.specs.declared.Point.{Point}
@@ -35,6 +36,12 @@ bit_is : (b : Bool) → eqb (bit b) 1 ≡ b
 unfolding bit
 bit_is true = refl
 bit_is false = refl
+
+-- a flag as a number
+pub bit_of : (b : Bool) → from_bool b ≡ bit b
+unfolding bit
+bit_of true = refl
+bit_of false = refl
 
 bit_back : (n : ℕ) → n ≤ 1 → bit (eqb n 1) ≡ n
 unfolding bit

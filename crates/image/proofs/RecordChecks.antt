@@ -2,27 +2,26 @@
 use mathlib.Core.Path.{◌≡◌, refl, sym, ap, ◌∙◌}
 use mathlib.Core.Bool.{Bool, true, false, not, ◌&&◌, and_assoc, and-true, or-true, or-false}
 use mathlib.Core.List.{List}
-use Prim.Native.Nat.{ℕ, zero, suc, ◌+◌, ◌*◌, ◌/◌, ◌%◌, ◌<◌}
+use Prim.Native.Nat.{ℕ, zero, suc, ◌+◌, ◌*◌, ◌/◌, ◌%◌, ◌≤◌, ◌<◌}
 use native.Mathlib.Omega.{arith}
 use native.Mathlib.Numerals.{add-one}
 use lib.ListN.{length, drop, get_or}
 use lib.Dec.{eqb, leb}
-use lib.Ieee.{Float, nan_bits, binary64}
+use lib.Ieee.{Float}
 use borrow.Author.Tests.{eq-eqb, ne_eqb, eqb-true, eqb-false, le-leb, lt-leb}
 use Rattle.big_endian.specs.Fields.{field}
 use Rattle.big_endian.specs.Laws.{field_split}
 use Rattle.sketch.specs.Lists.{ite, every}
 use Rattle.sketch.specs.declared.CurveKind.TheVariants.{Line, Arc, Circle, Bezier, Conic}
-use Rattle.sketch.specs.Valid.{ok_number, ok_radius, ok_rho, in_slots, sort_of}
+use Rattle.sketch.specs.Valid.{ok_coordinate, ok_number, ok_radius, ok_rho, in_slots, sort_of}
 use Rattle.image.specs.Records.{float_at, slots_of, ids_at, used_slots, curve_fields, kind_of, curve_of}
-use Rattle.image.specs.Image.{good_curve}
+use Rattle.image.specs.Image.{good_point, good_curve}
 use Rattle.image.specs.Clauses.{good_as}
-use Rattle.image.proofs.Floats.{Rejects, nan_fails}
 
--- ---- numbers: bits that are no number's are out of range, whatever the range
+-- ---- points
 
-pub out_of_range : (ok : Float → Bool) → Rejects ok → (r : List ℕ) (at : ℕ) {n : ℕ} {t : Bool} → n ≡ field r at 8 → t ≡ not (nan_bits binary64 n) → t ≡ false → false ≡ ok (float_at r at)
-out_of_range ok e r at f g h = sym (nan_fails ok e (field r at 8) (ap (λ (k : ℕ). not (nan_bits binary64 k)) (sym f) ∙ sym g ∙ h))
+pub good_point_lem : (r : List ℕ) → (leb (field r 20 1) 1 && ok_coordinate (float_at r 4) && ok_coordinate (float_at r 12)) ≡ good_point r
+good_point_lem r = and_assoc (leb (field r 20 1) 1) (ok_coordinate (float_at r 4)) (ok_coordinate (float_at r 12))
 
 -- ---- slots
 
@@ -163,3 +162,12 @@ freeform_sort kind degree s v a b c = rw (ne_eqb kind 1 a, ne_eqb kind 2 b, ne_e
     go : (t : Bool) → true ≡ eqb (sort_of (ite t (Bezier degree) (Conic (get_or s 0 0) (get_or s 1 0) (get_or s 2 0) v))) 3
     go true = refl
     go false = refl
+
+-- and one of theirs is not
+pub other_sort : (kind degree : ℕ) (s : List ℕ) (v : Float) → 1 ≤ kind → kind ≤ 3 → false ≡ eqb (sort_of (kind_of kind degree s v)) 3
+unfolding kind_of sort_of
+other_sort zero degree s v l h = absurd (omega arith)
+other_sort (suc zero) degree s v l h = refl
+other_sort (suc (suc zero)) degree s v l h = refl
+other_sort (suc (suc (suc zero))) degree s v l h = refl
+other_sort (suc (suc (suc (suc k)))) degree s v l h = absurd (omega arith)

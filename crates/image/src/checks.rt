@@ -1,10 +1,7 @@
 // The tests of one record by its bytes: its form and its values. No value is made for them.
-ghost use Rattle.std.specs.Prelude.{◌≡◌, not, eqb, drop};
-ghost use Rattle.std.specs.Float.Ieee.{nan_bits};
-ghost use Rattle.std.specs.Float.{binary64};
+ghost use Rattle.std.specs.Prelude.{◌≡◌, eqb, drop};
 ghost use Rattle.sketch.specs.Lists.{every};
-ghost use Rattle.sketch.specs.Valid.{ok_coordinate, ok_radius, ok_rho, ok_measure};
-ghost use Rattle.image.specs.Records.{curve_number_at, value_at, float_at, slots_of};
+ghost use Rattle.image.specs.Records.{float_at, slots_of};
 ghost use Rattle.image.specs.Image.{good_point, good_curve, good_relation};
 ghost use Rattle.image.specs.Clauses.{good_as};
 
@@ -15,58 +12,21 @@ use crate::layout::{
 };
 use big_endian::{get1, get4, get8};
 use sketch::{ID_SIZE, coordinate_ok, measure_ok, radius_ok, rho_ok};
+use std::num::f64_from_bits_with_nan;
 
-// Whether bits are no NaN's: only such may become a float.
-pub(crate) fn is_number(bits: u64) -> bool
-    ensures { result ≡ not (nan_bits binary64 bits) }
+// The float whose bits stand at a place. A NaN lies in no range, so that it passes none of the tests.
+fn float_at(r: &[u8], at: usize) -> f64
+    ensures { result ≡ float_at r.now at }
 {
-    bits % 0x8000_0000_0000_0000 <= 0x7ff0_0000_0000_0000
-}
-
-fn coordinate_at(r: &[u8], at: usize) -> bool
-    ensures { result ≡ ok_coordinate (float_at r.now at) }
-{
-    let bits = get8(r, at);
-    if !is_number(bits) {
-        return false;
-    }
-    coordinate_ok(f64::from_bits(bits))
-}
-
-fn radius_at(r: &[u8]) -> bool
-    ensures { result ≡ ok_radius (float_at r.now curve_number_at) }
-{
-    let bits = get8(r, CURVE_NUMBER_AT);
-    if !is_number(bits) {
-        return false;
-    }
-    radius_ok(f64::from_bits(bits))
-}
-
-fn rho_at(r: &[u8]) -> bool
-    ensures { result ≡ ok_rho (float_at r.now curve_number_at) }
-{
-    let bits = get8(r, CURVE_NUMBER_AT);
-    if !is_number(bits) {
-        return false;
-    }
-    rho_ok(f64::from_bits(bits))
-}
-
-fn measure_at(r: &[u8]) -> bool
-    ensures { result ≡ ok_measure (float_at r.now value_at) }
-{
-    let bits = get8(r, VALUE_AT);
-    if !is_number(bits) {
-        return false;
-    }
-    measure_ok(f64::from_bits(bits))
+    f64_from_bits_with_nan(get8(r, at))
 }
 
 pub fn point_good(r: &[u8]) -> bool
     ensures { result ≡ good_point r.now }
 {
-    (get1(r, POINT_FLAGS_AT) <= 1) & (coordinate_at(r, POINT_X_AT) & coordinate_at(r, POINT_Y_AT))
+    (get1(r, POINT_FLAGS_AT) <= 1)
+        & coordinate_ok(float_at(r, POINT_X_AT))
+        & coordinate_ok(float_at(r, POINT_Y_AT))
 }
 
 // Of curves each kind has a test of its own. Slots that it leaves free are read two at a time.
@@ -105,21 +65,14 @@ fn circle_good(r: &[u8]) -> bool
         & (get8(r, FIFTH_SLOT_AT) == 0)
         & (get8(r, SEVENTH_SLOT_AT) == 0)
         & (flags / 4 % 2 != 1)
-        & radius_at(r)
+        & radius_ok(float_at(r, CURVE_NUMBER_AT))
 }
 
 // Whether the slots from the n-th on hold 0.
 fn clear_past(r: &[u8], n: usize) -> bool
     ensures { result ≡ every (λ i. eqb i 0) (drop n (slots_of r.now)) }
 {
-    let mut i: usize = n;
-    while i < 8 {
-        if get4(r, SLOTS_AT + i * ID_SIZE) != 0 {
-            return false;
-        }
-        i += 1;
-    }
-    true
+    (n..8).all(|i| get4(r, SLOTS_AT + i * ID_SIZE) == 0)
 }
 
 fn bezier_good(r: &[u8]) -> bool
@@ -145,14 +98,13 @@ fn conic_good(r: &[u8]) -> bool
         & (get8(r, FIFTH_SLOT_AT) == 0)
         & (get8(r, SEVENTH_SLOT_AT) == 0)
         & (flags / 4 % 2 != 1)
-        & rho_at(r)
+        & rho_ok(float_at(r, CURVE_NUMBER_AT))
 }
 
 pub fn curve_good(r: &[u8]) -> bool
     ensures { result ≡ good_curve r.now }
 {
-    let kind = get1(r, CURVE_KIND_AT);
-    match kind {
+    match get1(r, CURVE_KIND_AT) {
         1 => line_good(r),
         2 => arc_good(r),
         3 => circle_good(r),
@@ -165,19 +117,12 @@ pub fn curve_good(r: &[u8]) -> bool
 pub fn relation_good(r: &[u8]) -> bool
     ensures { result ≡ good_relation r.now }
 {
-    let kind = get1(r, 0);
     let second = get4(r, SECOND_ID_AT);
     let value = get8(r, VALUE_AT);
-    match kind {
-        1 => value == 0,
-        2 => value == 0,
-        3 => value == 0,
-        4 => value == 0,
-        5 => (second == 0) & measure_at(r),
-        6 => measure_at(r),
-        7 => value == 0,
-        8 => (second == 0) & measure_at(r),
-        9 => (second == 0) & measure_at(r),
+    match get1(r, 0) {
+        1 | 2 | 3 | 4 | 7 => value == 0,
+        5 | 8 | 9 => (second == 0) & measure_ok(float_at(r, VALUE_AT)),
+        6 => measure_ok(float_at(r, VALUE_AT)),
         _ => false,
     }
 }

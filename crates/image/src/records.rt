@@ -1,5 +1,7 @@
 // One record of an image: the value that its bytes encode, whatever they are.
-ghost use Rattle.std.specs.Prelude.{◌≡◌, eqb};
+ghost use Rattle.std.specs.Prelude.{◌≡◌, not, eqb};
+ghost use Rattle.std.specs.Float.Ieee.{nan_bits};
+ghost use Rattle.std.specs.Float.{binary64};
 ghost use Rattle.big_endian.specs.Fields.{field};
 ghost use Rattle.sketch.specs.Lists.{ite};
 ghost use Rattle.sketch.specs.Drawing.{no_slots};
@@ -7,24 +9,32 @@ ghost use Rattle.sketch.specs.Valid.{sort_of};
 ghost use Rattle.image.specs.Records.{curve_kind_at, slots_of, relation_by};
 ghost use Rattle.image.specs.Decode.{number_or_zero, read_point, read_curve, read_relation};
 
-use crate::checks::is_number;
 use crate::layout::{
-    CURVE_FLAGS_AT, CURVE_KIND_AT, CURVE_NUMBER_AT, DEGREE_AT, EIGHTH_SLOT_AT, FIFTH_SLOT_AT,
-    FIRST_ID_AT, FOURTH_SLOT_AT, POINT_FLAGS_AT, POINT_X_AT, POINT_Y_AT, SECOND_ID_AT,
-    SECOND_SLOT_AT, SEVENTH_SLOT_AT, SIXTH_SLOT_AT, SLOTS_AT, THIRD_SLOT_AT, VALUE_AT,
+    CURVE_FLAGS_AT, CURVE_KIND_AT, CURVE_NUMBER_AT, DEGREE_AT, FIRST_ID_AT, POINT_FLAGS_AT,
+    POINT_X_AT, POINT_Y_AT, SECOND_ID_AT, SECOND_SLOT_AT, SLOTS_AT, THIRD_SLOT_AT, VALUE_AT,
 };
 use big_endian::{get1, get4, get8};
-use sketch::{Curve, CurveKind, Id, Point, Relation};
+use sketch::{Curve, CurveKind, ID_SIZE, Id, Point, Relation};
+use std::array;
 
-// The number at a place; 0 for a NaN's bits, of which no float is made.
+// Whether bits are no NaN's: only such may become a float.
+fn is_number(bits: u64) -> bool
+    ensures { result ≡ not (nan_bits binary64 bits) }
+{
+    bits % 0x8000_0000_0000_0000 <= 0x7ff0_0000_0000_0000
+}
+
+// The number at a place; 0 for a NaN's bits. One test of the bits is quicker than to make a float of them and to ask whether it is
+// a NaN.
 fn number_at(r: &[u8], at: usize) -> f64
     ensures { result ≡ number_or_zero r.now at }
 {
     let bits = get8(r, at);
     if is_number(bits) {
-        return f64::from_bits(bits);
+        f64::from_bits(bits)
+    } else {
+        0.0
     }
-    0.0
 }
 
 // A point's coordinates.
@@ -54,24 +64,14 @@ pub fn read_point(r: &[u8]) -> Point
 fn slots_at(r: &[u8]) -> [Id; 8]
     ensures { result ≡ slots_of r.now }
 {
-    [
-        get4(r, SLOTS_AT),
-        get4(r, SECOND_SLOT_AT),
-        get4(r, THIRD_SLOT_AT),
-        get4(r, FOURTH_SLOT_AT),
-        get4(r, FIFTH_SLOT_AT),
-        get4(r, SIXTH_SLOT_AT),
-        get4(r, SEVENTH_SLOT_AT),
-        get4(r, EIGHTH_SLOT_AT),
-    ]
+    array::from_fn(|i| get4(r, SLOTS_AT + i * ID_SIZE))
 }
 
 // A curve's kind, by its byte. Only the slots that the kind has are read.
 pub fn read_kind(r: &[u8]) -> CurveKind
     ensures { result ≡ (read_curve r.now).kind }
 {
-    let kind = get1(r, CURVE_KIND_AT);
-    match kind {
+    match get1(r, CURVE_KIND_AT) {
         1 => CurveKind::Line(get4(r, SLOTS_AT), get4(r, SECOND_SLOT_AT)),
         2 => CurveKind::Arc(
             get4(r, SLOTS_AT),
@@ -93,13 +93,7 @@ pub fn read_kind(r: &[u8]) -> CurveKind
 pub fn read_freeform(r: &[u8]) -> bool
     ensures { result ≡ eqb (sort_of (read_curve r.now).kind) 3 }
 {
-    let kind = get1(r, CURVE_KIND_AT);
-    match kind {
-        1 => false,
-        2 => false,
-        3 => false,
-        _ => true,
-    }
+    !matches!(get1(r, CURVE_KIND_AT), 1 | 2 | 3)
 }
 
 // Only a Bézier curve keeps the slots beside its kind.
@@ -109,7 +103,7 @@ fn kept_slots(r: &[u8]) -> [Id; 8]
     if get1(r, CURVE_KIND_AT) == 4 {
         return slots_at(r);
     }
-    [0, 0, 0, 0, 0, 0, 0, 0]
+    [0; 8]
 }
 
 // A curve's id.
@@ -130,15 +124,13 @@ pub fn read_curve(r: &[u8]) -> Curve
     ensures { result ≡ read_curve r.now }
 {
     let flags = get1(r, CURVE_FLAGS_AT);
-    let kind = read_kind(r);
-    let slots = kept_slots(r);
     Curve {
         id: get4(r, 0),
         construction: flags % 2 == 1,
         centerline: flags / 2 % 2 == 1,
         infinite: flags / 4 % 2 == 1,
-        kind,
-        slots,
+        kind: read_kind(r),
+        slots: kept_slots(r),
     }
 }
 

@@ -14,39 +14,22 @@ use crate::layout::{
 };
 use big_endian::{put1, put2, put4, put8};
 use sketch::{Curve, CurveKind, ID_SIZE, Id, Point, Relation};
-
-fn bit(flag: bool) -> u64
-    ensures { (result ≡ E.bit flag) × (result ≤ 1) }
-{
-    if flag { 1 } else { 0 }
-}
-
-// The bits of a float; of a NaN those that the definition of `bits` has.
-fn bits_of(x: f64) -> u64
-    ensures { result ≡ E.bits x }
-{
-    if x != x {
-        return 0x7ff8_0000_0000_0000;
-    }
-    f64::to_bits(x)
-}
+use std::num::f64_to_bits_with_nan;
 
 pub fn write_point(buf: &mut [u8], at: usize, p: Point)
     ensures { buf.new ≡ over_if_fits buf.old at (encode_point p) }
 {
     let n = buf.len();
-    if n < POINT_SIZE {
-        return;
-    }
-    if n - POINT_SIZE < at {
+    if n < POINT_SIZE || n - POINT_SIZE < at {
         return;
     }
     put4(buf, at, p.id as u64);
-    put8(buf, at + POINT_X_AT, bits_of(p.x));
-    put8(buf, at + POINT_Y_AT, bits_of(p.y));
-    put1(buf, at + POINT_FLAGS_AT, bit(p.fixed));
+    put8(buf, at + POINT_X_AT, f64_to_bits_with_nan(p.x));
+    put8(buf, at + POINT_Y_AT, f64_to_bits_with_nan(p.y));
+    put1(buf, at + POINT_FLAGS_AT, u64::from(p.fixed));
 }
 
+#[tactic(auto, unfolding(crate::specs::Encode::kind_byte))]
 fn kind_byte(kind: CurveKind) -> u64
     ensures { result ≡ kind_byte kind }
 {
@@ -59,30 +42,29 @@ fn kind_byte(kind: CurveKind) -> u64
     }
 }
 
+#[tactic(auto, unfolding(crate::specs::Encode::degree_of))]
 fn degree_of(kind: CurveKind) -> u64
     ensures { result ≡ degree_of kind }
 {
     match kind {
-        CurveKind::Line(_, _) => 0,
-        CurveKind::Arc(_, _, _) => 0,
-        CurveKind::Circle(_, _) => 0,
         CurveKind::Bezier(n) => n as u64,
-        CurveKind::Conic(_, _, _, _) => 0,
+        _ => 0,
     }
 }
 
+#[tactic(auto, unfolding(crate::specs::Encode::number_bits))]
 fn number_bits(kind: CurveKind) -> u64
     ensures { result ≡ number_bits kind }
 {
     match kind {
-        CurveKind::Line(_, _) => 0,
-        CurveKind::Arc(_, _, _) => 0,
-        CurveKind::Circle(_, r) => bits_of(r),
-        CurveKind::Bezier(_) => 0,
-        CurveKind::Conic(_, _, _, rho) => bits_of(rho),
+        CurveKind::Circle(_, number) | CurveKind::Conic(_, _, _, number) => {
+            f64_to_bits_with_nan(number)
+        }
+        _ => 0,
     }
 }
 
+#[tactic(auto, unfolding(crate::specs::Encode::slot_ids))]
 fn slot_ids(kind: CurveKind, slots: [Id; 8]) -> [Id; 8]
     ensures { result ≡ slot_ids kind slots }
 {
@@ -95,20 +77,19 @@ fn slot_ids(kind: CurveKind, slots: [Id; 8]) -> [Id; 8]
     }
 }
 
+#[tactic(auto, using(crate::proofs::Points::bit_of), unfolding(crate::specs::Encode::flag_byte))]
 fn flag_byte(c: Curve) -> u64
     ensures { result ≡ flag_byte c }
 {
-    bit(c.construction) + 2 * bit(c.centerline) + 4 * bit(c.infinite)
+    u64::from(c.construction) + 2 * u64::from(c.centerline) + 4 * u64::from(c.infinite)
 }
 
 fn write_slots(buf: &mut [u8], at: usize, s: [Id; 8])
     requires { at + 8 * id_size ≤ length buf.old }
     ensures { buf.new ≡ over buf.old at (concat_map (bytes id_size) s) }
 {
-    let mut i: usize = 0;
-    while i < 8 {
-        put4(buf, at + i * ID_SIZE, s[i] as u64);
-        i += 1;
+    for (i, id) in s.iter().enumerate() {
+        put4(buf, at + i * ID_SIZE, *id as u64);
     }
 }
 
@@ -116,22 +97,18 @@ pub fn write_curve(buf: &mut [u8], at: usize, c: Curve)
     ensures { buf.new ≡ over_if_fits buf.old at (encode_curve c) }
 {
     let n = buf.len();
-    if n < CURVE_SIZE {
+    if n < CURVE_SIZE || n - CURVE_SIZE < at {
         return;
     }
-    if n - CURVE_SIZE < at {
-        return;
-    }
-    let kind = c.kind;
-    let slots = c.slots;
     put4(buf, at, c.id as u64);
-    put1(buf, at + CURVE_KIND_AT, kind_byte(kind));
+    put1(buf, at + CURVE_KIND_AT, kind_byte(c.kind));
     put1(buf, at + CURVE_FLAGS_AT, flag_byte(c));
-    put1(buf, at + DEGREE_AT, degree_of(kind));
-    write_slots(buf, at + SLOTS_AT, slot_ids(kind, slots));
-    put8(buf, at + CURVE_NUMBER_AT, number_bits(kind));
+    put1(buf, at + DEGREE_AT, degree_of(c.kind));
+    write_slots(buf, at + SLOTS_AT, slot_ids(c.kind, c.slots));
+    put8(buf, at + CURVE_NUMBER_AT, number_bits(c.kind));
 }
 
+#[tactic(auto, unfolding(crate::specs::Encode::relation_byte))]
 fn relation_byte(r: Relation) -> u64
     ensures { result ≡ relation_byte r }
 {
@@ -148,51 +125,48 @@ fn relation_byte(r: Relation) -> u64
     }
 }
 
+#[tactic(auto, unfolding(crate::specs::Encode::first_id))]
 fn first_id(r: Relation) -> Id
     ensures { result ≡ first_id r }
 {
     match r {
-        Relation::Coincident(p, _) => p,
-        Relation::PointOnCurve(p, _) => p,
-        Relation::Collinear(a, _) => a,
-        Relation::Equal(a, _) => a,
-        Relation::Length(l, _) => l,
-        Relation::Distance(p, _, _) => p,
-        Relation::Midpoint(p, _) => p,
-        Relation::ArcLength(c, _) => c,
-        Relation::ArcSweep(c, _) => c,
+        Relation::Coincident(id, _)
+        | Relation::PointOnCurve(id, _)
+        | Relation::Collinear(id, _)
+        | Relation::Equal(id, _)
+        | Relation::Length(id, _)
+        | Relation::Distance(id, _, _)
+        | Relation::Midpoint(id, _)
+        | Relation::ArcLength(id, _)
+        | Relation::ArcSweep(id, _) => id,
     }
 }
 
+#[tactic(auto, unfolding(crate::specs::Encode::second_id))]
 fn second_id(r: Relation) -> Id
     ensures { result ≡ second_id r }
 {
     match r {
-        Relation::Coincident(_, q) => q,
-        Relation::PointOnCurve(_, c) => c,
-        Relation::Collinear(_, b) => b,
-        Relation::Equal(_, b) => b,
-        Relation::Length(_, _) => 0,
-        Relation::Distance(_, q, _) => q,
-        Relation::Midpoint(_, l) => l,
-        Relation::ArcLength(_, _) => 0,
-        Relation::ArcSweep(_, _) => 0,
+        Relation::Coincident(_, id)
+        | Relation::PointOnCurve(_, id)
+        | Relation::Collinear(_, id)
+        | Relation::Equal(_, id)
+        | Relation::Distance(_, id, _)
+        | Relation::Midpoint(_, id) => id,
+        _ => 0,
     }
 }
 
+#[tactic(auto, unfolding(crate::specs::Encode::value_bits))]
 fn value_bits(r: Relation) -> u64
     ensures { result ≡ value_bits r }
 {
     match r {
-        Relation::Coincident(_, _) => 0,
-        Relation::PointOnCurve(_, _) => 0,
-        Relation::Collinear(_, _) => 0,
-        Relation::Equal(_, _) => 0,
-        Relation::Length(_, v) => bits_of(v),
-        Relation::Distance(_, _, v) => bits_of(v),
-        Relation::Midpoint(_, _) => 0,
-        Relation::ArcLength(_, v) => bits_of(v),
-        Relation::ArcSweep(_, v) => bits_of(v),
+        Relation::Length(_, v)
+        | Relation::Distance(_, _, v)
+        | Relation::ArcLength(_, v)
+        | Relation::ArcSweep(_, v) => f64_to_bits_with_nan(v),
+        _ => 0,
     }
 }
 
@@ -200,10 +174,7 @@ pub fn write_relation(buf: &mut [u8], at: usize, r: Relation)
     ensures { buf.new ≡ over_if_fits buf.old at (encode_relation r) }
 {
     let n = buf.len();
-    if n < RELATION_SIZE {
-        return;
-    }
-    if n - RELATION_SIZE < at {
+    if n < RELATION_SIZE || n - RELATION_SIZE < at {
         return;
     }
     put1(buf, at, relation_byte(r));
@@ -216,16 +187,7 @@ pub fn write_relation(buf: &mut [u8], at: usize, r: Relation)
 pub fn write_header(buf: &mut [u8], next: Id, np: usize, nc: usize, nr: usize)
     ensures { buf.new ≡ ite (leb np limits.points && leb nc limits.curves && leb nr limits.relations) (over_if_fits buf.old 0 (E.header next np nc nr)) buf.old }
 {
-    if 512 < np {
-        return;
-    }
-    if 128 < nc {
-        return;
-    }
-    if 256 < nr {
-        return;
-    }
-    if buf.len() < HEADER_SIZE {
+    if 512 < np || 128 < nc || 256 < nr || buf.len() < HEADER_SIZE {
         return;
     }
     put4(

@@ -11,10 +11,7 @@ pub fn read_front<R: Read>(reader: &mut R, buf: &mut [u8]) -> io::Result<usize>
     ensures { IfOk result (λ n. n ≤ length buf.new) }
 {
     let mut at = 0;
-    for _ in 0..u64::MAX {
-        if at == buf.len() {
-            break;
-        }
+    while at < buf.len() {
         let n = reader.read(&mut buf[at..])?;
         if n == 0 {
             break;

@@ -1,1 +1,2 @@
 pub mod MessageRoundTrips
+pub mod OperationNumbers

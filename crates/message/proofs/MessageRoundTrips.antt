@@ -15,7 +15,7 @@ use Rattle.sketch.proofs.Bools.{and_both}
 use Rattle.message.specs.declared.Operation.{Operation}
 use Rattle.message.specs.declared.Operation.TheVariants.{Trim, Split, Extend}
 use Rattle.message.specs.declared.Message.{Message}
-use Rattle.message.specs.declared.MessageRead.TheVariants.{Accepted, Refused}
+use Rattle.refusal.specs.Refusals.{Accepted, Refused}
 use Rattle.message.specs.Stored.{StoredMessage, Mark}
 use Rattle.sketch.specs.Drawing.{id_size}
 use Rattle.message.specs.Message.{length_size, version_at, mark_size, mark_at, edit_number_size, edit_number_at, operation_at, curve_at, x_at, y_at, version, mark_of, message_fault, operation_of, operation_byte, message_of, result_of, parse, encode, message_length, message_size}

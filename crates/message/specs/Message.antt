@@ -1,13 +1,14 @@
 -- Edit messages: length of all that follows 4, version, mark 8, edit number, operation, curve id, pick x and y 8 each.
-use Rattle.std.specs.Prelude.{ℕ, zero, suc, ◌+◌, ◌-◌, ◌≡◌, Bool, ◌&&◌, List, ◌++◌, length, leb, eqb}
+use Rattle.std.specs.Prelude.{ℕ, zero, suc, ◌+◌, ◌-◌, ◌≡◌, Bool, ◌&&◌, List, ◌++◌, length, leb, eqb, Result, Ok, Err}
 use Rattle.big_endian.specs.Fields.{field, bytes, over}
 use Rattle.sketch.specs.Lists.{ite, guard_number}
 use Rattle.sketch.specs.Drawing.{id_size}
 use Rattle.message.specs.declared.Operation.{Operation}
 use Rattle.message.specs.declared.Operation.TheVariants.{Trim, Split, Extend}
 use Rattle.message.specs.declared.Message.{Message}
-use Rattle.message.specs.declared.MessageRead.{MessageRead}
-use Rattle.message.specs.declared.MessageRead.TheVariants.{Accepted, Refused}
+use Rattle.refusal.specs.Refusals.{Numbered, Accepted, Refused}
+use Rattle.refusal.specs.declared.Refusal.{Refusal}
+use Rattle.refusal.specs.declared.Refusal.TheVariants.{BadOperation}
 
 abbrev pub version : ℕ
 version = 2
@@ -72,6 +73,10 @@ message_fault mark s =
 unfoldable pub operation_of : ℕ → Operation
 operation_of b = ite (eqb b 1) Trim (ite (eqb b 2) Split Extend)
 
+-- the operation that a number means, or the refusal of one that means none
+abbrev pub operation_numbered : ℕ → Result Operation Refusal
+operation_numbered n = ite (is_operation n) (Ok (operation_of n)) (Err BadOperation)
+
 unfoldable pub operation_byte : Operation → ℕ
 operation_byte Trim = 1
 operation_byte Split = 2
@@ -80,6 +85,10 @@ operation_byte Extend = 3
 -- the pick (the glossary's term for the point that a person touches) stays bits, a NaN's too
 abbrev pub message_of : List ℕ → Message
 message_of s = record { number = field s edit_number_at edit_number_size; operation = operation_of (field s operation_at 1); curve = field s curve_at id_size; x = field s x_at 8; y = field s y_at 8 }
+
+-- what reading bytes answers: the message, or a refusal's number
+abbrev pub MessageRead : Type 0
+MessageRead = Numbered Message
 
 unfoldable pub result_of : ℕ → Message → MessageRead
 result_of zero m = Accepted m

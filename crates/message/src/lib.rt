@@ -3,9 +3,10 @@
 
 mod layout;
 mod messages;
+mod operations;
 
 pub use layout::{MARK_SIZE, MESSAGE_SIZE};
-pub use messages::{is_operation, operation_of, read_message, write_message};
+pub use messages::{read_message, write_message};
 use sketch::Id;
 
 // The version that is read and written.
@@ -35,10 +36,4 @@ pub struct Message {
     pub curve: Id,
     pub x: u64,
     pub y: u64,
-}
-
-#[derive(Clone, Copy)]
-pub enum MessageRead {
-    Accepted(Message),
-    Refused(u8),
 }

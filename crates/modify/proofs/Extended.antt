@@ -35,9 +35,8 @@ use Rattle.edit_plan.specs.Tables.{ok_position, add_relation, with_relation, mov
 use Rattle.edit_plan.specs.Steps.{ends_of, ends_at, pin, nothing}
 use Rattle.edit_plan.specs.ApplyPlan.{check_met, move_end, apply_plan_to, apply_plan_at}
 use Rattle.edit_plan.specs.Suited.{PinHolds}
-use Rattle.planning.specs.declared.PlanResult.{PlanResult}
-use Rattle.planning.specs.declared.PlanResult.TheVariants.{Refused, Accepted}
-use Rattle.planning.specs.Planning.{pin_to}
+use Rattle.refusal.specs.Refusals.{Refused, Accepted}
+use Rattle.planning.specs.Planning.{PlanResult, pin_to}
 use Rattle.extend.specs.ExtendAnswer.{apply_planned}
 use Rattle.modify.specs.Edits.{plan_on_curve, plan_on_found, plan_edit, edit_of}
 use Rattle.hit_search.specs.NearestHit.{Support, Search, stopped, finished, nearest_hit}

@@ -32,9 +32,8 @@ use Rattle.edit_plan.specs.Tables.{ok_position}
 use Rattle.edit_plan.specs.Steps.{is_line, nothing}
 use Rattle.edit_plan.specs.ApplyPlan.{apply_plan}
 use Rattle.chains.proofs.Refusals.{By, cutting, moving, suited_refusals, move_refusals, move_fails}
-use Rattle.planning.specs.declared.PlanResult.{PlanResult}
-use Rattle.planning.specs.declared.PlanResult.TheVariants.{Refused, Accepted}
-use Rattle.planning.specs.Planning.{guard_plan, cuts_of, param_of_pick, split_full, at_end, split_plan, trim_curve, split_curve}
+use Rattle.refusal.specs.Refusals.{Refused, Accepted}
+use Rattle.planning.specs.Planning.{PlanResult, guard_plan, cuts_of, param_of_pick, split_full, at_end, split_plan, trim_curve, split_curve}
 use Rattle.planning.proofs.Suits.{guard_plan_accepted, trim_curve_suited, split_curve_suited}
 use Rattle.extend.specs.Extend.{extend_curve}
 use Rattle.extend.specs.ExtendAnswer.{apply_planned}

@@ -21,7 +21,7 @@ use Rattle.relations.proofs.Failing.{unmet_at, first_within, first_unmet_fails, 
 use Rattle.edit_plan.specs.declared.Removed.{Removed}
 use Rattle.edit_plan.specs.Outcome.{Outcome, refused, accepted, guard}
 use Rattle.edit_plan.specs.Steps.{nothing}
-use Rattle.extend.specs.declared.EditedImage.{EditedImage}
+use Rattle.extend.specs.Answers.{ImageAnswer}
 use Rattle.extend.specs.ExtendAnswer.{first_unmet_in, reported_place}
 use Rattle.extend.specs.ImageExtend.{if_fits, number_in}
 use Rattle.extend.proofs.Places as P
@@ -80,7 +80,7 @@ module _ (op : Operation) (d : Drawing) (t : ℕ) (p : Vec2) where
 
 -- of an edit of any bytes: the refusal of an image that is none comes with no place
 pub image_place_within :
-    (op : Operation) (s : List ℕ) (t : ℕ) (p : Vec2) {before after : List ℕ} {r : EditedImage} → EditWritten op s t p before after r → Bytes s → r.place ≤ limits.relations
+    (op : Operation) (s : List ℕ) (t : ℕ) (p : Vec2) {before after : List ℕ} {r : ImageAnswer} → EditWritten op s t p before after r → Bytes s → r.place ≤ limits.relations
 unfolding guard
 image_place_within op s t p {before} {after} {r} w b = go (I.image_fault s) refl (image_fault_low s) w.written.refusal
   where

@@ -18,8 +18,8 @@ use Rattle.edit_plan.specs.ApplyPlan.{apply_plan}
 use Rattle.edit_plan.specs.Suited.{Pinned}
 use Rattle.edit_plan.proofs.Tables.{look_some}
 use Rattle.chains.proofs.Edits.{plan_valid}
-use Rattle.planning.specs.declared.PlanResult.{PlanResult}
-use Rattle.planning.specs.declared.PlanResult.TheVariants.{Refused, Accepted}
+use Rattle.refusal.specs.Refusals.{Refused, Accepted}
+use Rattle.planning.specs.Planning.{PlanResult}
 use Rattle.extend.specs.ExtendAnswer.{apply_planned}
 use Rattle.modify.specs.Edits.{plan_on_curve, plan_on_found, plan_edit}
 use Rattle.planning.proofs.Suits.{guard_plan_accepted, trim_curve_suited, split_curve_suited}

@@ -16,13 +16,13 @@ use Rattle.message.specs.declared.Operation.{Operation}
 use Rattle.relations.specs.Met.{all_met}
 use Rattle.edit_plan.specs.declared.Removed.{Removed}
 use Rattle.edit_plan.specs.Outcome.{Outcome, refused, accepted, guard}
-use Rattle.extend.specs.declared.EditedImage.{EditedImage}
+use Rattle.extend.specs.Answers.{ImageAnswer}
 use Rattle.extend.specs.ImageExtend.{if_fits, OutcomeWritten}
 use Rattle.modify.specs.Edits.{edit_of}
 use Rattle.modify.specs.ImageEdits.{edit_image, EditWritten}
 use Rattle.modify.proofs.Planned.{edit_valid}
 
-module _ (op : Operation) (s : List ℕ) (t : ℕ) (p : Vec2) {before after : List ℕ} {x : EditedImage} (w : EditWritten op s t p before after x)
+module _ (op : Operation) (s : List ℕ) (t : ℕ) (p : Vec2) {before after : List ℕ} {x : ImageAnswer} (w : EditWritten op s t p before after x)
     (e : I.image_fault s ≡ 0) (v : Valid limits (I.drawing_of s))
   where
     pub good_edit : edit_image op s t p ≡ edit_of op limits (I.drawing_of s) t p

@@ -11,13 +11,12 @@ use Rattle.message.specs.declared.Operation.TheVariants.{Trim, Split, Extend}
 use Rattle.sketch_geometry.specs.Geometry.{shape_of}
 use Rattle.relations.specs.Met.{all_met}
 use Rattle.edit_plan.specs.declared.Removed.{Removed}
-use Rattle.edit_plan.specs.declared.Edited.{Edited}
+use Rattle.edit_plan.specs.Edited.{Edited}
 use Rattle.edit_plan.specs.Outcome.{Outcome, guard}
 use Rattle.edit_plan.specs.Tables.{ok_position}
 use Rattle.edit_plan.specs.Suited.{outcome_of, report_of}
-use Rattle.planning.specs.declared.PlanResult.{PlanResult}
-use Rattle.planning.specs.declared.PlanResult.TheVariants.{Refused}
-use Rattle.planning.specs.Planning.{guard_plan, trim_curve, split_curve}
+use Rattle.refusal.specs.Refusals.{Refused}
+use Rattle.planning.specs.Planning.{PlanResult, guard_plan, trim_curve, split_curve}
 use Rattle.extend.specs.Extend.{extend_curve}
 use Rattle.extend.specs.ExtendAnswer.{apply_planned, reported_place}
 

@@ -7,7 +7,7 @@ use Rattle.image.specs.Encode.{encode, drawing_size}
 use Rattle.message.specs.declared.Operation.{Operation}
 use Rattle.edit_plan.specs.declared.Removed.{Removed}
 use Rattle.edit_plan.specs.Outcome.{Outcome, accepted, guard}
-use Rattle.extend.specs.declared.EditedImage.{EditedImage}
+use Rattle.extend.specs.Answers.{ImageAnswer}
 use Rattle.extend.specs.ImageExtend.{if_fits, OutcomeWritten}
 use Rattle.modify.specs.Edits.{edit_of, edit_place}
 
@@ -16,7 +16,7 @@ abbrev pub edit_image : Operation → List ℕ → ℕ → Vec2 → Outcome Draw
 edit_image op s t p = guard (eqb (I.image_fault s) 0) (I.image_fault s) (edit_of op limits (I.drawing_of s) t p)
 
 -- of any bytes, every edit is answered so
-pub record EditWritten (op : Operation) (s : List ℕ) (t : ℕ) (p : Vec2) (before after : List ℕ) (r : EditedImage) : Type 0 where
+pub record EditWritten (op : Operation) (s : List ℕ) (t : ℕ) (p : Vec2) (before after : List ℕ) (r : ImageAnswer) : Type 0 where
   pub written : OutcomeWritten (if_fits (length before) (edit_image op s t p)) before after r
   -- a new image is as long as it says, and is read as the new drawing
   pub sound : (d : Drawing) (removed : Removed) → edit_image op s t p ≡ accepted d removed → (length (encode d) ≡ drawing_size d) × (I.parse (encode d) ≡ I.accepted d)

@@ -1,58 +1,47 @@
 // Trim, split and extend of an image, from its records to a lent buffer.
-ghost use Rattle.std.specs.Prelude.{◌≡◌};
-ghost use Rattle.planning.specs.declared.PlanResult.TheVariants as PlanResult;
+ghost use Rattle.std.specs.Prelude.{◌≤◌};
+ghost use Rattle.refusal.specs.Refusals.{Accepted};
+ghost use Rattle.extend.specs.Answers.{answer_of};
 ghost use Rattle.modify.specs.ImageEdits.{EditWritten};
 ghost use Rattle.modify.specs.ImageContracts.{AppliesPlanned, EditsAt};
 
-use apply::apply_plan;
+use apply::{Applied, apply_plan};
 use edit_plan::Plan;
-use extend::{EditedImage, extend_image, refused};
+use extend::extend_image;
 use geom::Vec2;
 use message::Operation;
-use planning::PlanResult;
 use planning::image_plans::{plan_split, plan_trim};
-use rows::{curve_count, curve_place, curves_of, image_fault, point_count, points_of};
+use refusal::Refusal;
+use rows::{Tables, curve_count, curve_place, curves_of, image_fault, point_count, points_of};
 use sketch::{Id, coordinate_ok};
 
 // A plan for the curve at a place applied.
-fn apply_to_image(image: &[u8], place: usize, plan: Plan, out: &mut [u8]) -> EditedImage
-    ensures { AppliesPlanned image.now place (PlanResult.Accepted plan) out.old out.new result }
+fn apply_to_image(t: &Tables, place: usize, plan: Plan, out: &mut [u8]) -> Result<Applied, Refusal>
+    ensures { AppliesPlanned t.now.image.now place (Accepted plan) out.old out.new (answer_of result) }
 {
-    let a = apply_plan(image, place, plan, out);
-    let removed = a.removed;
-    EditedImage {
-        refusal: a.refusal,
-        place: 0,
-        removed,
-        size: a.size,
-    }
-}
-
-// What was planned for the curve at a place, a refusal or a plan.
-fn apply_planned(image: &[u8], place: usize, planned: PlanResult, out: &mut [u8]) -> EditedImage
-    ensures { AppliesPlanned image.now place planned out.old out.new result }
-{
-    match planned {
-        PlanResult::Refused(number) => refused(number, 0),
-        PlanResult::Accepted(plan) => apply_to_image(image, place, plan, out),
-    }
+    apply_plan(t, place, plan, out)
 }
 
 // An edit of the curve at a place.
-fn edit_at<'a>(
+fn edit_at(
     operation: Operation,
-    image: &'a [u8],
-    near: &'a [u16],
+    t: &Tables,
     place: usize,
     at: Vec2,
     out: &mut [u8],
-) -> EditedImage
-    ensures { EditsAt operation image.now place at out.old out.new result }
+) -> Result<Applied, Refusal>
+    ensures { EditsAt operation t.now.image.now place at out.old out.new (answer_of result) }
 {
     match operation {
-        Operation::Trim => apply_planned(image, place, plan_trim(image, near, place, at), out),
-        Operation::Split => apply_planned(image, place, plan_split(image, near, place, at), out),
-        Operation::Extend => extend_image(image, near, place, at, out),
+        Operation::Trim => {
+            let plan = plan_trim(t, place, at)?;
+            apply_to_image(t, place, plan, out)
+        }
+        Operation::Split => {
+            let plan = plan_split(t, place, at)?;
+            apply_to_image(t, place, plan, out)
+        }
+        Operation::Extend => extend_image(t, place, at, out),
     }
 }
 
@@ -64,48 +53,32 @@ fn edit_with<'b>(
     at: Vec2,
     near: &'b mut [u16],
     out: &'b mut [u8],
-) -> EditedImage
-    ensures { EditWritten operation image.now curve at out.old out.new result }
+) -> Result<Applied, Refusal>
+    ensures { EditWritten operation image.now curve at out.old out.new (answer_of result) }
 {
-    let fault = image_fault(image, near);
-    if fault != 0 {
-        return refused(fault, 0);
+    image_fault(image, near)?;
+    if !(coordinate_ok(at.x) && coordinate_ok(at.y)) {
+        return Err(Refusal::BadPick);
     }
-    if !(coordinate_ok(at.x) & coordinate_ok(at.y)) {
-        return refused(9, 0);
-    }
-    let curves = curves_of(image);
-    let place = curve_place(curves, &near[..], curve);
-    if curve_count(curves) <= place {
-        return refused(8, 0);
-    }
-    edit_at(operation, image, &near[..], place, at, out)
+    let tables = Tables::new(image, &near[..]);
+    let Some(place) = curve_place(tables.curves, tables.near, curve) else {
+        return Err(Refusal::NoCurve);
+    };
+    edit_at(operation, &tables, place, at, out)
 }
 
-// Of a small drawing most ids are low: few guesses do, which cost less to make room for.
-fn edit_small(
+// An edit with room for so many guesses.
+fn edit_by_guesses<const GUESSES: usize>(
     operation: Operation,
     image: &[u8],
     curve: Id,
     at: Vec2,
     out: &mut [u8],
-) -> EditedImage
-    ensures { EditWritten operation image.now curve at out.old out.new result }
+) -> Result<Applied, Refusal>
+    requires { GUESSES ≤ 1024 }
+    ensures { EditWritten operation image.now curve at out.old out.new (answer_of result) }
 {
-    let mut near = [0u16; 128];
-    edit_with(operation, image, curve, at, &mut near, out)
-}
-
-fn edit_large(
-    operation: Operation,
-    image: &[u8],
-    curve: Id,
-    at: Vec2,
-    out: &mut [u8],
-) -> EditedImage
-    ensures { EditWritten operation image.now curve at out.old out.new result }
-{
-    let mut near = [0u16; 1024];
+    let mut near = [0u16; GUESSES];
     edit_with(operation, image, curve, at, &mut near, out)
 }
 
@@ -116,11 +89,12 @@ pub fn edit_image(
     curve: Id,
     at: Vec2,
     out: &mut [u8],
-) -> EditedImage
-    ensures { EditWritten operation image.now curve at out.old out.new result }
+) -> Result<Applied, Refusal>
+    ensures { EditWritten operation image.now curve at out.old out.new (answer_of result) }
 {
-    if (point_count(points_of(image)) <= 64) & (curve_count(curves_of(image)) <= 32) {
-        return edit_small(operation, image, curve, at, out);
+    // Of a small drawing most ids are low: few guesses do, which cost less to make room for.
+    if point_count(points_of(image)) <= 64 && curve_count(curves_of(image)) <= 32 {
+        return edit_by_guesses::<128>(operation, image, curve, at, out);
     }
-    edit_large(operation, image, curve, at, out)
+    edit_by_guesses::<1024>(operation, image, curve, at, out)
 }

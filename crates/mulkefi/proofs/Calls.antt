@@ -20,10 +20,10 @@ use Rattle.edit_plan.specs.Outcome as O
 use Rattle.modify.proofs.ImageFaults.{image_fault_low}
 use Rattle.agreement.specs.Machines as M
 use Rattle.agreement.specs.Machines.{State, Call, call_outcome, wall_transition}
-use Rattle.replication.specs.declared.DeskReply.{DeskReply}
-use Rattle.replication.specs.declared.DeskReply.TheVariants as Desk
-use Rattle.replication.specs.declared.WallReply.{WallReply}
-use Rattle.replication.specs.declared.WallReply.TheVariants as Wall
+use Rattle.replication.specs.DeskReply.{DeskReply}
+use Rattle.replication.specs.DeskReply as Desk
+use Rattle.replication.specs.WallReply.{WallReply}
+use Rattle.replication.specs.WallReply as Wall
 use Rattle.replication.specs.Protocol.{Edit, place, protocol}
 use Rattle.replication.specs.Outcomes.{CallOutcome, refused, old, updated, on_image, desk_outcome, desk_on, wall_outcome, wall_on, number_of, place_of, OutcomeSound, message_after, window_after}
 use Rattle.replication.specs.Transitions as R

@@ -24,10 +24,10 @@ use Rattle.edit_plan.specs.declared.Removed.{Removed}
 use Rattle.edit_plan.specs.Steps.{nothing}
 use Rattle.agreement.specs.Machines as M
 use Rattle.agreement.specs.Machines.{State, DeskStep, messages, Unread, WallEvent, started, delivered}
-use Rattle.replication.specs.declared.DeskReply.{DeskReply}
-use Rattle.replication.specs.declared.DeskReply.TheVariants as Desk
-use Rattle.replication.specs.declared.WallReply.{WallReply}
-use Rattle.replication.specs.declared.WallReply.TheVariants as Wall
+use Rattle.replication.specs.DeskReply.{DeskReply}
+use Rattle.replication.specs.DeskReply as Desk
+use Rattle.replication.specs.WallReply.{WallReply}
+use Rattle.replication.specs.WallReply as Wall
 use Rattle.replication.specs.Protocol.{Edit, protocol}
 use Rattle.replication.specs.Outcomes.{CallOutcome, refused, old, updated, message_after, window_after}
 use Rattle.replication.specs.Transitions.{Memory, image_in, state_in, Ready, StartsWith, memory_after, desk_reply, DeskCall, desk_step, desk_reply_to, desk_call_outcome, DeskEdits, DeskCalls, memory_left, window_left, WallCall, wall_reply, wall_step, wall_reply_to, wall_call_outcome, WallDelivers, WallCalls, WallUse, starts, delivers, WallUses, uses_left, UsesFromDesk, wall_event}

@@ -6,11 +6,10 @@ use native.Mathlib.Omega.{arith}
 use lib.ListN.{set}
 use lib.Ieee.{Float}
 use Rattle.bernstein.specs.Roots.{RootsResult, found, refused, answer_of, Searched, number_of}
-use Rattle.bernstein.specs.declared.Roots.{Roots}
-use Rattle.bernstein.specs.declared.Roots.TheVariants.{Found, Refused}
+use Rattle.bernstein.specs.Answers.{Answer, Found, Refused}
 use Rattle.mulkefi.specs.Polynomials.{roots_answer_after, RootsWritten}
 
-module _ (o : RootsResult) (lent later : List Float) (before : List ℕ) (r : Roots) (s : Searched o lent later r) where
+module _ (o : RootsResult) (lent later : List Float) (before : List ℕ) (r : Answer) (s : Searched o lent later r) where
   pub answered_found : (n b : ℕ) → r ≡ Found n b → RootsWritten o lent later before (set (set before 0 n) 1 b) 0
   unfolding answer_of
   answered_found n b e = let k = go o (sym e ∙ s.answer) in record { number = sym k.0; buffer = s.buffer; numbers = sym k.1 }

@@ -1,6 +1,7 @@
 // What a wall that fell behind is sent, from the desk's window in lent memory.
 ghost use Rattle.window.specs.Window.{CatchesUp};
 
+use crate::buffers::number_of;
 use message::{EditNumber, Mark};
 use window::WINDOW_SIZE;
 
@@ -17,5 +18,5 @@ pub extern "C" fn mulkefi_catch_up(
 ) -> u32
     ensures { CatchesUp mark window.now count wall messages.old messages.new result }
 {
-    window::catch_up(window, count, mark, wall, messages) as u32
+    number_of(window::catch_up(window, count, mark, wall, messages))
 }

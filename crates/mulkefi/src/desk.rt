@@ -2,9 +2,9 @@
 ghost use Rattle.mulkefi.specs.Calls.{mk_edit_by_number, DeskCallWritten};
 
 use crate::AnswerField;
-use crate::buffers::{refusal, write_answer};
-use message::{EditNumber, Mark};
-use replication::{DeskReply, Replica, desk_edit, first_fault};
+use crate::buffers::{refusal_answer, write_answer};
+use message::{EditNumber, Mark, Operation};
+use replication::{Replica, desk_edit, first_fault};
 use rows::front;
 use sketch::Id;
 use window::{WINDOW_SIZE, Window};
@@ -28,15 +28,18 @@ pub extern "C" fn mulkefi_desk_edit(
 ) -> u32
     ensures { DeskCallWritten len count mark operation (mk_edit_by_number operation curve x y) buffer.old buffer.new message.old message.new window.old window.new answer.old answer.new result }
 {
-    if !message::is_operation(operation) {
-        return first_fault(front(&buffer[..], len), 6) as u32;
-    }
+    let operation = match Operation::try_from(operation) {
+        Ok(operation) => operation,
+        Err(refusal) => {
+            let image = front(&buffer[..], len);
+            return u32::from(first_fault(image, refusal).number());
+        }
+    };
     let replica = Replica {
         size: len,
         mark,
         count,
     };
-    let operation = message::operation_of(operation);
     let bytes = *window;
     let edited = desk_edit(
         replica,
@@ -48,15 +51,12 @@ pub extern "C" fn mulkefi_desk_edit(
         y,
         message,
     );
-    let after = edited.replica;
-    let reply = edited.reply;
-    match reply {
-        DeskReply::Refused(number, place) => refusal(number, place),
-        DeskReply::Accepted(removed) => {
-            let kept = edited.window;
-            let bytes = kept.bytes;
-            *window = bytes;
-            write_answer(after, removed, answer)
+    match edited.reply {
+        Err(refusal) => refusal_answer(refusal),
+        Ok(removed) => {
+            let kept = edited.window.bytes;
+            *window = kept;
+            write_answer(edited.replica, removed, answer)
         }
     }
 }

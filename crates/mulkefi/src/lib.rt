@@ -12,6 +12,9 @@ ghost use Rattle.image.specs.Image as I;
 ghost use Rattle.message.specs.Message as M;
 ghost use Rattle.mulkefi.specs.Calls.{interface, library_version};
 
+use buffers::number_of;
+use replication::test_image;
+
 // A field of an answer: it holds a count of edits, a size in bytes or an id.
 pub(crate) type AnswerField = u32;
 
@@ -53,6 +56,5 @@ pub extern "C" fn mulkefi_versions() -> u32
 pub extern "C" fn mulkefi_test(bytes: &[u8]) -> u32
     ensures { result ≡ I.image_fault bytes.now }
 {
-    let mut near = [0u16; 1024];
-    rows::image_fault(bytes, &mut near) as u32
+    number_of(test_image(bytes))
 }

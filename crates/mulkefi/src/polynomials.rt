@@ -4,9 +4,6 @@ ghost use Rattle.bernstein.specs.Roots.{search_of};
 ghost use Rattle.float.specs.Magnitude.{MagnitudeWritten};
 ghost use Rattle.mulkefi.specs.Polynomials.{RootsWritten};
 
-use bernstein::Roots;
-use float::Magnitude;
-
 // Accepted, it answers 0: the roots stand in order at the front of `found`, and `answer` holds how many they are and the budget that is
 // left. Refused, it answers the number and leaves both.
 #[unsafe(no_mangle)]
@@ -18,16 +15,13 @@ pub extern "C" fn mulkefi_roots(
 ) -> u32
     ensures { RootsWritten (search_of (length found.old) c.now budget) found.old found.new answer.old answer.new result }
 {
-    let roots = bernstein::search::roots(c, found, budget);
-    let Roots::Found(count, left) = roots else {
-        let Roots::Refused(number, _) = roots else {
-            // This is never reached: what is not found is refused.
-            return 0;
-        };
-        return number as u32;
+    let searched = bernstein::search::roots(c, found, budget);
+    // Each caller of `roots` takes its answer apart by `let .. else`: the scope binds this form.
+    let Ok(roots) = searched else {
+        return u32::from(searched.unwrap_err().refusal.number());
     };
-    answer[0] = count as u64;
-    answer[1] = left as u64;
+    answer[0] = roots.count as u64;
+    answer[1] = roots.budget as u64;
     0
 }
 
@@ -38,8 +32,8 @@ pub extern "C" fn mulkefi_largest_magnitude(c: &[f64], largest: &mut [f64; 1]) -
     ensures { MagnitudeWritten c.now largest.old largest.new result }
 {
     match float::largest_magnitude(c) {
-        Magnitude::NotFinite(place) => place,
-        Magnitude::Largest(m) => {
+        Err(not_finite) => not_finite.place,
+        Ok(m) => {
             largest[0] = m;
             c.len()
         }

@@ -2,10 +2,10 @@
 ghost use Rattle.mulkefi.specs.Calls.{WallCallWritten};
 
 use crate::AnswerField;
-use crate::buffers::{refusal, write_answer};
+use crate::buffers::{refusal_answer, write_answer};
 use edit_plan::Removed;
 use message::{EditNumber, Mark};
-use replication::{Replica, WallReply, wall_deliver};
+use replication::{Delivered, Replica, wall_deliver};
 
 // Delivers a message to the image in the first `len` bytes of `buffer`, at a count and with a mark. Accepted, it answers 0: the edit was made as at the
 // desk; or the message is old, `buffer` is left, and `answer` holds the count and the size that were found. Refused, it answers as the
@@ -27,18 +27,9 @@ pub extern "C" fn mulkefi_wall_deliver(
         count,
     };
     let delivered = wall_deliver(replica, buffer, message);
-    let after = delivered.replica;
-    let reply = delivered.reply;
-    match reply {
-        WallReply::Refused(number, place) => refusal(number, place),
-        WallReply::Old => {
-            let nothing = Removed {
-                curve: 0,
-                from: 0,
-                to: 0,
-            };
-            write_answer(after, nothing, answer)
-        }
-        WallReply::Applied(removed) => write_answer(after, removed, answer),
+    match delivered.reply {
+        Err(refusal) => refusal_answer(refusal),
+        Ok(Delivered::Old) => write_answer(delivered.replica, Removed::NOTHING, answer),
+        Ok(Delivered::Applied(removed)) => write_answer(delivered.replica, removed, answer),
     }
 }

@@ -20,9 +20,8 @@ use Rattle.edit_plan.specs.declared.Plan.{Plan}
 use Rattle.edit_plan.specs.declared.Plan.TheVariants as P
 use Rattle.edit_plan.specs.Tables.{others}
 use Rattle.edit_plan.specs.Changes.{is_circle}
-use Rattle.planning.specs.declared.PlanResult.{PlanResult}
-use Rattle.planning.specs.declared.PlanResult.TheVariants.{Refused, Accepted}
-use Rattle.planning.specs.Planning.{guard_plan, param_of_pick, trim_plan, split_full, at_end, split_plan, is_full_arc, no_freeform, trim_curve, split_curve}
+use Rattle.refusal.specs.Refusals.{Refused, Accepted}
+use Rattle.planning.specs.Planning.{PlanResult, guard_plan, param_of_pick, trim_plan, split_full, at_end, split_plan, is_full_arc, no_freeform, trim_curve, split_curve}
 use Rattle.planning.proofs.Suits.{circle_full}
 
 module _ (d : Drawing) (p : Vec2) (c : Curve) where

@@ -29,9 +29,8 @@ use Rattle.edit_plan.specs.declared.Plan.{Plan}
 use Rattle.edit_plan.specs.declared.Plan.TheVariants as P
 use Rattle.edit_plan.specs.Suited.{suits, suits_open, suits_closed, Pinned, Suited}
 use Rattle.edit_plan.specs.Changes.{is_circle}
-use Rattle.planning.specs.declared.PlanResult.{PlanResult}
-use Rattle.planning.specs.declared.PlanResult.TheVariants.{Refused, Accepted}
-use Rattle.planning.specs.Planning.{guard_plan, cuts_of, param_of_pick, first_goes, trim_at, trim_plan, split_full, at_end, split_plan, is_full_arc, no_freeform, trim_curve, split_curve}
+use Rattle.refusal.specs.Refusals.{Refused, Accepted}
+use Rattle.planning.specs.Planning.{PlanResult, guard_plan, cuts_of, param_of_pick, first_goes, trim_at, trim_plan, split_full, at_end, split_plan, is_full_arc, no_freeform, trim_curve, split_curve}
 use Rattle.planning.proofs.Others.{By, is_other, last_every, kept_are, bracket_by_others, pin_held}
 
 -- a plan accepted behind a guard passed its test

@@ -29,7 +29,7 @@ use Rattle.cuts.specs.Bracket.{neighbours}
 use Rattle.edit_plan.specs.declared.Pin.{Pin}
 use Rattle.edit_plan.specs.declared.Pin.TheVariants.{On, At}
 use Rattle.edit_plan.specs.declared.Plan.TheVariants as P
-use Rattle.planning.specs.declared.PlanResult.TheVariants.{Refused, Accepted}
+use Rattle.refusal.specs.Refusals.{Refused, Accepted}
 use Rattle.planning.specs.Planning.{param_of_pick, pinned_point_of, trim_at, trim_plan, near_end, pin_to, between, first_goes, split_full, at_end}
 use Rattle.edit_plan.specs.declared.PinnedPoint.{PinnedPoint}
 use Rattle.edit_plan.specs.Tables.{others}

@@ -13,8 +13,7 @@ use Rattle.cuts.specs.Bracket.{bracket}
 use Rattle.edit_plan.specs.declared.Pin.{Pin}
 use Rattle.edit_plan.specs.declared.PinnedPoint.{PinnedPoint}
 use Rattle.edit_plan.specs.declared.Plan.{Plan}
-use Rattle.planning.specs.declared.PlanResult.{PlanResult}
-use Rattle.planning.specs.Planning.{cuts_of, param_of_pick, pin_to, pinned_point_of, trim_plan, split_full, no_freeform, trim_curve, split_curve}
+use Rattle.planning.specs.Planning.{PlanResult, cuts_of, param_of_pick, pin_to, pinned_point_of, trim_plan, split_full, no_freeform, trim_curve, split_curve}
 
 abbrev pub PinToIn : List ℕ → ℕ → Option (ℕ × ℕ) → Vec2 → Pin → Type 0
 PinToIn points by ends q r = (ps : List Point) → HoldsPoints ps points → r ≡ pin_to ps q by ends

@@ -8,8 +8,7 @@ use Rattle.sketch_geometry.specs.Geometry.{shape_of}
 use Rattle.image.specs.Image.{image_fault, drawing_of}
 use Rattle.edit_plan.specs.declared.Pin.{Pin}
 use Rattle.edit_plan.specs.Steps.{ends_at}
-use Rattle.planning.specs.declared.PlanResult.{PlanResult}
-use Rattle.planning.specs.Planning.{pin_to, trim_curve, split_curve}
+use Rattle.planning.specs.Planning.{PlanResult, pin_to, trim_curve, split_curve}
 
 -- the pin of an end at q, where the curve `by` cuts
 abbrev pub PinIn : List ℕ → ℕ → Vec2 → Pin → Type 0

@@ -24,8 +24,11 @@ use Rattle.edit_plan.specs.declared.Plan.TheVariants as P
 use Rattle.edit_plan.specs.Tables.{others}
 use Rattle.edit_plan.specs.Steps.{ends_at}
 use Rattle.edit_plan.specs.Changes.{is_circle}
-use Rattle.planning.specs.declared.PlanResult.{PlanResult}
-use Rattle.planning.specs.declared.PlanResult.TheVariants.{Refused, Accepted}
+use Rattle.refusal.specs.Refusals.{Numbered, Refused, Accepted}
+
+-- what is to be done with the curve that was picked, or the number of a refusal
+abbrev pub PlanResult : Type 0
+PlanResult = Numbered Plan
 
 -- refused by the number where the test fails
 unfoldable pub guard_plan : Bool → ℕ → PlanResult → PlanResult

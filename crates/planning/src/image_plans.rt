@@ -1,8 +1,8 @@
 // The plan of a trim or a split, from an image's records, by geometry alone.
+ghost use Rattle.refusal.specs.Refusals.{numbered};
 ghost use Rattle.planning.specs.ImagePlans.{TrimIn, SplitIn};
 ghost use Rattle.planning.specs.ImageContracts.{FreeformIn, PinnedPointIn, TrimPlanIn, TrimsIn, SplitFullIn, SplitsIn};
 
-use crate::PlanResult;
 use crate::image_pins::pin_at;
 use crate::planning::{first_of_one, first_of_two, is_circle, split_open};
 use cuts::image_cuts::bracket;
@@ -10,121 +10,113 @@ use cuts::{Cut, Neighbours};
 use edit_plan::{PinnedPoint, Plan};
 use geom::Vec2;
 use image::read_freeform;
-use rows::{curve_at, curve_count, curve_record, curves_of, points_of};
+use refusal::Refusal;
+use rows::{Tables, curve_at, curve_count, curve_record};
 use shape::Shape;
 use sketch::{Curve, CurveKind, Id};
-use sketch_geometry::Outline;
 use sketch_geometry::positions::shape_of;
 
 // Whether one of the curves is a Bézier curve or a conic.
-fn has_freeform(image: &[u8]) -> bool
-    ensures { FreeformIn image.now result }
+fn has_freeform(t: &Tables) -> bool
+    ensures { FreeformIn t.now.image.now result }
 {
-    let curves = curves_of(image);
-    let n = curve_count(curves);
-    let mut i: usize = 0;
-    while i < n {
-        if read_freeform(curve_record(curves, i)) {
+    for i in 0..curve_count(t.curves) {
+        if read_freeform(curve_record(t.curves, i)) {
             return true;
         }
-        i += 1;
     }
     false
 }
 
 // The point of a cut, and the new end's pin.
-fn pinned_point_of<'a>(sh: Shape, k: Cut, image: &'a [u8], near: &'a [u16]) -> PinnedPoint
-    ensures { PinnedPointIn image.now sh k result }
+fn pinned_point_of(sh: Shape, k: Cut, t: &Tables) -> PinnedPoint
+    ensures { PinnedPointIn t.now.image.now sh k result }
 {
     let q = sh.point(k.t);
     PinnedPoint {
         at: q,
-        pin: pin_at(q, k.by, image, near),
+        pin: pin_at(q, k.by, t),
     }
 }
 
-fn trim_plan<'a>(sh: Shape, id: Id, at: Vec2, image: &'a [u8], near: &'a [u16]) -> Plan
-    ensures { TrimPlanIn image.now id sh at result }
+fn trim_plan(sh: Shape, id: Id, at: Vec2, t: &Tables) -> Plan
+    ensures { TrimPlanIn t.now.image.now id sh at result }
 {
     let tq = sh.param(sh.project(at));
-    match bracket(sh, tq, id, image, near) {
+    match bracket(sh, tq, id, t) {
         Neighbours::Zero => Plan::Whole,
         Neighbours::One(k) => {
-            let p = pinned_point_of(sh, k, image, near);
+            let p = pinned_point_of(sh, k, t);
             Plan::Cut(p, first_of_one(sh, tq, k))
         }
         Neighbours::Two(k, j) => {
-            let p = pinned_point_of(sh, k, image, near);
-            let q = pinned_point_of(sh, j, image, near);
+            let p = pinned_point_of(sh, k, t);
+            let q = pinned_point_of(sh, j, t);
             Plan::CutTwo(p, q, first_of_two(sh, tq, k, j))
         }
     }
 }
 
-fn trim_curve<'a>(c: Curve, at: Vec2, image: &'a [u8], near: &'a [u16]) -> PlanResult
-    ensures { TrimsIn image.now c at result }
+fn trim_curve(c: Curve, at: Vec2, t: &Tables) -> Result<Plan, Refusal>
+    ensures { TrimsIn t.now.image.now c at (numbered result) }
 {
-    let kind = c.kind;
-    let Outline::Analytic(sh) = shape_of(kind, points_of(image), near) else {
-        return PlanResult::Refused(10);
+    let Some(sh) = shape_of(c.kind, t.points, t.near) else {
+        return Err(Refusal::WrongKind);
     };
-    if c.infinite | (sh.is_full() & !is_circle(kind)) {
-        return PlanResult::Refused(10);
+    if c.infinite | (sh.is_full() & !is_circle(c.kind)) {
+        return Err(Refusal::WrongKind);
     }
-    if has_freeform(image) {
-        return PlanResult::Refused(11);
+    if has_freeform(t) {
+        return Err(Refusal::FreeformNear);
     }
-    PlanResult::Accepted(trim_plan(sh, c.id, at, image, near))
+    Ok(trim_plan(sh, c.id, at, t))
 }
 
-fn split_full<'a>(sh: Shape, id: Id, at: Vec2, image: &'a [u8], near: &'a [u16]) -> PlanResult
-    ensures { SplitFullIn image.now id sh at result }
+fn split_full(sh: Shape, id: Id, at: Vec2, t: &Tables) -> Result<Plan, Refusal>
+    ensures { SplitFullIn t.now.image.now id sh at (numbered result) }
 {
     let tq = sh.param(sh.project(at));
-    let Neighbours::Two(k, j) = bracket(sh, tq, id, image, near) else {
-        return PlanResult::Refused(12);
+    let Neighbours::Two(k, j) = bracket(sh, tq, id, t) else {
+        return Err(Refusal::NoCut);
     };
-    PlanResult::Accepted(Plan::DivideTwo(sh.point(k.t), sh.point(j.t)))
+    Ok(Plan::DivideTwo(sh.point(k.t), sh.point(j.t)))
 }
 
 // Only a circle's cuts depend on the other curves.
-fn split_curve<'a>(c: Curve, at: Vec2, image: &'a [u8], near: &'a [u16]) -> PlanResult
-    ensures { SplitsIn image.now c at result }
+fn split_curve(c: Curve, at: Vec2, t: &Tables) -> Result<Plan, Refusal>
+    ensures { SplitsIn t.now.image.now c at (numbered result) }
 {
-    let kind = c.kind;
-    let Outline::Analytic(sh) = shape_of(kind, points_of(image), near) else {
-        return PlanResult::Refused(10);
+    let Some(sh) = shape_of(c.kind, t.points, t.near) else {
+        return Err(Refusal::WrongKind);
     };
-    if !is_circle(kind) {
+    if !is_circle(c.kind) {
         if sh.is_full() {
-            return PlanResult::Refused(10);
+            return Err(Refusal::WrongKind);
         }
         return split_open(sh, at);
     }
-    if has_freeform(image) {
-        return PlanResult::Refused(11);
+    if has_freeform(t) {
+        return Err(Refusal::FreeformNear);
     }
-    split_full(sh, c.id, at, image, near)
+    split_full(sh, c.id, at, t)
 }
 
 // The plan of a trim of the curve at a place, picked at a point.
-pub fn plan_trim<'a>(image: &'a [u8], near: &'a [u16], place: usize, at: Vec2) -> PlanResult
-    ensures { TrimIn image.now place at result }
+pub fn plan_trim(t: &Tables, place: usize, at: Vec2) -> Result<Plan, Refusal>
+    ensures { TrimIn t.now.image.now place at (numbered result) }
 {
-    let curves = curves_of(image);
-    if place >= curve_count(curves) {
-        return PlanResult::Refused(8);
+    if place >= curve_count(t.curves) {
+        return Err(Refusal::NoCurve);
     }
-    trim_curve(curve_at(curves, place), at, image, near)
+    trim_curve(curve_at(t.curves, place), at, t)
 }
 
 // The plan of a split, likewise.
-pub fn plan_split<'a>(image: &'a [u8], near: &'a [u16], place: usize, at: Vec2) -> PlanResult
-    ensures { SplitIn image.now place at result }
+pub fn plan_split(t: &Tables, place: usize, at: Vec2) -> Result<Plan, Refusal>
+    ensures { SplitIn t.now.image.now place at (numbered result) }
 {
-    let curves = curves_of(image);
-    if place >= curve_count(curves) {
-        return PlanResult::Refused(8);
+    if place >= curve_count(t.curves) {
+        return Err(Refusal::NoCurve);
     }
-    split_curve(curve_at(curves, place), at, image, near)
+    split_curve(curve_at(t.curves, place), at, t)
 }

@@ -4,12 +4,3 @@
 pub mod image_pins;
 pub mod image_plans;
 mod planning;
-
-use edit_plan::Plan;
-
-// What is to be done with the curve that was picked, or the number of a refusal.
-#[derive(Clone, Copy)]
-pub enum PlanResult {
-    Refused(u8),
-    Accepted(Plan),
-}

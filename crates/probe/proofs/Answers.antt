@@ -1,19 +1,18 @@
 -- The entry points' answers, one law for each way out.
-use Rattle.std.proofs.Common.{◌≡◌, ℕ, ◌≤◌, false, eqb, List, length, sym, ap, ◌∙◌, ne_eqb, le-leb}
+use Rattle.std.proofs.Common.{◌≡◌, ℕ, ◌≤◌, false, eqb, List, length, sym, refl, ap, ◌∙◌, ne_eqb, le-leb}
 use Rattle.big_endian.specs.Laws.{Bytes}
 use Rattle.sketch.specs.Lists.{guard_number}
 use Rattle.sketch.specs.Drawing.{view}
 use Rattle.sketch.specs.Valid.{sketch_fault}
 use Rattle.sketch.specs.declared.Sketch.{Sketch}
-use Rattle.sketch_image.specs.declared.ImageRead.{ImageRead}
-use Rattle.image.specs.Image.{image_fault, drawing_of, parse}
-use Rattle.sketch_image.specs.SketchImage.{ReadAnswer}
+use Rattle.image.specs.Image.{image_fault, drawing_of}
+use Rattle.sketch_image.specs.SketchImage.{ImageRead, ReadAnswer}
 use Rattle.image.specs.Encode.{encode, drawing_size}
 use Rattle.sketch_image.specs.SketchImage.{ImageWritten}
 use Rattle.image.proofs.RoundTrips.{image_kept, encode_back, size_back}
 use Rattle.sketch_image.proofs.Answers.{read_number, read_drawing}
 use Rattle.message.specs.declared.Message.{Message}
-use Rattle.message.specs.declared.MessageRead.TheVariants.{Accepted}
+use Rattle.refusal.specs.Refusals.{Accepted}
 use Rattle.message.specs.Message as M
 use Rattle.message.specs.Message.{message_fault, message_of}
 use Rattle.message.proofs.MessageRoundTrips as T
@@ -28,13 +27,13 @@ not_copied fault bytes before r e n =
     record { number = rw t e; buffer = rw (t, t) }
 
 -- what was read and written again is the same bytes
-pub image_copied : (s before later : List ℕ) (sk : Sketch) (r : ImageRead) (n : ℕ) → Bytes s → ReadAnswer s r → r.refusal ≡ 0 → sk ≡ r.sketch → ImageWritten sk before later n
-    → Copied (image_fault s) s before later n
+pub image_copied : (s before later : List ℕ) (sk : Sketch) (n : ℕ) → Bytes s → ReadAnswer s (record { sketch = sk; refusal = 0 }) → ImageWritten sk before later n → Copied (image_fault s) s before later n
 unfolding guard_number
-image_copied s before later sk r n b a z e w =
-    let i : image_fault s ≡ 0 = sym (read_number r s a.result_is) ∙ z in
-    let v : view sk ≡ drawing_of s = ap view e ∙ read_drawing r s a.result_is z in
-    let f : sketch_fault sk ≡ 0 = ap sketch_fault e ∙ a.sound in
+image_copied s before later sk n b a w =
+    let r : ImageRead = record { sketch = sk; refusal = 0 } in
+    let i : image_fault s ≡ 0 = sym (read_number r s a.result_is) in
+    let v : view sk ≡ drawing_of s = read_drawing r s a.result_is refl in
+    let f : sketch_fault sk ≡ 0 = a.sound in
     let k = image_kept s i in
     let l : drawing_size (view sk) ≡ length s = ap drawing_size v ∙ size_back s k in
     let c : encode (view sk) ≡ s = ap encode v ∙ encode_back s b k in

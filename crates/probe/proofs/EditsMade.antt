@@ -10,7 +10,7 @@ use Rattle.image.specs.Encode.{drawing_size}
 use Rattle.message.specs.Message.{operation_of, is_operation}
 use Rattle.message.specs.declared.Operation.{Operation}
 use Rattle.edit_plan.specs.declared.Removed.{Removed}
-use Rattle.edit_plan.specs.declared.Edited.{Edited}
+use Rattle.edit_plan.specs.Edited.{Edited}
 use Rattle.edit_plan.specs.Outcome.{Outcome, refused, accepted, guard}
 use Rattle.edit_plan.specs.Suited.{outcome_of}
 use Rattle.extend.proofs.Places.{Placeless, placeless_below, placeless_above, place_none}
@@ -29,6 +29,15 @@ place_whole :
 place_whole op sk t p f r a =
     let h = place_within op (view sk) t p (sketch_valid sk f).1 r.refusal in
     place_is r.place (omega (arith, a.place)) ∙ a.place
+
+-- what is accepted is refused by a buffer that is too short alone
+pub wrote_number : (d : Drawing) (gone : Removed) {before later : List ℕ} {n : ℕ} → Wrote (accepted d gone) before later n → (n ≡ 0) ⊎ (n ≡ 25)
+unfolding guard number_of
+wrote_number d gone {before} {later} {n} w = go (leb (12 + drawing_size d) (length before)) w.number
+  where
+    go : (b : Bool) → n ≡ number_of (guard b 25 (accepted d gone)) → (n ≡ 0) ⊎ (n ≡ 25)
+    go true e = inl e
+    go false e = inr e
 
 -- ---- no edit
 
@@ -82,17 +91,13 @@ module _ (op : ℕ) (s : List ℕ) (t : ℕ) (p : Vec2) (before : List ℕ) wher
       unfolding guard number_of
       edit_written z later n w =
           let q : image_edit_by op s t p ≡ accepted (view r.sketch) r.removed = outcome_is ∙ rw (eq-eqb r.refusal 0 z) in
-          let c = number_of_lem (leb (12 + drawing_size (view r.sketch)) (length before)) w.number in
+          let c = wrote_number (view r.sketch) r.removed w in
           record {
             number = rw q (low c ∙ w.number);
             buffer = rw q w.buffer;
             place = above c ∙ place_none (drawing_of s) _ (placeless c);
           }
         where
-          number_of_lem : (b : Bool) → n ≡ number_of (guard b 25 (accepted (view r.sketch) r.removed)) → (n ≡ 0) ⊎ (n ≡ 25)
-          number_of_lem true e = inl e
-          number_of_lem false e = inr e
-
           low : (n ≡ 0) ⊎ (n ≡ 25) → n % 65536 ≡ n
           low (inl e) = omega arith
           low (inr e) = omega arith

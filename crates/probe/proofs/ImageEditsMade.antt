@@ -12,7 +12,7 @@ use Rattle.message.specs.Message.{operation_of, is_operation}
 use Rattle.message.specs.declared.Operation.{Operation}
 use Rattle.edit_plan.specs.declared.Removed.{Removed}
 use Rattle.edit_plan.specs.Outcome.{Outcome, refused, accepted, guard}
-use Rattle.extend.specs.declared.EditedImage.{EditedImage}
+use Rattle.extend.specs.Answers.{ImageAnswer}
 use Rattle.extend.specs.ImageExtend.{OutcomeWritten}
 use Rattle.extend.proofs.Places.{placeless_below, place_none}
 use Rattle.extend.proofs.ImageMoves.{image_valid}
@@ -20,12 +20,13 @@ use Rattle.modify.specs.Edits.{edit_of, edit_place}
 use Rattle.modify.specs.ImageEdits as M
 use Rattle.modify.specs.ImageEdits.{EditWritten}
 use Rattle.modify.proofs.ImageFaults.{image_fault_low}
+use Rattle.modify.proofs.Numbered.{image_edit_numbered}
 use Rattle.modify.proofs.WholeOutcomes.{good_edit, whole_outcome}
 use Rattle.modify.proofs.Places.{image_place_within}
 use Rattle.probe.specs.Edits.{image_edit_by, number_of, left_in, fitting, Wrote, EditMade, with_place, outcome_adds, edit_adds}
 use Rattle.probe.specs.EditContracts.{ReportEnd, ReportPut}
 use Rattle.probe.proofs.EditsMade.{place_is}
-use Rattle.probe.proofs.ReportedImages.{nothing_written, image_and_report}
+use Rattle.probe.proofs.ReportedImages.{size_made, nothing_written, image_and_report}
 
 pub fault_low : (s : List ℕ) {r : ℕ} → r ≡ image_fault s → r < 256
 fault_low s e = omega (arith, image_fault_low s)
@@ -33,7 +34,7 @@ fault_low s e = omega (arith, image_fault_low s)
 -- ---- one edit
 
 module _ (op : ℕ) (s : List ℕ) (t : ℕ) (p : Vec2) (xs : List ℕ) (o : is_operation op ≡ true) (start : ℕ) (end : ReportEnd (length xs) start) {op' : Operation} (named : op' ≡ operation_of op)
-    {ys : List ℕ} {r : EditedImage} (a : EditWritten op' s t p (take (length xs - start) (drop start xs)) ys r)
+    {ys : List ℕ} {r : ImageAnswer} (a : EditWritten op' s t p (take (length xs - start) (drop start xs)) ys r)
   where
     outcome_is : M.edit_image op' s t p ≡ image_edit_by op s t p
     unfolding guard
@@ -56,8 +57,9 @@ module _ (op : ℕ) (s : List ℕ) (t : ℕ) (p : Vec2) (xs : List ℕ) (o : is_
           place = place_above ∙ place_is r.place (omega (arith, image_place_within op' s t p a b)) ∙ a.place ∙ ap₂ (λ (x : Operation) (k : ℕ). edit_place x (drawing_of s) t p k) named (sym number_is);
         }
 
-    pub edit_written : (r.size ≡ 0 → ⊥) → {k : List ℕ} → ReportPut r.removed (take start xs ++ (ys ++ drop (length xs - start) (drop start xs))) k → EditMade op s t p xs k 0
-    edit_written z {k} put =
+    pub edit_written : r.refusal ≡ 0 → {k : List ℕ} → ReportPut r.removed (take start xs ++ (ys ++ drop (length xs - start) (drop start xs))) k → EditMade op s t p xs k 0
+    edit_written f {k} put =
+        let z = size_made (M.edit_image op' s t p) (image_edit_numbered op' s t p) (λ d gone q. (a.sound d gone q).0) _ r a.written f in
         let w = image_and_report xs start end ys r k put (M.edit_image op' s t p) (λ d gone q. (a.sound d gone q).0) a.written z in
         record {
           number = made_number w;
@@ -83,7 +85,7 @@ drawing_back s d e = go (image_fault s) e
     go zero h = cc
     go (suc n) h = let z : ◌≡◌ {A = ℕ} 0 1 = cc in absurd (omega arith)
 
-module _ (op : Operation) (s : List ℕ) (t : ℕ) (p : Vec2) {before after : List ℕ} {r : EditedImage} (a : EditWritten op s t p before after r) (b : Bytes s) where
+module _ (op : Operation) (s : List ℕ) (t : ℕ) (p : Vec2) {before after : List ℕ} {r : ImageAnswer} (a : EditWritten op s t p before after r) (b : Bytes s) where
   abbrev outcome : Outcome Drawing Removed
   outcome = edit_of op limits (drawing_of s) t p
 
@@ -105,10 +107,13 @@ module _ (op : Operation) (s : List ℕ) (t : ℕ) (p : Vec2) {before after : Li
       go (refused n) e w = is ∙ ap (λ (j : ℕ). r.refusal + j * 65536) placed ∙ ap (λ (j : ℕ). with_place j (edit_place op (drawing_of s) t p j)) w.refusal
       go (accepted d gone) e w = absurd (omega (arith, w.size, (a.sound d gone (made i room ∙ e)).0))
 
-  pub adds_sum : (r.size ≡ 0 → ⊥) → {next n : ℕ} → next ≡ next_at after → n ≡ (next + r.removed.curve) % 2 ^ 32 → image_fault s ≡ 0 → max_image_size ≤ length before → n ≡ edit_adds op (drawing_of s) t p
+  pub adds_sum : r.refusal ≡ 0 → {next n : ℕ} → next ≡ next_at after → n ≡ (next + r.removed.curve) % 2 ^ 32 → image_fault s ≡ 0 → max_image_size ≤ length before → n ≡ edit_adds op (drawing_of s) t p
   unfolding outcome_adds over
-  adds_sum z {next} {n} f g i room = go outcome refl (written i room)
+  adds_sum y {next} {n} f g i room = go outcome refl (written i room)
     where
+      z : r.size ≡ 0 → ⊥
+      z = size_made (M.edit_image op s t p) (image_edit_numbered op s t p) (λ d gone q. (a.sound d gone q).0) _ r a.written y
+
       go : (o : Outcome Drawing Removed) → outcome ≡ o → OutcomeWritten o before after r → n ≡ outcome_adds (edit_place op (drawing_of s) t p) o
       go (refused m) e w = absurd (z w.size)
       go (accepted d gone) e w =

@@ -3,6 +3,7 @@ pub mod Crossed
 pub mod EditsMade
 pub mod EditsWritten
 pub mod ImageEditsMade
+pub mod RefusalNumbers
 pub mod ReplicaSums
 pub mod ReportedImages
 pub mod Sums

@@ -1,5 +1,5 @@
 -- What a desk's edit and a delivery add to a sum: one law for each reply.
-use Rattle.std.proofs.Common.{◌≡◌, ℕ, ◌+◌, ◌*◌, ◌%◌, ◌^◌, ◌≤◌, List, length, take, sym, refl, ap, ◌∙◌, subst, arith, take_all, take_at}
+use Rattle.std.proofs.Common.{◌≡◌, ℕ, ◌+◌, ◌*◌, ◌%◌, ◌^◌, ◌≤◌, Bool, true, false, leb, List, length, take, sym, refl, ap, ◌∙◌, subst, arith, take_all, take_at, leb-true, leb-false}
 use lib.Ieee.{Float}
 use Rattle.big_endian.specs.Fields.{over, over_if_fits}
 use Rattle.big_endian.specs.Laws.{Bytes, over_fits, length_over}
@@ -16,13 +16,16 @@ use Rattle.edit_plan.specs.declared.Removed.{Removed}
 use Rattle.edit_plan.specs.Outcome.{Outcome, refused, accepted}
 use Rattle.agreement.specs.Machines as M
 use Rattle.agreement.specs.Machines.{State, state_after, DeskStepValid, WallStepValid}
-use Rattle.replication.specs.declared.DeskReply.{DeskReply}
-use Rattle.replication.specs.declared.DeskReply.TheVariants as Desk
-use Rattle.replication.specs.declared.WallReply.{WallReply}
-use Rattle.replication.specs.declared.WallReply.TheVariants as Wall
+use Rattle.std.specs.Prelude.{Result, Ok}
+use Rattle.refusal.specs.declared.Refusal.{Refusal}
+use Rattle.replication.specs.declared.Delivered.{Delivered}
+use Rattle.replication.specs.declared.Delivered.TheVariants as D
+use Rattle.replication.specs.DeskReply.{DeskReply}
+use Rattle.replication.specs.DeskReply as Desk
+use Rattle.replication.specs.WallReply.{WallReply, wall_reply_of}
+use Rattle.replication.specs.WallReply as Wall
 use Rattle.replication.specs.Protocol.{Edit, protocol}
 use Rattle.replication.specs.Transitions.{Memory, memory, DeskCall, desk_reply, desk_step, DeskEdits, WallCall, wall_reply, wall_step, WallDelivers}
-use Rattle.wall_program.specs.Program.{program_outcome, WritesOutcome}
 use Rattle.replication.proofs.OutcomePlaces.{within, wall_place, reply_within}
 use Rattle.replication.proofs.StartCases.{good_size}
 use Rattle.replication.proofs.Steps.{Holding, ready_by, desk_step_lem, wall_step_lem}
@@ -101,6 +104,13 @@ module _ (reply : WallReply) where
       absurd (omega arith)
   wall_applied_lem (s, M.wall_applied r) now gone q h g f = f ∙ ap (λ (x : State Drawing). (x.count + 256) % 2 ^ 32) g
 
+-- a delivery's result, as a reply
+pub told_old : (r : Result Delivered Refusal) (d : Delivered) → r ≡ Ok d → d ≡ D.Old → wall_reply_of r ≡ Wall.Old
+told_old r d e f = ap wall_reply_of e ∙ ap (λ (x : Delivered). wall_reply_of (Ok x)) f
+
+pub told_applied : (r : Result Delivered Refusal) (d : Delivered) (gone : Removed) → r ≡ Ok d → d ≡ D.Applied gone → wall_reply_of r ≡ Wall.Applied gone
+told_applied r d gone e f = ap wall_reply_of e ∙ ap (λ (x : Delivered). wall_reply_of (Ok x)) f
+
 -- ---- so many on one image
 
 -- an image put to a buffer's front is a replica's
@@ -143,5 +153,11 @@ desk_read s count op t x y times e q = q ∙ ap (λ o. repeated times (desk_adds
 
 -- ---- the wall's program looks at 65,536 bytes
 
-pub read_whole : (s : List ℕ) {before later : List ℕ} {n : ℕ} → length s ≤ 65536 → WritesOutcome (program_outcome s) before later n → WritesOutcome (program_outcome (take 65536 s)) before later n
-read_whole s {before} {later} {n} h w = subst (λ (l : List ℕ). WritesOutcome (program_outcome l) before later n) (sym (take_all 65536 s h)) w
+pub read_front : (s : List ℕ) (m : ℕ) → (length s ≤ 65536 → m ≡ length s) → (65536 ≤ length s → m ≡ 65536) → take m s ≡ take 65536 s
+read_front s m short long = go (leb (length s) 65536) refl
+  where
+    go : (b : Bool) → leb (length s) 65536 ≡ b → take m s ≡ take 65536 s
+    go true e =
+        let h = leb-true (length s) 65536 e in
+        take_all m s (omega (arith, short h)) ∙ sym (take_all 65536 s h)
+    go false e = ap (λ (n : ℕ). take n s) (long (omega (arith, leb-false (length s) 65536 e)))

@@ -7,7 +7,7 @@ use Rattle.sketch.specs.Drawing.{Drawing}
 use Rattle.image.specs.Encode.{encode, drawing_size}
 use Rattle.edit_plan.specs.declared.Removed.{Removed}
 use Rattle.edit_plan.specs.Outcome.{Outcome, refused, accepted, guard}
-use Rattle.extend.specs.declared.EditedImage.{EditedImage}
+use Rattle.extend.specs.Answers.{ImageAnswer}
 use Rattle.extend.specs.ImageExtend.{if_fits, OutcomeWritten}
 use Rattle.probe.specs.Edits.{number_of, left_in, report, Wrote}
 use Rattle.probe.specs.EditContracts.{ReportEnd, ReportPut}
@@ -32,7 +32,22 @@ report_put gone front l m k a b c enough = rw (← joined gone) whole.is
 
 -- ---- the image
 
-module _ (xs : List ℕ) (start : ℕ) (b : ReportEnd (length xs) start) (ys : List ℕ) (r : EditedImage) where
+-- where no refusal has the number 0, what is accepted has bytes
+pub size_made :
+    (o : Outcome Drawing Removed) → (o ≡ refused 0 → ⊥) → ((d : Drawing) (gone : Removed) → o ≡ accepted d gone → length (encode d) ≡ drawing_size d) → (room : ℕ) {before after : List ℕ} (r : ImageAnswer)
+    → OutcomeWritten (if_fits room o) before after r → r.refusal ≡ 0 → r.size ≡ 0 → ⊥
+unfolding guard
+size_made (refused n) numbered sound room r w e z = let q : n ≡ 0 = sym w.refusal ∙ e in numbered (ap refused q)
+size_made (accepted d gone) numbered sound room {before} {after} r w e z = go (leb (length (encode d)) room) w
+  where
+    is : length (encode d) ≡ drawing_size d
+    is = sound d gone refl
+
+    go : (t : Bool) → OutcomeWritten (guard t 25 (accepted d gone)) before after r → ⊥
+    go true w = let l : 1 ≤ length (encode d) = omega (arith, is) in let s = w.size in omega arith
+    go false w = let k = w.refusal in omega arith
+
+module _ (xs : List ℕ) (start : ℕ) (b : ReportEnd (length xs) start) (ys : List ℕ) (r : ImageAnswer) where
   abbrev rest : List ℕ
   rest = drop start xs
 

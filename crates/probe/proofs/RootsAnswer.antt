@@ -1,12 +1,11 @@
 -- A search's answer as plain numbers, by its case. Assumes nothing.
 use Rattle.std.proofs.Common.{◌≡◌, ℕ, List, set, sym, refl, ◌∙◌, arith}
 use lib.Ieee.{Float}
+use Rattle.bernstein.specs.Answers.{Answer, Found, Refused}
 use Rattle.bernstein.specs.Roots.{RootsResult, found, refused, answer_of, Searched, number_of}
-use Rattle.bernstein.specs.declared.Roots.{Roots}
-use Rattle.bernstein.specs.declared.Roots.TheVariants.{Found, Refused}
 use Rattle.probe.specs.Polynomials.{count_of, budget_of, RootsAndBudgetWritten}
 
-module _ (o : RootsResult) (lent later : List Float) (before : List ℕ) (r : Roots) (s : Searched o lent later r) where
+module _ (o : RootsResult) (lent later : List Float) (before : List ℕ) (r : Answer) (s : Searched o lent later r) where
   pub answered_found : (n b : ℕ) → r ≡ Found n b → RootsAndBudgetWritten o lent later before (set (set before 0 n) 1 b) 0
   unfolding answer_of
   answered_found n b e = let k = go o (sym e ∙ s.answer) in record { number = sym k.0; buffer = s.buffer; numbers = rw (k.1, k.2) }

@@ -1,5 +1,7 @@
 -- What the entry points answer.
-use Rattle.std.specs.Prelude.{◌≡◌, ℕ, List, length, ◌==◌, ◌≢◌, nat_le}
+use Rattle.std.specs.Prelude.{◌≡◌, ℕ, List, length, ◌==◌, ◌≢◌, nat_le, Result, Ok, Err}
+use Rattle.refusal.specs.declared.Refusal.{Refusal}
+use Rattle.refusal.specs.Refusals.{number}
 use Rattle.big_endian.specs.Fields.{over}
 use Rattle.sketch.specs.Lists.{ite, guard_number}
 use Rattle.sketch.specs.Drawing.{view}
@@ -27,6 +29,11 @@ MessageCopied mark bytes before later r = Copied (message_fault mark bytes) byte
 abbrev pub altered : Sketch → ℕ → ℕ → ℕ → ℕ → Sketch
 altered s next points curves relations =
     record { next = next; npoints = points; ncurves = curves; nrelations = relations; points = s.points; curves = s.curves; relations = s.relations }
+
+-- the image's refusal, or a sketch that the image gives, altered
+abbrev pub AlteredRead : List ℕ → ℕ → ℕ → ℕ → ℕ → Result Sketch Refusal → Type 0
+AlteredRead bytes next points curves relations (Ok sk) = (s : Sketch) × (image_fault bytes ≡ 0) × (view s ≡ drawing_of bytes) × (sk ≡ altered s next points curves relations)
+AlteredRead bytes next points curves relations (Err r) = (image_fault bytes ≢ 0) × (number r ≡ image_fault bytes)
 
 -- the image's refusal, or the test of a sketch that the image gives, altered
 pub data SketchTested (bytes : List ℕ) (next points curves relations : ℕ) (r : ℕ) : Type 0 where

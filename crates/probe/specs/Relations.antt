@@ -1,13 +1,24 @@
 -- What is answered of a sketch's relations.
-use Rattle.std.specs.Prelude.{◌≡◌, ℕ, ◌+◌, true, false, List, ◌≢◌}
+use Rattle.std.specs.Prelude.{◌≡◌, ℕ, ◌+◌, true, false, List, ◌≢◌, Option, Some, None, Result, Ok, Err}
+use Rattle.refusal.specs.declared.Refusal.{Refusal}
+use Rattle.refusal.specs.Refusals.{number}
 use Rattle.sketch.specs.Drawing.{view}
 use Rattle.sketch.specs.Valid.{sketch_fault}
 use Rattle.sketch.specs.declared.Sketch.{Sketch}
 use Rattle.image.specs.Image.{image_fault, drawing_of}
 use Rattle.relations.specs.Met.{all_met, first_unmet}
-use Rattle.probe.specs.declared.Verdict.{Verdict}
-use Rattle.probe.specs.declared.Verdict.TheVariants.{Refused, Met, Unmet}
 use Rattle.probe.specs.Probe.{altered}
+
+-- a sketch that no image gives, by its number; else that all relations are met, or the place of the first that is not
+pub data Verdict : Type 0 where
+  Refused : ℕ → Verdict
+  Met : Verdict
+  Unmet : ℕ → Verdict
+
+abbrev pub verdict_of : Result (Option ℕ) Refusal → Verdict
+verdict_of (Err r) = Refused (number r)
+verdict_of (Ok None) = Met
+verdict_of (Ok (Some k)) = Unmet k
 
 -- the number of a sketch that no image gives; of any other, that every relation is met, or the place of the first that is not
 abbrev pub UnmetAnswer : Sketch → Verdict → Type 0

@@ -3,6 +3,7 @@ ghost use Rattle.std.specs.Prelude.{◌≡◌};
 ghost use Rattle.window.specs.Window.{window_size, catch_up_fault, CatchesUp};
 ghost use Rattle.probe.specs.Edits.{repeated};
 
+use crate::refusals::number_of;
 use message::{EditNumber, Mark};
 use window::WINDOW_SIZE;
 
@@ -17,7 +18,7 @@ pub extern "C" fn mulkefi_catch_up(
 ) -> u32
     ensures { CatchesUp mark window.now count wall messages.old messages.new result }
 {
-    window::catch_up(window, count, mark, wall, messages) as u32
+    number_of(window::catch_up(window, count, mark, wall, messages))
 }
 
 // Catches up so many times, each time into a buffer that has room for all messages of a window. Answers the sum of the numbers.
@@ -33,11 +34,9 @@ pub extern "C" fn mulkefi_catch_up_repeated(
 {
     let mut messages = [0u8; WINDOW_SIZE];
     let mut sum = 0u32;
-    let mut i = 0u32;
-    while i < times {
-        let more = window::catch_up(window, count, mark, wall, &mut messages);
-        sum = std::num::wrapping_add_u32(sum, more as u32);
-        i += 1;
+    for i in 0..times {
+        let more = mulkefi_catch_up(window, count, mark, wall, &mut messages);
+        sum = sum.wrapping_add(more);
     }
     sum
 }

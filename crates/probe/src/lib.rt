@@ -5,6 +5,7 @@ mod catching_up;
 mod edits;
 mod numbers;
 mod polynomials;
+mod refusals;
 mod replicas;
 mod shapes;
 mod typed_edits;
@@ -13,25 +14,20 @@ mod verdicts;
 ghost use Rattle.std.specs.Prelude.{◌≡◌, ◌+◌, ◌*◌};
 ghost use Rattle.image.specs.Image as I;
 ghost use Rattle.message.specs.Message as M;
-ghost use Rattle.probe.specs.Probe.{ImageCopied, MessageCopied, SketchTested};
+ghost use Rattle.refusal.specs.Refusals.{refusal_number};
+ghost use Rattle.probe.specs.Probe.{ImageCopied, MessageCopied, AlteredRead, SketchTested};
 
-use message::{Mark, MessageRead};
-use sketch::Id;
-
-// A sketch that no image gives, by its number; else that all relations are met, or the place of the first that is not.
-#[derive(Clone, Copy)]
-enum Verdict {
-    Refused(u8),
-    Met,
-    Unmet(usize),
-}
+use message::Mark;
+use refusal::Refusal;
+use refusals::number_of;
+use sketch::{Id, Sketch};
 
 // The image's version, times 256, and the message's.
 #[unsafe(no_mangle)]
 pub extern "C" fn mulkefi_versions() -> u32
     ensures { result ≡ I.version * 256 + M.version }
 {
-    image::IMAGE_VERSION as u32 * 256 + message::MESSAGE_VERSION as u32
+    u32::from(image::IMAGE_VERSION) * 256 + u32::from(message::MESSAGE_VERSION)
 }
 
 // The number that an image is refused by, or 0.
@@ -39,8 +35,16 @@ pub extern "C" fn mulkefi_versions() -> u32
 pub extern "C" fn mulkefi_image_test(bytes: &[u8]) -> u32
     ensures { result ≡ I.image_fault bytes.now }
 {
-    let r = sketch_image::read(bytes);
-    r.refusal as u32
+    match sketch_image::read(bytes) {
+        Ok(_) => 0,
+        Err(refusal) => u32::from(refusal.number()),
+    }
+}
+
+fn copy_image(bytes: &[u8], out: &mut [u8]) -> Result<(), Refusal>
+    ensures { ImageCopied bytes.now out.old out.new (refusal_number result) }
+{
+    sketch_image::write(sketch_image::read(bytes)?, out)
 }
 
 // Reads an image and writes it again.
@@ -48,12 +52,13 @@ pub extern "C" fn mulkefi_image_test(bytes: &[u8]) -> u32
 pub extern "C" fn mulkefi_image_copy(bytes: &[u8], out: &mut [u8]) -> u32
     ensures { ImageCopied bytes.now out.old out.new result }
 {
-    let r = sketch_image::read(bytes);
-    if r.refusal != 0 {
-        return r.refusal as u32;
-    }
-    let sk = r.sketch;
-    sketch_image::write(sk, out) as u32
+    number_of(copy_image(bytes, out))
+}
+
+fn copy_message(bytes: &[u8], mark: Mark, out: &mut [u8]) -> Result<(), Refusal>
+    ensures { MessageCopied mark bytes.now out.old out.new (refusal_number result) }
+{
+    message::write_message(message::read_message(bytes, mark)?, mark, out)
 }
 
 // Reads a message at a mark and writes it again.
@@ -61,10 +66,25 @@ pub extern "C" fn mulkefi_image_copy(bytes: &[u8], out: &mut [u8]) -> u32
 pub extern "C" fn mulkefi_message_copy(bytes: &[u8], mark: Mark, out: &mut [u8]) -> u32
     ensures { MessageCopied mark bytes.now out.old out.new result }
 {
-    match message::read_message(bytes, mark) {
-        MessageRead::Refused(number) => number as u32,
-        MessageRead::Accepted(m) => message::write_message(m, mark, out) as u32,
-    }
+    number_of(copy_message(bytes, mark, out))
+}
+
+// The sketch that an image gives, with another next id and other counts.
+fn read_altered(
+    bytes: &[u8],
+    next: Id,
+    points: u32,
+    curves: u32,
+    relations: u32,
+) -> Result<Sketch, Refusal>
+    ensures { AlteredRead bytes.now next points curves relations result }
+{
+    let mut sk = sketch_image::read(bytes)?;
+    sk.next = next;
+    sk.npoints = points as usize;
+    sk.ncurves = curves as usize;
+    sk.nrelations = relations as usize;
+    Ok(sk)
 }
 
 // Reads an image and tests its sketch with another next id and other counts.
@@ -78,14 +98,8 @@ pub extern "C" fn mulkefi_sketch_test(
 ) -> u32
     ensures { SketchTested bytes.now next points curves relations result }
 {
-    let r = sketch_image::read(bytes);
-    if r.refusal != 0 {
-        return r.refusal as u32;
+    match read_altered(bytes, next, points, curves, relations) {
+        Ok(sk) => number_of(sketch::fault(sk)),
+        Err(refusal) => u32::from(refusal.number()),
     }
-    let mut sk = r.sketch;
-    sk.next = next;
-    sk.npoints = points as usize;
-    sk.ncurves = curves as usize;
-    sk.nrelations = relations as usize;
-    sketch::fault(sk) as u32
 }

@@ -5,9 +5,6 @@ ghost use Rattle.bernstein.specs.Roots.{search_of};
 ghost use Rattle.float.specs.Magnitude.{MagnitudeWritten};
 ghost use Rattle.probe.specs.Polynomials.{RootsAndBudgetWritten};
 
-use bernstein::Roots;
-use float::Magnitude;
-
 #[unsafe(no_mangle)]
 pub extern "C" fn mulkefi_evaluate(c: &[f64], t: f64) -> f64
     ensures { result ≡ evaluate_of c.now t }
@@ -26,17 +23,15 @@ pub extern "C" fn mulkefi_roots(
     ensures { RootsAndBudgetWritten (search_of (length found.old) c.now budget) found.old found.new answer.old answer.new result }
 {
     let roots = bernstein::search::roots(c, found, budget);
-    let Roots::Found(count, left) = roots else {
-        let Roots::Refused(number, left) = roots else {
-            // This is never reached: what is not found is refused.
-            return 0;
-        };
+    // Roots are taken apart by `let .. else`, which is this scope's form.
+    let Ok(answered) = roots else {
+        let stopped = roots.unwrap_err();
         answer[0] = 0;
-        answer[1] = left as u64;
-        return number as u32;
+        answer[1] = stopped.budget as u64;
+        return u32::from(stopped.refusal.number());
     };
-    answer[0] = count as u64;
-    answer[1] = left as u64;
+    answer[0] = answered.count as u64;
+    answer[1] = answered.budget as u64;
     0
 }
 
@@ -47,10 +42,10 @@ pub extern "C" fn mulkefi_largest_magnitude(c: &[f64], largest: &mut [f64; 1]) -
     ensures { MagnitudeWritten c.now largest.old largest.new result }
 {
     match float::largest_magnitude(c) {
-        Magnitude::NotFinite(place) => place,
-        Magnitude::Largest(m) => {
+        Ok(m) => {
             largest[0] = m;
             c.len()
         }
+        Err(first) => first.place,
     }
 }

@@ -2,13 +2,16 @@
 ghost use Rattle.std.specs.Prelude.{◌≡◌, ◌≤◌, length, take};
 ghost use Rattle.image.specs.Image.{image_fault, max_image_size};
 ghost use Rattle.wall_program.specs.Program.{program_outcome, WritesOutcome};
+ghost use Rattle.probe.specs.Refusals.{number_or_sum};
 ghost use Rattle.probe.specs.Edits.{repeated};
 ghost use Rattle.probe.specs.Replicas.{image_state, desk_adds, desks_sum, wall_adds, walls_sum};
 
-use crate::edits::with_place;
+use crate::edits::test_image;
+use crate::refusals::{number_or_sum, with_place};
 use image::MAX_IMAGE_SIZE;
-use message::{EditNumber, MESSAGE_SIZE, Mark, Operation, is_operation, operation_of};
-use replication::{DeskReply, Replica, WallReply, first_fault};
+use message::{EditNumber, MESSAGE_SIZE, Mark, Operation};
+use refusal::Refusal;
+use replication::{Delivered, Replica};
 use rows::put_run;
 use sketch::Id;
 use window::Window;
@@ -21,10 +24,7 @@ const INPUT: usize = 65536;
 pub extern "C" fn mulkefi_wall(input: &[u8], out: &mut [u8]) -> usize
     ensures { WritesOutcome (program_outcome (take 65536 input.now)) out.old out.new result }
 {
-    if input.len() <= INPUT {
-        return wall_program::run_program(input, out);
-    }
-    wall_program::run_program(&input[..INPUT], out)
+    wall_program::run_program(&input[..input.len().min(INPUT)], out)
 }
 
 // What one edit at a desk that has an image and a count adds to a sum: a refusal's number with its place, or 256 and the count. `buffer` is for
@@ -48,10 +48,9 @@ fn desk_adds(
         count,
     };
     let mut message = [0u8; MESSAGE_SIZE];
-    let window = Window::empty();
-    let answer = replication::desk_edit(
+    let edited = replication::desk_edit(
         replica,
-        window,
+        Window::empty(),
         buffer,
         operation,
         curve,
@@ -59,11 +58,9 @@ fn desk_adds(
         y,
         &mut message,
     );
-    let after = answer.replica;
-    let reply = answer.reply;
-    match reply {
-        DeskReply::Refused(number, place) => with_place(number, place),
-        DeskReply::Accepted(_) => std::num::wrapping_add_u32(after.count, 256),
+    match edited.reply {
+        Ok(_) => edited.replica.count.wrapping_add(256),
+        Err(refusal) => with_place(refusal),
     }
 }
 
@@ -81,13 +78,27 @@ fn desks_sum(
 {
     let mut buffer = [0u8; MAX_IMAGE_SIZE];
     let mut sum = 0u32;
-    let mut i = 0u32;
-    while i < times {
-        let more = desk_adds(image, count, operation, curve, x, y, &mut buffer);
-        sum = std::num::wrapping_add_u32(sum, more);
-        i += 1;
+    for i in 0..times {
+        sum = sum.wrapping_add(desk_adds(image, count, operation, curve, x, y, &mut buffer));
     }
     sum
+}
+
+// The sum of so many edits at a desk with an image and a count, by an operation's number.
+fn desks_sum_by_number(
+    image: &[u8],
+    count: EditNumber,
+    operation: u32,
+    curve: Id,
+    x: f64,
+    y: f64,
+    times: u32,
+) -> Result<u32, Refusal>
+    ensures { number_or_sum result ≡ desks_sum image.now count operation curve x y times }
+{
+    test_image(image)?;
+    let operation = Operation::try_from(operation)?;
+    Ok(desks_sum(image, count, operation, curve, x, y, times))
 }
 
 // Makes an edit at a desk with an image and a count so many times, each on that image.
@@ -103,14 +114,7 @@ pub extern "C" fn mulkefi_desk_repeated(
 ) -> u32
     ensures { result ≡ desks_sum bytes.now count operation curve x y times }
 {
-    let fault = first_fault(bytes, 0);
-    if fault != 0 {
-        return fault as u32;
-    }
-    if !is_operation(operation) {
-        return 6;
-    }
-    desks_sum(bytes, count, operation_of(operation), curve, x, y, times)
+    number_or_sum(desks_sum_by_number(bytes, count, operation, curve, x, y, times))
 }
 
 // What one delivery to a wall that has an image, a count and a mark adds to a sum: a refusal's number with its place, 256 for an old message, or 256 and
@@ -125,13 +129,11 @@ fn wall_adds(image: &[u8], count: EditNumber, mark: Mark, message: &[u8], buffer
         mark,
         count,
     };
-    let answer = replication::wall_deliver(replica, buffer, message);
-    let after = answer.replica;
-    let reply = answer.reply;
-    match reply {
-        WallReply::Refused(number, place) => with_place(number, place),
-        WallReply::Old => 256,
-        WallReply::Applied(_) => std::num::wrapping_add_u32(after.count, 256),
+    let delivered = replication::wall_deliver(replica, buffer, message);
+    match delivered.reply {
+        Ok(Delivered::Old) => 256,
+        Ok(Delivered::Applied(_)) => delivered.replica.count.wrapping_add(256),
+        Err(refusal) => with_place(refusal),
     }
 }
 
@@ -141,11 +143,8 @@ fn walls_sum(image: &[u8], count: EditNumber, mark: Mark, message: &[u8], times:
 {
     let mut buffer = [0u8; MAX_IMAGE_SIZE];
     let mut sum = 0u32;
-    let mut i = 0u32;
-    while i < times {
-        let more = wall_adds(image, count, mark, message, &mut buffer);
-        sum = std::num::wrapping_add_u32(sum, more);
-        i += 1;
+    for i in 0..times {
+        sum = sum.wrapping_add(wall_adds(image, count, mark, message, &mut buffer));
     }
     sum
 }
@@ -161,9 +160,8 @@ pub extern "C" fn mulkefi_deliver_repeated(
 ) -> u32
     ensures { result ≡ walls_sum bytes.now count mark message.now times }
 {
-    let fault = first_fault(bytes, 0);
-    if fault != 0 {
-        return fault as u32;
+    match test_image(bytes) {
+        Ok(()) => walls_sum(bytes, count, mark, message, times),
+        Err(refusal) => u32::from(refusal.number()),
     }
-    walls_sum(bytes, count, mark, message, times)
 }

@@ -1,5 +1,5 @@
 // Measures of a shape, and the crossings of two. A shape comes as a kind and six numbers.
-ghost use Rattle.std.specs.Prelude.{◌≡◌};
+ghost use Rattle.std.specs.Prelude.{◌≡◌, ◌+◌, ◌<◌, length};
 ghost use Rattle.geom.specs.Plane.{vec};
 ghost use Rattle.shape.specs.Intersections.{crossings};
 ghost use Rattle.shape.specs.Measures as M;
@@ -19,13 +19,20 @@ fn shape_from_numbers(kind: u32, n: &[f64; 6]) -> Shape
 {
     let p = Vec2::new(n[0], n[1]);
     let q = Vec2::new(n[2], n[3]);
-    if kind == LINE {
-        return Shape::from_line(p, q);
+    match kind {
+        LINE => Shape::from_line(p, q),
+        ARC => Shape::from_arc(p, q, Vec2::new(n[4], n[5])),
+        _ => Shape::from_circle(p, n[2]),
     }
-    if kind == ARC {
-        return Shape::from_arc(p, q, Vec2::new(n[4], n[5]));
-    }
-    Shape::from_circle(p, n[2])
+}
+
+// A point's coordinates to a place in a buffer and the place behind it.
+fn put_point(out: &mut [f64], at: usize, p: Vec2)
+    requires { at + 1 < length out.old }
+    ensures { out.new ≡ set_point out.old at p }
+{
+    out[at] = p.x;
+    out[at + 1] = p.y;
 }
 
 #[unsafe(no_mangle)]
@@ -62,18 +69,14 @@ pub extern "C" fn mulkefi_range(kind: u32, n: &[f64; 6], out: &mut [f64; 2])
 pub extern "C" fn mulkefi_point(kind: u32, n: &[f64; 6], t: f64, out: &mut [f64; 2])
     ensures { out.new ≡ set_point out.old 0 (M.point (shape_from_numbers kind n.now) t) }
 {
-    let p = shape_from_numbers(kind, n).point(t);
-    out[0] = p.x;
-    out[1] = p.y;
+    put_point(out, 0, shape_from_numbers(kind, n).point(t));
 }
 
 #[unsafe(no_mangle)]
 pub extern "C" fn mulkefi_project(kind: u32, n: &[f64; 6], x: f64, y: f64, out: &mut [f64; 2])
     ensures { out.new ≡ set_point out.old 0 (M.project (shape_from_numbers kind n.now) (vec x y)) }
 {
-    let p = shape_from_numbers(kind, n).project(Vec2::new(x, y));
-    out[0] = p.x;
-    out[1] = p.y;
+    put_point(out, 0, shape_from_numbers(kind, n).project(Vec2::new(x, y)));
 }
 
 // How many crossings there are, with their coordinates in order at the front of the buffer.
@@ -90,15 +93,12 @@ pub extern "C" fn mulkefi_crossings(
     match shape::intersections(shape_from_numbers(kind, n), shape_from_numbers(other, m)) {
         Crossings::Zero => 0,
         Crossings::One(p) => {
-            out[0] = p.x;
-            out[1] = p.y;
+            put_point(out, 0, p);
             1
         }
         Crossings::Two(p, q) => {
-            out[0] = p.x;
-            out[1] = p.y;
-            out[2] = q.x;
-            out[3] = q.y;
+            put_point(out, 0, p);
+            put_point(out, 2, q);
             2
         }
     }

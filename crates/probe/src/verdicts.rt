@@ -1,28 +1,23 @@
 // Which relations of a sketch are met.
-ghost use Rattle.probe.specs.Relations.{UnmetAnswer, RelationsTested};
+ghost use Rattle.probe.specs.Relations.{UnmetAnswer, RelationsTested, verdict_of};
 
-use crate::Verdict;
+use crate::read_altered;
 use image::MAX_IMAGE_SIZE;
+use refusal::Refusal;
 use relations::image_search::first_unmet;
+use rows::Tables;
 use sketch::{Id, Sketch};
 use sketch_image::image_size;
 
-// Looks for the first relation of a sketch that is not met, in its image.
-fn unmet(sk: Sketch) -> Verdict
-    ensures { UnmetAnswer sk result }
+// Looks for the first relation of a sketch that is not met, in its image. A sketch that no image gives is refused.
+fn unmet(sk: Sketch) -> Result<Option<usize>, Refusal>
+    ensures { UnmetAnswer sk (verdict_of result) }
 {
     let mut image = [0u8; MAX_IMAGE_SIZE];
-    let fault = sketch_image::write(sk, &mut image);
-    if fault != 0 {
-        return Verdict::Refused(fault);
-    }
+    sketch_image::write(sk, &mut image)?;
     let size = image_size(sk.npoints, sk.ncurves, sk.nrelations);
     let near = [0u16; 1024];
-    let k = first_unmet(&image[..size], &near);
-    if k < sk.nrelations {
-        return Verdict::Unmet(k);
-    }
-    Verdict::Met
+    Ok(first_unmet(&Tables::new(&image[..size], &near)))
 }
 
 // Reads an image and looks, in its sketch with another next id and other counts, for the first relation that is not met: 0 where all are,
@@ -37,18 +32,13 @@ pub extern "C" fn mulkefi_relations_test(
 ) -> u32
     ensures { RelationsTested bytes.now next points curves relations result }
 {
-    let r = sketch_image::read(bytes);
-    if r.refusal != 0 {
-        return r.refusal as u32;
-    }
-    let mut sk = r.sketch;
-    sk.next = next;
-    sk.npoints = points as usize;
-    sk.ncurves = curves as usize;
-    sk.nrelations = relations as usize;
+    let sk = match read_altered(bytes, next, points, curves, relations) {
+        Ok(sk) => sk,
+        Err(refusal) => return u32::from(refusal.number()),
+    };
     match unmet(sk) {
-        Verdict::Refused(number) => number as u32,
-        Verdict::Met => 0,
-        Verdict::Unmet(place) => 256 + place as u32,
+        Ok(None) => 0,
+        Ok(Some(place)) => 256 + place as u32,
+        Err(refusal) => u32::from(refusal.number()),
     }
 }

@@ -1,27 +1,26 @@
--- What is measured of a piece, by its kind. Assumes nothing.
-use mathlib.Core.Path.{◌≡◌, refl, sym}
-use mathlib.Core.Bool.{Bool, true, false}
-use mathlib.Core.List.{[]}
+-- What is measured of a curve. Assumes nothing.
+use mathlib.Core.Path.{◌≡◌, refl, sym, ap}
+use mathlib.Core.Bool.{false}
+use mathlib.Core.List.{[], ◌∷◌}
 use mathlib.Core.Option.{Option, some, none}
-use lib.Dec.{eqb}
-use lib.Ieee.{Float, nan, inf, fin, add, sub, mul, div, neg, le, of_bits}
-use borrow.Author.Tests.{eq-eqb, ne_eqb}
+use Rattle.std.specs.Prelude.{Some, None}
+use Rattle.std.specs.Prelude.{Option as Answer}
+use lib.Ieee.{Float, nan, inf, fin, add, sub, mul, neg, le}
 use Rattle.float.specs.Root.{sqrt}
-use Rattle.float.specs.Numbers.{◌⊕◌, ◌⊖◌, ◌⊗◌, ◌⊘◌, √, 0f}
+use Rattle.float.specs.Numbers.{◌⊕◌, ◌⊖◌, ◌⊗◌, √, ½}
 use Rattle.float.specs.Thresholds.{at_1e-7, most_of}
 use Rattle.float.proofs.Lengths.{exact_1e-7}
-use Rattle.geom.specs.Plane.{◌-ᵥ◌, dot, distance}
+use Rattle.geom.specs.Plane.{◌+ᵥ◌, ◌-ᵥ◌, ◌·ᵥ◌, dot, distance}
 use Rattle.geom.specs.declared.Vec2.{Vec2}
 use Rattle.geom.proofs.Distances.{distance_at_most}
-use Rattle.shape.specs.Measures.{circle, project, dist, dist2}
+use Rattle.shape.specs.Measures.{project, dist, dist2}
 use Rattle.shape.specs.declared.Shape.{Shape}
 use Rattle.shape.specs.declared.Shape.TheVariants as S
 use Rattle.shape.proofs.Offsets.{dist_at_most}
-use Rattle.sketch.specs.Lists.{ite}
-use Rattle.relations.specs.declared.CurveData.{CurveData}
 use Rattle.sketch_geometry.specs.Geometry.{nowhere}
+use Rattle.sketch_geometry.specs.Positions.{shape_found}
 use Rattle.relations.specs.Met.{small, close, on, length_or_radius_of, line_end_points, line_midpoint}
-use Rattle.relations.specs.Whole.{whole_of, whole}
+use Rattle.relations.specs.Whole.{whole}
 
 -- ---- by squares
 
@@ -33,10 +32,6 @@ unfolding on
 on_by_square sh p = sym (dist_at_most at_1e-7 exact_1e-7 sh p)
 
 -- ---- no numbers
-
-pub no_number : 0f ⊘ 0f ≡ nan
-unfolding div of_bits
-no_number = refl
 
 less_nan : (x : Float) → x ⊖ nan ≡ nan
 unfolding sub add neg
@@ -52,44 +47,49 @@ none_small = refl
 pub never_close : (p : Vec2) → false ≡ close p nowhere
 never_close p = sym (rw (less_nan p.x, less_nan p.y) none_small)
 
--- ---- by kind
+-- ---- of a shape that was found
 
-module _ (s : CurveData) where
-  pub whole_line : s.kind ≡ 1 → whole_of s ≡ some (S.Line s.a s.b)
-  unfolding whole_of
-  whole_line e = rw (eq-eqb s.kind 1 e)
+module _ {o : Answer Shape} {sh : Shape} (e : o ≡ Some sh) where
+  module _ {a b : Vec2} (f : sh ≡ S.Line a b) where
+    is_line_lem : shape_found o ≡ some (S.Line a b)
+    is_line_lem = rw (e, f)
 
-  pub whole_arc : s.kind ≡ 2 → whole_of s ≡ some (circle s.a (distance s.b s.a))
-  unfolding whole_of
-  whole_arc e = rw e
+    pub line_length : length_or_radius_of (shape_found o) ≡ distance a b
+    unfolding length_or_radius_of
+    line_length = ap length_or_radius_of is_line_lem
 
-  pub whole_circle_lem : s.kind ≡ 3 → whole_of s ≡ some (circle s.a s.number)
-  unfolding whole_of
-  whole_circle_lem e = rw e
+    pub line_ends : line_end_points (shape_found o) ≡ a ∷ b ∷ []
+    unfolding line_end_points
+    line_ends = ap line_end_points is_line_lem
 
-  pub whole_none : (s.kind ≡ 1 → ⊥) → (s.kind ≡ 2 → ⊥) → (s.kind ≡ 3 → ⊥) → whole_of s ≡ none
-  unfolding whole_of
-  whole_none f g h = rw (ne_eqb s.kind 1 f, ne_eqb s.kind 2 g, ne_eqb s.kind 3 h)
+    pub line_middle : line_midpoint (shape_found o) ≡ (a +ᵥ b) ·ᵥ ½
+    unfolding line_midpoint
+    line_middle = ap line_midpoint is_line_lem
 
-  -- what is no line has neither ends nor a middle
-  module _ (h : s.kind ≡ 1 → ⊥) where
-    pub no_ends : line_end_points (whole_of s) ≡ []
-    unfolding whole_of line_end_points
-    no_ends = rw (ne_eqb s.kind 1 h) (go (eqb s.kind 2) (eqb s.kind 3))
-      where
-        go : (u v : Bool) → line_end_points (ite u (some (circle s.a (distance s.b s.a))) (ite v (some (circle s.a s.number)) none)) ≡ []
-        go true v = refl
-        go false true = refl
-        go false false = refl
+  module _ {c : Vec2} {r start sweep : Float} (f : sh ≡ S.Round c r start sweep) where
+    is_round_lem : shape_found o ≡ some (S.Round c r start sweep)
+    is_round_lem = rw (e, f)
 
-    pub no_middle : line_midpoint (whole_of s) ≡ nowhere
-    unfolding whole_of line_midpoint
-    no_middle = rw (ne_eqb s.kind 1 h) (go (eqb s.kind 2) (eqb s.kind 3))
-      where
-        go : (u v : Bool) → line_midpoint (ite u (some (circle s.a (distance s.b s.a))) (ite v (some (circle s.a s.number)) none)) ≡ nowhere
-        go true v = refl
-        go false true = refl
-        go false false = refl
+    pub round_radius : length_or_radius_of (shape_found o) ≡ r
+    unfolding length_or_radius_of
+    round_radius = ap length_or_radius_of is_round_lem
+
+    pub round_no_ends : line_end_points (shape_found o) ≡ []
+    unfolding line_end_points
+    round_no_ends = ap line_end_points is_round_lem
+
+    pub round_no_middle : line_midpoint (shape_found o) ≡ nowhere
+    unfolding line_midpoint
+    round_no_middle = ap line_midpoint is_round_lem
+
+module _ {o : Answer Shape} (e : o ≡ None) where
+  pub none_no_ends : line_end_points (shape_found o) ≡ []
+  unfolding line_end_points
+  none_no_ends = rw e
+
+  pub none_no_middle : line_midpoint (shape_found o) ≡ nowhere
+  unfolding line_midpoint
+  none_no_middle = rw e
 
 -- ---- an arc measures as its whole circle
 

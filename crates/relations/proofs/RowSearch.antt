@@ -4,6 +4,8 @@ use mathlib.Core.Bool.{Bool, true, false, not, ◌||◌}
 use mathlib.Core.List.{List, map}
 use Prim.Native.Nat.{ℕ, ◌+◌, ◌≤◌, ◌<◌}
 use native.Mathlib.Omega.{arith}
+use Rattle.std.specs.Prelude.{Option, Some, None}
+use borrow.Author.Tests.{lt-ltb, le-ltb}
 use lib.ListN.{length, take, length-map, length-take}
 use lib.Seq.{take_all}
 use Rattle.sketch.specs.declared.Point.{Point}
@@ -17,7 +19,7 @@ use Rattle.rows.proofs.GoodTables.{relations_in_lem}
 use Rattle.rows.proofs.Holds.{holds_points, holds_curves}
 use Rattle.sketch_geometry.specs.declared.Moved.{Moved}
 use Rattle.sketch_geometry.specs.Positions.{points_after_move}
-use Rattle.relations.specs.Met.{met, first_failing}
+use Rattle.relations.specs.Met.{met, first_failing, below}
 use Rattle.relations.specs.Moves.{names}
 use Rattle.relations.specs.ImageContracts.{MetAfter}
 use Rattle.relations.proofs.Failing.{Passed, search_end, search_here, search_on}
@@ -31,16 +33,16 @@ abbrev pub PassedRows : (Relation → Bool) → List ℕ → ℕ → ℕ → Typ
 PassedRows f relations n i = Passed f read_relation n (rows_in relation_size relations) i
 
 -- a relation is met after the move
-abbrev met_after : List ℕ → Moved → Relation → Bool
+abbrev met_after : List ℕ → Option Moved → Relation → Bool
 met_after s m r = met (points_after_move m (drawing_of s).points) (drawing_of s).curves r
 
 -- a relation names neither p nor c, or is met after the move
-abbrev pub met_if_named_after : ℕ → ℕ → Moved → List Point → List Curve → Relation → Bool
+abbrev pub met_if_named_after : ℕ → ℕ → Option Moved → List Point → List Curve → Relation → Bool
 met_if_named_after p c m ps cs r = not (names p c r) || met (points_after_move m ps) cs r
 
 -- ---- one relation
 
-module _ (s : List ℕ) (e : image_fault s ≡ 0) {points curves : List ℕ} (u : points ≡ point_table s) (v : curves ≡ curve_table s) (m : Moved) (r : Relation) {b : Bool}
+module _ (s : List ℕ) (e : image_fault s ≡ 0) {points curves : List ℕ} (u : points ≡ point_table s) (v : curves ≡ curve_table s) (m : Option Moved) (r : Relation) {b : Bool}
     (w : MetAfter points curves m r b) where
   pub met_in_image : b ≡ met_after s m r
   met_in_image =
@@ -57,7 +59,7 @@ module _ (s : List ℕ) (e : image_fault s ≡ 0) {points curves : List ℕ} (u 
         let z : names p c q ≡ true = ap (names p c) (sym h) ∙ sym k ∙ t in
         rw z row_met
 
-pub unnamed_met : (p c : ℕ) (m : Moved) (ps : List Point) (cs : List Curve) {r q : Relation} {x : Bool} → r ≡ q → x ≡ names p c r → x ≡ false → met_if_named_after p c m ps cs q ≡ true
+pub unnamed_met : (p c : ℕ) (m : Option Moved) (ps : List Point) (cs : List Curve) {r q : Relation} {x : Bool} → r ≡ q → x ≡ names p c r → x ≡ false → met_if_named_after p c m ps cs q ≡ true
 unnamed_met p c m ps cs {q = q} h k t =
     let z : names p c q ≡ false = ap (names p c) (sym h) ∙ sym k ∙ t in
     rw z
@@ -75,10 +77,17 @@ module _ (relations : List ℕ) {n : ℕ} (h : n ≡ length (relations_in relati
     all_rows : map read_relation (take n (rows_in relation_size relations)) ≡ (drawing_of s).relations
     all_rows = ap (map read_relation) (take_all n (rows_in relation_size relations) (omega (arith, as_many))) ∙ ap relations_in u ∙ relations_in_lem s e
 
-    pub row_fails : i < n → f (relation_row relations i) ≡ false → i ≡ first_failing f (drawing_of s).relations
-    row_fails q g = search_here w _ q (omega (arith, as_many)) g ∙ ap (first_failing f) all_rows
+    counted : n ≡ length (drawing_of s).relations
+    counted = h ∙ ap length (ap relations_in u ∙ relations_in_lem s e)
 
-    pub rows_done : i ≤ n → n ≤ i → n ≡ first_failing f (drawing_of s).relations
+    pub row_fails : i < n → f (relation_row relations i) ≡ false → Some i ≡ below (length (drawing_of s).relations) (first_failing f (drawing_of s).relations)
+    row_fails q g =
+        let first : ℕ = first_failing f (drawing_of s).relations in
+        let z : i ≡ first = search_here w _ q (omega (arith, as_many)) g ∙ ap (first_failing f) all_rows in
+        rw (← z, lt-ltb i (length (drawing_of s).relations) (omega (arith, counted)))
+
+    pub rows_done : i ≤ n → n ≤ i → None ≡ below (length (drawing_of s).relations) (first_failing f (drawing_of s).relations)
     rows_done a b =
-        let z : n ≡ i = omega arith in
-        z ∙ search_end w (rw length-take (omega arith)) ∙ ap (first_failing f) all_rows
+        let y : n ≡ i = omega arith in
+        let z : n ≡ first_failing f (drawing_of s).relations = y ∙ search_end w (rw length-take (omega arith)) ∙ ap (first_failing f) all_rows in
+        rw (← z, le-ltb n (length (drawing_of s).relations) (omega (arith, counted)))

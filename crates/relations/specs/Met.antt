@@ -1,5 +1,6 @@
 -- Which relations of a drawing are met (the glossary's term): those that hold within 1e-7. Each operation is rounded once, from left to right. Definitions only.
-use Rattle.std.specs.Prelude.{ℕ, suc, Bool, true, List, [], ◌∷◌, Float}
+use Rattle.std.specs.Prelude.{ℕ, suc, Bool, true, ltb, List, [], ◌∷◌, Some, None, Float}
+use Rattle.std.specs.Prelude.{Option as Answer}
 use Rattle.std.proofs.Math.Option.{Option, some, none}
 use Rattle.std.specs.Float.{nan}
 use Rattle.std.specs.Float.Ieee.{le}
@@ -82,3 +83,7 @@ first_failing f (a ∷ l) = ite (f a) (suc (first_failing f l)) 0
 -- the place of the first relation that is not met; their number where all are
 abbrev pub first_unmet : Drawing → ℕ
 first_unmet d = first_failing (met d.points d.curves) d.relations
+
+-- a place among n, or none
+abbrev pub below : ℕ → ℕ → Answer ℕ
+below n k = ite (ltb k n) (Some k) None

@@ -1,22 +1,19 @@
 // Edits: the input is a call and the rest of its answer. In order: the place of the first relation not met (2 bytes, 0 where
 // the number is neither 13 nor 19), operation and curve (4 each), the pick's patterns (8 each), the room that the caller lends,
 // the size of the image before the edit and the size of what is written (4 each); then that image, then what is written.
-ghost use Rattle.std.specs.Prelude.{◌≤◌, length};
-
 use crate::patterns::number;
-use crate::written::{PATTERN, holds_image, holds_just};
+use crate::written::{IMAGE_ROOM, PATTERN, holds_just};
 use big_endian::{get2, get4, get8};
-use edit_plan::{Edited, Removed};
+use edit_plan::Removed;
 use geom::Vec2;
-use sketch::Sketch;
+use message::Operation;
+use modify::Edited;
+use refusal::Refusal;
 
 const HEAD: usize = 38;
 
 // An accepted edit writes the removed curve with its two ends, and the image after them.
 const REPORT: usize = 12;
-
-// Room for the largest image, 21,135 bytes, and some more.
-const ROOM: usize = 21504;
 
 fn pick(input: &[u8]) -> Vec2 {
     Vec2 {
@@ -26,78 +23,58 @@ fn pick(input: &[u8]) -> Vec2 {
 }
 
 fn reports(removed: Removed, bytes: &[u8]) -> bool {
-    (removed.curve == get4(bytes, 0))
-        & (removed.from == get4(bytes, 4))
-        & (removed.to == get4(bytes, 8))
-}
-
-// Lends the front of a buffer.
-fn write_front(sk: Sketch, buf: &mut [u8], lent: usize) -> u8
-    requires { lent ≤ length buf.old }
-{
-    sketch_image::write(sk, &mut buf[..lent])
+    removed.curve == get4(bytes, 0)
+        && removed.from == get4(bytes, 4)
+        && removed.to == get4(bytes, 8)
 }
 
 // Whether an accepted edit writes some bytes into the room that is lent for them, or finds it too short.
-fn writes(outcome: u8, e: Edited, room: usize, bytes: &[u8]) -> bool {
-    if room < REPORT {
-        return (outcome == 25) & (bytes.len() == 0);
-    }
-    let lent = room - REPORT;
-    if ROOM < lent {
+fn writes(outcome: u8, edited: Edited, room: usize, bytes: &[u8]) -> bool {
+    let Some(lent) = room.checked_sub(REPORT) else {
+        return outcome == Refusal::ShortBuffer.number() && bytes.is_empty();
+    };
+    if IMAGE_ROOM < lent {
         return false;
     }
-    let sk = e.sketch;
-    let removed = e.removed;
-    let mut buf = [PATTERN; ROOM];
-    let refusal = write_front(sk, &mut buf, lent);
-    if refusal != outcome {
-        return false;
+    let mut buf = [PATTERN; IMAGE_ROOM];
+    match sketch_image::write(edited.sketch, &mut buf[..lent]) {
+        Ok(()) => match bytes.split_at_checked(REPORT) {
+            Some((report, image)) => {
+                outcome == 0 && reports(edited.removed, report) && holds_just(&buf, image)
+            }
+            None => false,
+        },
+        Err(refusal) => outcome == refusal.number() && holds_just(&buf, bytes),
     }
-    if outcome != 0 {
-        return holds_just(&buf, bytes);
-    }
-    if bytes.len() < REPORT {
-        return false;
-    }
-    reports(removed, bytes) & holds_just(&buf, &bytes[REPORT..])
 }
 
-// The answer to an operation that there is. A refusal leaves the sketch, and so its image.
-fn answers(outcome: u8, e: Edited, input: &[u8], end: usize) -> bool
-    requires { (38 ≤ end) × (end ≤ length input.now) }
-{
-    if e.refusal == 0 {
-        return writes(outcome, e, get4(input, 26) as usize, &input[end..]);
+// The answer to an operation that there is, on a sketch that was read.
+fn answers(outcome: u8, edit: Result<Edited, Refusal>, input: &[u8], bytes: &[u8]) -> bool {
+    match edit {
+        Ok(edited) => writes(outcome, edited, get4(input, 26) as usize, bytes),
+        Err(refusal) => {
+            outcome == refusal.number()
+                && refusal.place() == usize::from(get2(input, 0))
+                && bytes.is_empty()
+        }
     }
-    let sk = e.sketch;
-    (outcome == e.refusal)
-        & (e.place == get2(input, 0) as usize)
-        & (end == input.len())
-        & holds_image(sk, &input[HEAD..end])
 }
 
+// The place is compared only where an edit refuses, and not where the image or the operation is refused before.
 pub(crate) fn alike(outcome: u8, input: &[u8]) -> bool {
-    let size = get4(input, 30) as usize;
+    let end = HEAD + get4(input, 30) as usize;
     let written = get4(input, 34) as usize;
-    if input.len() != HEAD + size + written {
+    if input.len() != end + written {
         return false;
     }
-    let end = HEAD + size;
-    let read = sketch_image::read(&input[HEAD..end]);
-    if read.refusal != 0 {
-        return (outcome == read.refusal) & (written == 0);
-    }
-    let operation = get4(input, 2);
-    if !message::is_operation(operation) {
-        return (outcome == 6) & (written == 0);
-    }
-    let sk = read.sketch;
-    let e = modify::edit(
-        message::operation_of(operation),
-        sk,
-        get4(input, 6),
-        pick(input),
-    );
-    answers(outcome, e, input, end)
+    let sketch = match sketch_image::read(&input[HEAD..end]) {
+        Ok(sketch) => sketch,
+        Err(refusal) => return outcome == refusal.number() && written == 0,
+    };
+    let operation = match Operation::try_from(get4(input, 2)) {
+        Ok(operation) => operation,
+        Err(refusal) => return outcome == refusal.number() && written == 0,
+    };
+    let edit = modify::edit(operation, sketch, get4(input, 6), pick(input));
+    answers(outcome, edit, input, &input[end..])
 }

@@ -1,52 +1,47 @@
 // Lists of recorded answers. An entry is an outcome (a refusal's number, 0 for acceptance) in a byte, the length of the
 // input in four, and the input, whose form is its subject's.
-ghost use Rattle.std.specs.Prelude.{◌<◌, ◌≡◌, length};
-ghost use Rattle.replay.specs.Entries.{Lies};
+ghost use Rattle.std.specs.Prelude.{◌<◌, IfSome, length};
 
-use big_endian::{get1, get4};
+use big_endian::get4;
 
-// The bytes of an entry before its input.
-const HEAD: usize = 5;
+// The bytes of an input's length.
+const LENGTH_SIZE: usize = 4;
 
-// An entry's outcome, and where its input lies. One that runs past the list's end is not whole, and is the list's last.
+// An entry's outcome and its input. An entry that runs past the list's end has no input, and is the list's last.
 #[derive(Clone, Copy)]
-pub(crate) struct Entry {
+pub(crate) struct Entry<'a> {
     pub outcome: u8,
-    pub start: usize,
-    pub end: usize,
-    pub whole: bool,
+    pub input: Option<&'a [u8]>,
 }
 
-pub(crate) fn entry_at(list: &[u8], at: usize) -> Entry
-    requires { at < length list.now }
-    ensures { Lies at (length list.now) result }
+// The input at a list's front, and the list behind it.
+fn split_input(list: &[u8]) -> Option<(&[u8], &[u8])>
+    ensures { IfSome result (λ p. length p.1.now < length list.now) }
 {
-    let outcome = get1(list, at);
-    let n = list.len();
-    if n - at < HEAD {
-        return cut(outcome, n);
-    }
-    let start = at + HEAD;
-    let size = get4(list, at + 1) as usize;
-    if n - start < size {
-        return cut(outcome, n);
-    }
-    Entry {
-        outcome,
-        start,
-        end: start + size,
-        whole: true,
-    }
+    let (_, inputs) = list.split_at_checked(LENGTH_SIZE)?;
+    inputs.split_at_checked(get4(list, 0) as usize)
 }
 
-// The entry that a list of n bytes holds only the front of.
-fn cut(outcome: u8, n: usize) -> Entry
-    ensures { (result.start ≡ n) × (result.end ≡ n) }
+// The first entry of a list, and the list behind it.
+pub(crate) fn split_entry(list: &[u8]) -> Option<(Entry<'_>, &[u8])>
+    ensures { IfSome result (λ p. length p.1.now < length list.now) }
 {
-    Entry {
-        outcome,
-        start: n,
-        end: n,
-        whole: false,
+    let (outcome, rest) = list.split_first()?;
+    let outcome = *outcome;
+    match split_input(rest) {
+        Some((input, rest)) => Some((
+            Entry {
+                outcome,
+                input: Some(input),
+            },
+            rest,
+        )),
+        None => Some((
+            Entry {
+                outcome,
+                input: None,
+            },
+            &[],
+        )),
     }
 }

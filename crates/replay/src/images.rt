@@ -2,13 +2,8 @@
 use crate::written::holds_image;
 
 pub(crate) fn alike(outcome: u8, input: &[u8]) -> bool {
-    let answer = sketch_image::read(input);
-    if answer.refusal != outcome {
-        return false;
+    match sketch_image::read(input) {
+        Ok(sketch) => outcome == 0 && holds_image(sketch, input),
+        Err(refusal) => outcome == refusal.number(),
     }
-    if outcome != 0 {
-        return true;
-    }
-    let sketch = answer.sketch;
-    holds_image(sketch, input)
 }

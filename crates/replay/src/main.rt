@@ -24,33 +24,18 @@ use walk::Subject;
 const ROOM: usize = 655360;
 
 // Reads a list, replays it and writes what came of it.
-fn replay_file(
-    rt: &(impl Files + Print + AllocGlobal),
-    name: &str,
-    path: &str,
-    subject: Subject,
-) -> io::Result<()> {
-    let Ok(list) = fs::read(rt, path) else {
-        return report::unread(rt, name);
-    };
-    if ROOM < list.len() {
-        return report::unread(rt, name);
+fn replay_file(rt: &(impl Files + Print + AllocGlobal), subject: Subject) -> io::Result<()> {
+    match fs::read(rt, subject.path()) {
+        Ok(list) if list.len() <= ROOM => {
+            report::result(rt, subject.name(), &walk::replay(subject, &list))
+        }
+        _ => report::unread(rt, subject.name()),
     }
-    report::result(rt, name, walk::replay(subject, &list))
 }
 
 fn main(rt: HostRuntime) -> io::Result<()> {
-    replay_file(&rt, "images", "images.bin", Subject::Images)?;
-    replay_file(&rt, "messages", "messages.bin", Subject::Messages)?;
-    replay_file(&rt, "catch-ups", "catch_ups.bin", Subject::CatchUps)?;
-    replay_file(
-        &rt,
-        "square roots",
-        "square_roots.bin",
-        Subject::SquareRoots,
-    )?;
-    replay_file(&rt, "magnitudes", "magnitudes.bin", Subject::Magnitudes)?;
-    replay_file(&rt, "roots", "roots.bin", Subject::Roots)?;
-    replay_file(&rt, "edits", "edits.bin", Subject::Edits)?;
-    replay_file(&rt, "runs", "runs.bin", Subject::Runs)
+    for subject in Subject::ALL {
+        replay_file(&rt, subject)?;
+    }
+    Ok(())
 }

@@ -1,5 +1,5 @@
 // Floats by their patterns.
-ghost use Rattle.std.specs.Prelude.{◌≤◌, ◌≡◌, length};
+ghost use Rattle.std.specs.Prelude.{◌≡◌};
 ghost use Rattle.std.specs.Float.{binary64};
 ghost use Rattle.std.specs.Float.Ieee.{nan_bits};
 
@@ -22,25 +22,20 @@ pub(crate) fn number(pattern: u64) -> f64 {
     f64::from_bits(pattern)
 }
 
-// The n numbers whose patterns, of eight bytes each, stand from start on, at the front.
-pub(crate) fn numbers(input: &[u8], start: usize, n: usize) -> [f64; MOST_NUMBERS]
-    requires { (start ≤ 18) × (n ≤ 40) }
-    ensures { length result ≡ 40 }
-{
+// The numbers with some patterns, of eight bytes each, at the front.
+pub(crate) fn numbers(patterns: &[u8]) -> [f64; MOST_NUMBERS] {
     let mut c = [0.0; MOST_NUMBERS];
-    let mut i: usize = 0;
-    while i < n {
-        c[i] = number(get8(input, start + 8 * i));
-        i += 1;
+    for (x, pattern) in c.iter_mut().zip(patterns.chunks_exact(8)) {
+        *x = number(get8(pattern, 0));
     }
     c
 }
 
 // Whether a number has a pattern. A NaN has every NaN's.
 pub(crate) fn has_pattern(x: f64, pattern: u64) -> bool {
-    if x != x {
-        return is_nan(pattern);
+    if x.is_nan() {
+        is_nan(pattern)
+    } else {
+        x.to_bits() == pattern
     }
-    let bits = f64::to_bits(x);
-    bits == pattern
 }

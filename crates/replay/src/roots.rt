@@ -1,9 +1,6 @@
 // Roots of polynomials: the input is how many floats are lent and how many coefficients there are, in a byte each, the
 // budget and what is left of it, in eight bytes each, and the patterns of the coefficients and then of the roots.
-ghost use Rattle.std.specs.Prelude.{◌≤◌, ◌≡◌, length};
-
 use crate::patterns::{has_pattern, numbers};
-use bernstein::Roots;
 use big_endian::{get1, get8};
 
 const HEAD: usize = 18;
@@ -16,66 +13,37 @@ const MOST_COEFFICIENTS: usize = 20;
 // What the lent floats hold before the call, so that a change of those that it should leave is seen.
 const UNTOUCHED: f64 = 0.75;
 
-const UNTOUCHED_PATTERN: u64 = 0x3fe8_0000_0000_0000;
-
-fn untouched() -> [f64; MOST_LENT]
-    ensures { length result ≡ 40 }
-{
-    [UNTOUCHED; MOST_LENT]
-}
-
-// Whether the roots from a place on, so many of them, lie at the front of the lent floats, and the others are untouched.
-fn holds_just(lent: &[f64], input: &[u8], start: usize, count: usize) -> bool
-    requires { (start ≤ 1000) × (count ≤ 1000) × (length lent.now ≤ 40) }
-{
-    if input.len() != start + 8 * count {
+// Whether so many roots with some patterns lie at the front of the lent floats, and the others are untouched.
+fn holds_just(lent: &[f64; MOST_LENT], count: usize, patterns: &[u8]) -> bool {
+    let Some((roots, others)) = lent.split_at_checked(count) else {
         return false;
-    }
-    let mut i: usize = 0;
-    while i < lent.len() {
-        if !has_pattern(
-            lent[i],
-            pattern_or_untouched(input, start + 8 * i, i < count),
-        ) {
-            return false;
-        }
-        i += 1;
-    }
-    true
-}
-
-fn pattern_or_untouched(input: &[u8], at: usize, is_root: bool) -> u64 {
-    if is_root {
-        get8(input, at)
-    } else {
-        UNTOUCHED_PATTERN
-    }
+    };
+    patterns.len() == 8 * count
+        && roots
+            .iter()
+            .zip(patterns.chunks_exact(8))
+            .all(|(root, pattern)| has_pattern(*root, get8(pattern, 0)))
+        && others.iter().all(|x| *x == UNTOUCHED)
 }
 
 pub(crate) fn alike(outcome: u8, input: &[u8]) -> bool {
-    let lent = get1(input, 0) as usize;
-    let n = get1(input, 1) as usize;
-    if MOST_LENT < lent {
+    let lent = usize::from(get1(input, 0));
+    let n = usize::from(get1(input, 1));
+    let start = HEAD + 8 * n;
+    if MOST_LENT < lent || MOST_COEFFICIENTS < n || input.len() < start {
         return false;
     }
-    if MOST_COEFFICIENTS < n {
-        return false;
-    }
-    let c = numbers(input, HEAD, n);
-    let mut found = untouched();
+    let c = numbers(&input[HEAD..start]);
+    let patterns = &input[start..];
+    let mut found = [UNTOUCHED; MOST_LENT];
     let budget = get8(input, 2) as usize;
     let left = get8(input, 10) as usize;
-    let answer = bernstein::search::roots(&c[..n], &mut found[..lent], budget);
-    let start = HEAD + 8 * n;
-    let Roots::Found(count, rest) = answer else {
-        let Roots::Refused(number, rest) = answer else {
-            // This is never reached: what is not found is refused.
-            return false;
-        };
-        return (outcome == number) & (rest == left) & holds_just(&found, input, start, 0);
+    let roots = bernstein::search::roots(&c[..n], &mut found[..lent], budget);
+    let Ok(answer) = roots else {
+        let stopped = roots.unwrap_err();
+        return outcome == stopped.refusal.number()
+            && stopped.budget == left
+            && holds_just(&found, 0, patterns);
     };
-    if 28 < count {
-        return false;
-    }
-    (outcome == 0) & (rest == left) & holds_just(&found, input, start, count)
+    outcome == 0 && answer.budget == left && holds_just(&found, answer.count, patterns)
 }

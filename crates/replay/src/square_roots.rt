@@ -9,5 +9,5 @@ pub(crate) fn alike(outcome: u8, input: &[u8]) -> bool {
         return false;
     }
     let root = float::sqrt(number(get8(input, 0)));
-    (outcome == 0) & has_pattern(root, get8(input, 8))
+    outcome == 0 && has_pattern(root, get8(input, 8))
 }

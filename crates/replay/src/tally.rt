@@ -1,5 +1,5 @@
 // What came of a list's entries, counted.
-ghost use Rattle.std.specs.Prelude.{◌+◌, ◌≤◌, ◌<◌, ◌^◌, ◌≡◌};
+ghost use Rattle.std.specs.Prelude.{◌+◌, ◌<◌, ◌^◌, ◌≡◌};
 ghost use Rattle.replay.specs.Tally.{Kept};
 
 // Outcomes are 0 for acceptance and the numbers of the refusals, up to 28.
@@ -15,43 +15,33 @@ pub(crate) struct Tally {
     pub outcomes: [usize; OUTCOMES],
 }
 
-pub(crate) fn empty() -> Tally
-    ensures { Kept result × (result.entries ≡ 0) }
-{
-    let outcomes = [0usize; OUTCOMES];
-    Tally {
-        entries: 0,
-        alike: 0,
-        prefix: 0,
-        outcomes,
+impl Tally {
+    pub(crate) fn empty() -> Tally
+        ensures { Kept result × (result.entries ≡ 0) }
+    {
+        Tally {
+            entries: 0,
+            alike: 0,
+            prefix: 0,
+            outcomes: [0; OUTCOMES],
+        }
     }
-}
 
-fn raised(n: usize, by_one: bool) -> usize
-    requires { n + 1 < 2 ^ 64 }
-    ensures { (n ≤ result) × (result ≤ n + 1) }
-{
-    if by_one { n + 1 } else { n }
-}
-
-// One entry more. An outcome that is no refusal's number counts among the entries alone.
-pub(crate) fn counted(tally: Tally, outcome: u8, alike: bool) -> Tally
-    requires { Kept tally × (tally.entries + 1 < 2 ^ 64) }
-    ensures { Kept result × (result.entries ≡ tally.entries + 1) }
-{
-    let entries = tally.entries;
-    let all_alike = tally.prefix == entries;
-    let alike_now = raised(tally.alike, alike);
-    let prefix = raised(tally.prefix, alike & all_alike);
-    let place = outcome as usize;
-    let mut outcomes = tally.outcomes;
-    if place < OUTCOMES {
-        outcomes[place] += 1;
-    }
-    Tally {
-        entries: entries + 1,
-        alike: alike_now,
-        prefix,
-        outcomes,
+    // With one entry more. An outcome that is no refusal's number counts among the entries alone.
+    pub(crate) fn counting(self, outcome: u8, alike: bool) -> Tally
+        requires { Kept self × (self.entries + 1 < 2 ^ 64) }
+        ensures { Kept result × (result.entries ≡ self.entries + 1) }
+    {
+        let place = usize::from(outcome);
+        let mut outcomes = self.outcomes;
+        if place < OUTCOMES {
+            outcomes[place] += 1;
+        }
+        Tally {
+            entries: self.entries + 1,
+            alike: self.alike + usize::from(alike),
+            prefix: self.prefix + usize::from(alike && self.prefix == self.entries),
+            outcomes,
+        }
     }
 }

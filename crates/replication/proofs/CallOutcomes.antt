@@ -1,5 +1,5 @@
 -- The outcome of a call on an image, refused before the edit or by it or with a new image, for desk and wall alike. Assumes nothing.
-use mathlib.Core.Path.{◌≡◌, refl, sym, ap, ◌∙◌}
+use mathlib.Core.Path.{◌≡◌, refl, sym, ap, ◌∙◌, subst}
 use mathlib.Core.Bool.{Bool, true, false}
 use mathlib.Core.List.{List}
 use Prim.Native.Nat.{ℕ, zero, suc, ◌≤◌}
@@ -7,6 +7,10 @@ use native.Mathlib.Omega.{arith}
 use lib.ListN.{length}
 use lib.Dec.{leb, eqb}
 use borrow.Author.Tests.{eq-eqb, ne_eqb}
+use Rattle.refusal.specs.declared.Refusal.{Refusal}
+use Rattle.refusal.specs.declared.Refusal.TheVariants.{RelationsUnmet, RelationsBroken}
+use Rattle.refusal.specs.Refusals as R
+use Rattle.refusal.proofs.Numbers.{number_above_0}
 use Rattle.big_endian.specs.Fields.{over}
 use Rattle.sketch.specs.Lists.{ite, guard_number}
 use Rattle.sketch.specs.Drawing.{Drawing, limits}
@@ -15,9 +19,9 @@ use Rattle.image.specs.Encode.{encode, drawing_size}
 use Rattle.edit_plan.specs.declared.Removed.{Removed}
 use Rattle.edit_plan.specs.Outcome as O
 use Rattle.edit_plan.specs.Outcome.{guard}
-use Rattle.extend.specs.declared.EditedImage.{EditedImage}
+use Rattle.extend.specs.Answers.{ImageAnswer}
 use Rattle.extend.specs.ImageExtend.{if_fits, OutcomeWritten}
-use Rattle.extend.proofs.Places.{placeless_below, placeless_above, place_none}
+use Rattle.extend.proofs.Places.{Placeless, placeless_below, placeless_above, place_none}
 use Rattle.modify.specs.Edits.{edit_of}
 use Rattle.modify.specs.ImageEdits.{edit_image, EditWritten}
 use Rattle.modify.proofs.ImageFaults.{image_fault_low}
@@ -26,6 +30,17 @@ use Rattle.agreement.specs.Machines.{State}
 use Rattle.replication.specs.Protocol.{Edit, place}
 use Rattle.replication.specs.Outcomes.{CallOutcome, refused, updated, if_image_fits, on_image}
 use Rattle.replication.specs.Transitions.{first_fault}
+
+-- ---- refusals and their numbers
+
+pub nonzero : (x : Refusal) → R.number x ≡ 0 → ⊥
+nonzero x z = omega (arith, number_above_0 x)
+
+-- all but two come with no place
+pub placeless : (x : Refusal) → Placeless (R.number x) → R.place x ≡ 0
+placeless (RelationsUnmet k) h = absurd (h.not_13 refl)
+placeless (RelationsBroken k) h = absurd (h.not_19 refl)
+placeless r h = refl
 
 -- ---- the image's own number first
 
@@ -42,14 +57,17 @@ module _ (s : List ℕ) {n : ℕ} (k : ℕ) where
 pub first_of : (s : List ℕ) {image : List ℕ} (k : ℕ) {n : ℕ} → image ≡ s → n ≡ first_fault image k → n ≡ first_fault s k
 first_of s k e f = f ∙ ap (λ (t : List ℕ). first_fault t k) e
 
--- with nothing given it is the image's
-pub first_fault_own : (s : List ℕ) {n : ℕ} → n ≡ first_fault s 0 → n ≡ I.image_fault s
+-- an image's own number comes with no place
+pub placeless_own : (s : List ℕ) {n : ℕ} → n ≡ I.image_fault s → Placeless n
+placeless_own s e = placeless_below (omega (arith, e, image_fault_low s))
+
+pub placeless_first : (s : List ℕ) (k : ℕ) → Placeless k → (x : Refusal) → R.number x ≡ first_fault s k → R.place x ≡ 0
 unfolding guard_number
-first_fault_own s e = e ∙ go (I.image_fault s)
+placeless_first s k p x e = placeless x (go (I.image_fault s) (image_fault_low s) e)
   where
-    go : (k : ℕ) → guard_number (eqb k 0) k 0 ≡ k
-    go zero = refl
-    go (suc k) = rw (ne_eqb (suc k) 0 (λ z. omega arith))
+    go : (n : ℕ) → n ≤ 5 → {r : ℕ} → r ≡ guard_number (eqb n 0) n k → Placeless r
+    go zero h e = subst Placeless (sym e) p
+    go (suc n) h {r} e = let q : r ≡ suc n = e ∙ rw (ne_eqb (suc n) 0 (λ z. omega arith)) in placeless_below (omega arith)
 
 -- ---- refusals before the edit's own
 
@@ -99,7 +117,7 @@ on_image_lem s count f room n e g = go (I.image_fault s) (image_fault_low s)
     go zero h = g
     go (suc k) h = rw (above k) (ap (refused (suc k)) (place_none (I.drawing_of s) _ (placeless_below (omega arith))))
 
-module _ (s : List ℕ) (e : Edit) (b b' : List ℕ) (x : EditedImage) (w : EditWritten e.operation s e.curve e.at b b' x) (n : ℕ) (v : CallOutcome) where
+module _ (s : List ℕ) (e : Edit) (b b' : List ℕ) (x : ImageAnswer) (w : EditWritten e.operation s e.curve e.at b b' x) (n : ℕ) (v : CallOutcome) where
   abbrev made : O.Outcome Drawing Removed
   made = edit_image e.operation s e.curve e.at
 

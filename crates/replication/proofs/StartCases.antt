@@ -8,6 +8,10 @@ use lib.ListN.{length, take}
 use lib.Dec.{eqb, leb}
 use lib.Seq.{take_at}
 use borrow.Author.Tests.{le-leb, lt-leb, leb-true, ne_eqb}
+use Rattle.std.specs.Prelude.{Ok, Err}
+use Rattle.refusal.specs.declared.Refusal.{Refusal}
+use Rattle.refusal.specs.declared.Refusal.TheVariants.{ShortBuffer}
+use Rattle.refusal.specs.Refusals as R
 use Rattle.big_endian.specs.Fields.{over, over_if_fits}
 use Rattle.big_endian.specs.Laws.{Bytes, over_fits, length_over}
 use Rattle.sketch.specs.Lists.{guard_number}
@@ -18,13 +22,9 @@ use Rattle.image.specs.Image as I
 use Rattle.image.proofs.RoundTrips.{image_kept, valid}
 use Rattle.sketch_image.specs.SketchImage.{drawing_in}
 use Rattle.replication.specs.declared.Replica.{Replica}
-use Rattle.replication.specs.declared.Started.{Started}
-use Rattle.replication.specs.Transitions.{Memory, memory, image_in, StartsWith, no_replica, first_nonzero, start_fault, Starts, first_fault}
-use Rattle.replication.proofs.CallOutcomes.{first_fault_own}
+use Rattle.replication.specs.Transitions.{Memory, memory, image_in, StartsWith, Started, started_of, first_nonzero, start_fault, Starts}
+use Rattle.replication.proofs.CallOutcomes.{nonzero}
 use Rattle.replication.proofs.Steps.{Holding, ready_by}
-
-abbrev refused_start : ℕ → Started
-refused_start k = record { replica = no_replica; refusal = k }
 
 -- a good image is no larger than the largest
 pub good_size : (s : List ℕ) → I.image_fault s ≡ 0 → length s ≤ I.max_image_size
@@ -44,29 +44,31 @@ pub above_first : (n m : ℕ) → (m ≡ 0 → ⊥) → first_nonzero n m ≡ 0 
 above_first zero m h e = h e
 above_first (suc n) m h e = omega arith
 
+pub nonzero_own : (n m : ℕ) → (n ≡ 0 → ⊥) → n ≡ first_nonzero n m
+nonzero_own zero m h = absurd (h refl)
+nonzero_own (suc n) m h = refl
+
 module _ (image : List ℕ) (mark count : ℕ) (b : List ℕ) where
-  refusing : (k : ℕ) → k ≡ start_fault image (length b) → (k ≡ 0 → ⊥) → Starts image mark count b b (refused_start k)
-  refusing k e z = record { number = e; when_refused = λ y. (refl, refl); when_started = λ y. absurd (z y) }
+  refusing : (x : Refusal) → R.number x ≡ start_fault image (length b) → Starts image mark count b b (started_of (Err x))
+  refusing x e = record { number = e; when_refused = λ y. (refl, refl); when_started = λ y. absurd (nonzero x y) }
 
-  pub start_short : length b < I.max_image_size → {k : ℕ} → k ≡ first_fault image 25 → {r : Started} → r ≡ refused_start k → Starts image mark count b b r
-  unfolding guard_number
-  start_short h {k} e q =
-      let f : k ≡ start_fault image (length b) = e ∙ sym (nonzero_first (I.image_fault image) 25) ∙ sym (rw (lt-leb I.max_image_size (length b) h)) in
-      let g : k ≡ first_nonzero (I.image_fault image) 25 = e ∙ sym (nonzero_first (I.image_fault image) 25) in
-      rw q (refusing k f (λ z. above_first (I.image_fault image) 25 (λ y. omega arith) (sym g ∙ z)))
+  pub start_refused : (x : Refusal) → R.number x ≡ I.image_fault image → Starts image mark count b b (started_of (Err x))
+  start_refused x e = refusing x (e ∙ nonzero_own (I.image_fault image) _ (λ z. nonzero x (e ∙ z)))
 
-  module _ (room : I.max_image_size ≤ length b) {k : ℕ} (e : k ≡ first_fault image 0) where
-    fault_is : k ≡ start_fault image (length b)
+  module _ (good : 0 ≡ I.image_fault image) where
+    pub start_short : length b < I.max_image_size → Starts image mark count b b (started_of (Err ShortBuffer))
     unfolding guard_number
-    fault_is = e ∙ sym (nonzero_first (I.image_fault image) 0) ∙ sym (rw (le-leb I.max_image_size (length b) room))
+    start_short h = refusing ShortBuffer (sym (nonzero_second (I.image_fault image) _ (sym good) ∙ rw (lt-leb I.max_image_size (length b) h)))
 
-    pub start_refused : (k ≡ 0 → ⊥) → {r : Started} → r ≡ refused_start k → Starts image mark count b b r
-    start_refused z q = rw q (refusing k fault_is z)
-
-    pub start_done : k ≡ 0 → {b' : List ℕ} → b' ≡ over_if_fits b 0 image → Starts image mark count b b' (record { replica = record { size = length image; mark = mark; count = count }; refusal = 0 })
-    start_done z p =
-        let l = good_size image (sym (first_fault_own image e) ∙ z) in
-        record { number = sym z ∙ fault_is; when_refused = λ y. absurd (y refl); when_started = λ y. (p ∙ over_fits b 0 image (omega arith), refl) }
+    pub start_done : I.max_image_size ≤ length b → {b' : List ℕ} → b' ≡ over_if_fits b 0 image → Starts image mark count b b' (started_of (Ok (record { size = length image; mark = mark; count = count })))
+    unfolding guard_number
+    start_done room p =
+        let l = good_size image (sym good) in
+        record {
+          number = sym (nonzero_second (I.image_fault image) _ (sym good) ∙ rw (le-leb I.max_image_size (length b) room));
+          when_refused = λ y. absurd (y refl);
+          when_started = λ y. (p ∙ over_fits b 0 image (omega arith), refl);
+        }
 
 -- ---- a start that is not refused
 

@@ -27,7 +27,7 @@ use Rattle.edit_plan.proofs.Tables.{Holds}
 use Rattle.agreement.specs.Machines as M
 use Rattle.agreement.specs.Machines.{State, Call, call_outcome, state_after, DeskStepValid, WallStepValid, wall_transition}
 use Rattle.agreement.proofs.Reference.{Step, called}
-use Rattle.replication.specs.declared.DeskReply.{DeskReply}
+use Rattle.replication.specs.DeskReply.{DeskReply}
 use Rattle.replication.specs.Protocol.{Edit, place, message_for, protocol}
 use Rattle.replication.specs.Outcomes.{CallOutcome, refused, old, updated, if_image_fits, on_image, desk_outcome, desk_on, wall_outcome, wall_on, OutcomeSound, message_after}
 use Rattle.replication.specs.Transitions.{Memory, image_in, state_in, Ready, memory_after, DeskCall, desk_reply, desk_step, desk_reply_to, desk_call_outcome, DeskEdits, WallCall, wall_reply, wall_step, wall_reply_to, wall_call_outcome, WallDelivers}

@@ -1,57 +1,80 @@
 -- The ways out of a delivery.
 use mathlib.Core.Path.{◌≡◌, refl, sym, ap, ◌∙◌, subst}
-use mathlib.Core.Bool.{false, not, ◌&&◌}
+use mathlib.Core.Bool.{Bool, true, false, not, ◌&&◌}
 use mathlib.Core.List.{List}
 use Prim.Native.Nat.{ℕ, zero, suc, ◌+◌, ◌≤◌, ◌<◌}
 use native.Mathlib.Omega.{arith}
 use lib.ListN.{length}
 use lib.Ieee.{nan_bits, binary64}
 use borrow.Author.Tests.{le-leb, lt-leb, eq-eqb, ne_eqb}
+use Rattle.std.specs.Prelude.{Result, Ok, Err}
+use Rattle.refusal.specs.declared.Refusal.{Refusal}
+use Rattle.refusal.specs.Refusals as R
+use Rattle.refusal.specs.Refusals.{Accepted, Refused}
+use Rattle.sketch.specs.Lists.{guard_number}
 use Rattle.sketch.specs.Drawing.{Drawing, limits}
 use Rattle.image.specs.Image as I
 use Rattle.image.proofs.RoundTrips.{image_kept, size_back, result_none}
 use Rattle.message.specs.declared.Message.{Message}
-use Rattle.message.specs.declared.MessageRead.TheVariants.{Accepted, Refused}
 use Rattle.message.specs.Message.{message_fault, message_of, parse}
 use Rattle.message.proofs.MessageRoundTrips.{result_refused}
 use Rattle.edit_plan.specs.declared.Removed.{Removed}
 use Rattle.edit_plan.specs.Outcome as O
 use Rattle.edit_plan.specs.Outcome.{guard}
-use Rattle.extend.specs.declared.EditedImage.{EditedImage}
-use Rattle.extend.proofs.Places.{placeless_below, place_none}
+use Rattle.apply.specs.declared.Applied.{Applied}
+use Rattle.extend.specs.Answers.{answer_of}
+use Rattle.extend.proofs.Places.{Placeless, placeless_below, placeless_above, place_none}
 use Rattle.modify.specs.Edits.{edit_of}
 use Rattle.modify.specs.ImageEdits.{edit_image, EditWritten}
 use Rattle.agreement.specs.Machines as M
 use Rattle.agreement.specs.Machines.{State, message, wall_transition, wall_apply}
 use Rattle.replication.specs.declared.Replica.{Replica}
-use Rattle.replication.specs.declared.WallReply.TheVariants as Wall
+use Rattle.replication.specs.declared.Delivered.TheVariants as D
 use Rattle.replication.specs.declared.WallTransition.{WallTransition}
 use Rattle.replication.specs.Protocol.{edit, place, edit_in, decoded_of, protocol}
 use Rattle.replication.specs.Outcomes.{CallOutcome, refused, old, on_image, wall_outcome, wall_on, OutcomeSound}
 use Rattle.replication.specs.Transitions.{Memory, memory, image_in, first_fault, memory_after, wall_call, wall_call_outcome, wall_reply_to, WallDelivers}
-use Rattle.replication.specs.Clauses.{wall_refusing, OldAnswered, MessageApplied, DeliversMessage}
+use Rattle.replication.specs.Clauses.{wall_answer, wall_refusing, OldAnswered, MessageApplied, DeliversMessage}
 use Rattle.replication.proofs.Picks.{is_pick_lem, nan_refused}
-use Rattle.replication.proofs.CallOutcomes.{first_fault_own, first_some, on_fault, on_first, applied, on_image_lem, EditOutcome, edit_outcome}
+use Rattle.replication.proofs.CallOutcomes.{nonzero, placeless, placeless_own, placeless_first, on_fault, on_first, applied, on_image_lem, EditOutcome, edit_outcome}
 
 -- ---- an old message, at an image
 
-module _ (s : Replica) (image : List ℕ) {n : ℕ} (e : n ≡ first_fault image 0) where
-  pub old_refused : (n ≡ 0 → ⊥) → {r : WallTransition} → r ≡ wall_refusing s n 0 → OldAnswered s image r
-  old_refused z q =
-      let own = first_fault_own image e in
-      record { when_refused = λ h. q ∙ ap (λ (k : ℕ). wall_refusing s k 0) own; when_good = λ h. absurd (z (own ∙ h)) }
+module _ (s : Replica) (image : List ℕ) where
+  pub old_refused : (x : Refusal) → R.number x ≡ I.image_fault image → {r : WallTransition} → r ≡ wall_refusing s x → OldAnswered s image r
+  old_refused x e q = record { when_refused = λ h. (x, e, q); when_good = λ h. absurd (nonzero x (e ∙ h)) }
 
-  pub old_answered : n ≡ 0 → OldAnswered s image (record { replica = record { size = length image; mark = s.mark; count = s.count }; reply = Wall.Old })
-  old_answered z = record { when_refused = λ h. absurd (h (sym (first_fault_own image e) ∙ z)); when_good = λ h. refl }
+  pub old_answered : 0 ≡ I.image_fault image → OldAnswered s image (record { replica = record { size = length image; mark = s.mark; count = s.count }; reply = Ok D.Old })
+  old_answered z = record { when_refused = λ h. absurd (h (sym z)); when_good = λ h. refl }
 
 -- ---- the edit of a message
 
-module _ (s : Replica) (x : Message) (b b' : List ℕ) (t : EditedImage) (w : EditWritten x.operation (image_in (memory s b)) x.curve (edit_in x).at b b' t) where
-  pub message_declined : (t.refusal ≡ 0 → ⊥) → {r : WallTransition} → r ≡ wall_refusing s t.refusal t.place → MessageApplied s x b b' r
-  message_declined z q = record { edited = t; written = w; answer = q ∙ sym (rw (ne_eqb t.refusal 0 z)) }
+module _ (s : Replica) (x : Message) (b b' : List ℕ) where
+  pub message_declined : (k : Refusal) → EditWritten x.operation (image_in (memory s b)) x.curve (edit_in x).at b b' (answer_of (Err k)) → {r : WallTransition} → r ≡ wall_refusing s k → MessageApplied s x b b' r
+  message_declined k w q = record { edited = Err k; written = w; answer = q }
 
-  pub message_applied : t.refusal ≡ 0 → MessageApplied s x b b' (record { replica = record { size = t.size; mark = s.mark; count = x.number }; reply = Wall.Applied t.removed })
-  message_applied z = record { edited = t; written = w; answer = sym (rw (eq-eqb t.refusal 0 z)) }
+  pub message_applied : (t : Applied) → EditWritten x.operation (image_in (memory s b)) x.curve (edit_in x).at b b' (answer_of (Ok t)) → MessageApplied s x b b' (record { replica = record { size = t.size; mark = s.mark; count = x.number }; reply = Ok (D.Applied t.removed) })
+  message_applied t w = record { edited = Ok t; written = w; answer = refl }
+
+-- ---- a message that is not read
+
+-- what refuses it comes with no place
+guard_placeless : (b : Bool) (n rest : ℕ) → Placeless n → Placeless rest → Placeless (guard_number b n rest)
+unfolding guard_number
+guard_placeless true n rest p q = q
+guard_placeless false n rest p q = p
+
+fault_placeless : (mark : ℕ) (s : List ℕ) → Placeless (message_fault mark s)
+unfolding message_fault
+fault_placeless mark s =
+    guard_placeless _ 1 _ (placeless_below (omega arith))
+    (guard_placeless _ 2 _ (placeless_below (omega arith))
+    (guard_placeless _ 1 _ (placeless_below (omega arith))
+    (guard_placeless _ 28 _ (placeless_above (omega arith))
+    (guard_placeless _ 6 0 (placeless_below (omega arith)) (placeless_below (omega arith))))))
+
+message_placeless : (mark : ℕ) (s : List ℕ) (k : ℕ) → parse mark s ≡ Refused k → Placeless k
+message_placeless mark s k e = subst Placeless (sym (result_refused (message_fault mark s) (message_of s) k e).0) (fault_placeless mark s)
 
 -- ---- a delivery
 
@@ -66,25 +89,23 @@ module _ (s : Replica) (b : List ℕ) where
   found = record { drawing = I.drawing_of (image_in m); count = s.count }
 
   -- a refusal leaves all
-  refusing :
-      (bytes : List ℕ) (n place : ℕ) → wall_call_outcome m bytes ≡ refused n place → (n ≡ 0 → ⊥) → WallDelivers m (wall_call bytes b (wall_refusing s n place))
-  refusing bytes n place g z =
+  refusing : (bytes : List ℕ) (x : Refusal) → wall_call_outcome m bytes ≡ refused (R.number x) (R.place x) → WallDelivers m (wall_call bytes b (wall_refusing s x))
+  refusing bytes x g =
       record {
         reply_is = sym (ap wall_reply_to g);
         left_is = sym (ap (λ (v : CallOutcome). memory_after v m) g);
-        sound = subst OutcomeSound (sym g) z;
+        sound = subst OutcomeSound (sym g) (nonzero x);
       }
 
-  first : (bytes : List ℕ) (k : ℕ) → (k ≡ 0 → ⊥) → wall_on s.mark (length b) bytes found ≡ refused k 0 → {n : ℕ} → n ≡ first_fault (image_in m) k → {r : WallTransition} → r ≡ wall_refusing s n 0 → WallDelivers m (wall_call bytes b r)
-  first bytes k h g {n} f q =
+  first : (bytes : List ℕ) (k : ℕ) → Placeless k → wall_on s.mark (length b) bytes found ≡ refused k 0 → {x : Refusal} → R.number x ≡ first_fault (image_in m) k → {r : WallTransition} → r ≡ wall_refusing s x → WallDelivers m (wall_call bytes b r)
+  first bytes k p g {x} f q =
       subst (λ (r : WallTransition). WallDelivers m (wall_call bytes b r)) (sym q)
-      (refusing bytes n 0 (on_first (image_in m) s.count (wall_on s.mark (length b) bytes) k n f g) (first_some (image_in m) k n h f))
+      (refusing bytes x (on_first (image_in m) s.count (wall_on s.mark (length b) bytes) k (R.number x) f g ∙ ap (refused (R.number x)) (sym (placeless_first (image_in m) k p x f))))
 
-  pub wall_unread : (bytes : List ℕ) (k : ℕ) → parse s.mark bytes ≡ Refused k → {n : ℕ} → n ≡ first_fault (image_in m) k → {r : WallTransition} → r ≡ wall_refusing s n 0 → WallDelivers m (wall_call bytes b r)
+  pub wall_unread : (bytes : List ℕ) (k : ℕ) → parse s.mark bytes ≡ Refused k → {x : Refusal} → R.number x ≡ first_fault (image_in m) k → {r : WallTransition} → r ≡ wall_refusing s x → WallDelivers m (wall_call bytes b r)
   unfolding decoded_of
   wall_unread bytes k e =
-      let w = result_refused (message_fault s.mark bytes) (message_of bytes) k e in
-      first bytes k w.1
+      first bytes k (message_placeless s.mark bytes k e)
       (ap (λ (x : Moved). wall_outcome (length b) x.0 x.1) (ap (λ x. wall_transition (protocol s.mark) found (decoded_of x)) e))
 
   module _ (x : Message) where
@@ -112,15 +133,15 @@ module _ (s : Replica) (b : List ℕ) where
               sound = subst OutcomeSound (sym h) tt;
             })
         go (suc k) z =
-            let n = I.image_fault (image_in m) in
-            let above : n ≡ 0 → ⊥ = λ y. omega arith in
-            subst (λ (r : WallTransition). WallDelivers m (wall_call bytes b r)) (sym (w.when_refused above))
-            (refusing bytes n 0 (on_fault (image_in m) s.count (wall_on s.mark (length b) bytes) n refl above) above)
+            let (y, e, q) = w.when_refused (λ y. omega arith) in
+            let place_is : R.place y ≡ 0 = placeless y (placeless_own (image_in m) e) in
+            subst (λ (r : WallTransition). WallDelivers m (wall_call bytes b r)) (sym q)
+            (refusing bytes y (on_fault (image_in m) s.count (wall_on s.mark (length b) bytes) (R.number y) e (nonzero y) ∙ ap (refused (R.number y)) (sym place_is)))
 
     module _ (new : s.count < x.number) where
-      pub wall_ahead : (x.number ≡ s.count + 1 → ⊥) → {n : ℕ} → n ≡ first_fault (image_in m) 7 → {r : WallTransition} → r ≡ wall_refusing s n 0 → DeliversMessage m x b r
+      pub wall_ahead : (x.number ≡ s.count + 1 → ⊥) → {y : Refusal} → R.number y ≡ first_fault (image_in m) 7 → {r : WallTransition} → r ≡ wall_refusing s y → DeliversMessage m x b r
       wall_ahead h f q bytes is =
-          first bytes 7 (λ z. omega arith)
+          first bytes 7 (placeless_below (omega arith))
           (heard bytes is (found, M.wall_refused 7 0) (rw (lt-leb x.number s.count new, ne_eqb x.number (s.count + 1) h))) f q
 
       module _ (next : x.number ≡ s.count + 1) where
@@ -130,9 +151,9 @@ module _ (s : Replica) (b : List ℕ) where
             heard bytes is (wall_apply (protocol s.mark) found x.number (edit_in x) o)
             (rw (lt-leb x.number s.count new, eq-eqb x.number (s.count + 1) next) (ap (wall_apply (protocol s.mark) found x.number (edit_in x)) h))
 
-        pub wall_nan : (not (nan_bits binary64 x.x) && not (nan_bits binary64 x.y)) ≡ false → {n : ℕ} → n ≡ first_fault (image_in m) 9 → {r : WallTransition} → r ≡ wall_refusing s n 0 → DeliversMessage m x b r
+        pub wall_nan : (not (nan_bits binary64 x.x) && not (nan_bits binary64 x.y)) ≡ false → {y : Refusal} → R.number y ≡ first_fault (image_in m) 9 → {r : WallTransition} → r ≡ wall_refusing s y → DeliversMessage m x b r
         wall_nan h f q bytes is =
-            first bytes 9 (λ z. omega arith)
+            first bytes 9 (placeless_below (omega arith))
             (came bytes is (O.refused 9) (nan_refused (I.drawing_of (image_in m)) (edit_in x) x.x x.y refl h) ∙ ap (refused 9) (sym (place_none (I.drawing_of (image_in m)) _ (placeless_below (omega arith))))) f q
 
         applied_is : (o : O.Outcome Drawing Removed) → wall_outcome (length b) (wall_apply (protocol s.mark) found x.number (edit_in x) o).0 (wall_apply (protocol s.mark) found x.number (edit_in x) o).1 ≡ applied (length b) x.number (place (I.drawing_of (image_in m)) (edit_in x)) o
@@ -148,19 +169,16 @@ module _ (s : Replica) (b : List ℕ) where
             on_image_lem (image_in m) s.count (wall_on s.mark (length b) bytes) (length b) x.number (edit_in x)
             (came bytes is asked (rw (is_pick_lem x.x x.y)) ∙ applied_is asked)
 
-        module _ (b' : List ℕ) (t : EditedImage) (w : EditWritten x.operation (image_in m) x.curve (edit_in x).at b b' t) (bytes : List ℕ) (is : parse s.mark bytes ≡ Accepted x) where
-          ends : EditOutcome (image_in m) (edit_in x) b b' t w x.number (wall_call_outcome m bytes)
-          ends = edit_outcome (image_in m) (edit_in x) b b' t w x.number (wall_call_outcome m bytes) (outcome_is bytes is)
+        module _ (b' bytes : List ℕ) (is : parse s.mark bytes ≡ Accepted x) where
+          ends : (t : Result Applied Refusal) (w : EditWritten x.operation (image_in m) x.curve (edit_in x).at b b' (answer_of t)) → EditOutcome (image_in m) (edit_in x) b b' (answer_of t) w x.number (wall_call_outcome m bytes)
+          ends t w = edit_outcome (image_in m) (edit_in x) b b' (answer_of t) w x.number (wall_call_outcome m bytes) (outcome_is bytes is)
 
-          declined : (t.refusal ≡ 0 → ⊥) → WallDelivers m (wall_call bytes b' (wall_refusing s t.refusal t.place))
-          declined z =
-              let (g, same) = ends.when_refused z in
-              subst (λ (l : List ℕ). WallDelivers m (wall_call bytes l (wall_refusing s t.refusal t.place))) (sym same)
-              (refusing bytes t.refusal t.place g z)
-
-          done : t.refusal ≡ 0 → WallDelivers m (wall_call bytes b' (record { replica = record { size = t.size; mark = s.mark; count = x.number }; reply = Wall.Applied t.removed }))
-          done z =
-              let u = ends.when_done z in
+          answered : (t : Result Applied Refusal) → EditWritten x.operation (image_in m) x.curve (edit_in x).at b b' (answer_of t) → WallDelivers m (wall_call bytes b' (wall_answer s x t))
+          answered (Err k) w =
+              let (g, same) = (ends (Err k) w).when_refused (nonzero k) in
+              subst (λ (l : List ℕ). WallDelivers m (wall_call bytes l (wall_refusing s k))) (sym same) (refusing bytes k g)
+          answered (Ok t) w =
+              let u = (ends (Ok t) w).when_done refl in
               let g = u.outcome in
               record {
                 reply_is = sym (ap wall_reply_to g);
@@ -169,11 +187,4 @@ module _ (s : Replica) (b : List ℕ) where
               }
 
         pub wall_edited : (b' : List ℕ) (r : WallTransition) → MessageApplied s x b b' r → DeliversMessage m x b' r
-        wall_edited b' r a bytes is = go a.edited.refusal refl
-          where
-            go : (k : ℕ) → a.edited.refusal ≡ k → WallDelivers m (wall_call bytes b' r)
-            go zero z =
-                subst (λ (r : WallTransition). WallDelivers m (wall_call bytes b' r)) (sym (a.answer ∙ rw (eq-eqb a.edited.refusal 0 z))) (done b' a.edited a.written bytes is z)
-            go (suc k) z =
-                let above : a.edited.refusal ≡ 0 → ⊥ = λ y. omega arith in
-                subst (λ (r : WallTransition). WallDelivers m (wall_call bytes b' r)) (sym (a.answer ∙ rw (ne_eqb a.edited.refusal 0 above))) (declined b' a.edited a.written bytes is above)
+        wall_edited b' r a bytes is = subst (λ (r : WallTransition). WallDelivers m (wall_call bytes b' r)) (sym a.answer) (answered b' bytes is a.edited a.written)

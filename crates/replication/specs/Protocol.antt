@@ -2,12 +2,11 @@
 use Rattle.std.specs.Prelude.{ℕ, Bool, ◌&&◌}
 use Rattle.std.specs.Float.Ieee.{of_bits, to_bits, fits}
 use Rattle.std.specs.Float.{binary64}
+use Rattle.refusal.specs.Refusals.{Numbered, Accepted, Refused}
 use Rattle.geom.specs.declared.Vec2.{Vec2}
 use Rattle.sketch.specs.Drawing.{Drawing, limits}
 use Rattle.message.specs.declared.Operation.{Operation}
 use Rattle.message.specs.declared.Message.{Message}
-use Rattle.message.specs.declared.MessageRead.{MessageRead}
-use Rattle.message.specs.declared.MessageRead.TheVariants.{Accepted, Refused}
 use Rattle.message.specs.Message.{message_size, parse, encode}
 use Rattle.edit_plan.specs.declared.Removed.{Removed}
 use Rattle.edit_plan.specs.Outcome.{Outcome, guard}
@@ -39,7 +38,7 @@ message_for n e = record { number = n; operation = e.operation; curve = e.curve;
 abbrev pub edit_in : Message → Edit
 edit_in m = record { operation = m.operation; curve = m.curve; at = record { x = of_bits binary64 m.x; y = of_bits binary64 m.y } }
 
-unfoldable pub decoded_of : MessageRead → Decoded Edit
+unfoldable pub decoded_of : Numbered Message → Decoded Edit
 decoded_of (Accepted m) = message m.number (edit_in m)
 decoded_of (Refused k) = invalid k
 

@@ -1,7 +1,9 @@
 -- The contracts of desk and wall: each call is told by its outcome on the memory that it found, and is so a step of the machines of `agreement`.
 -- Definitions only.
-use Rattle.std.specs.Prelude.{ℕ, zero, suc, ◌≤◌, ◌≡◌, ◌⊎◌, length, take, eqb, leb, Float}
+use Rattle.std.specs.Prelude.{ℕ, zero, suc, ◌≤◌, ◌≡◌, ◌⊎◌, length, take, eqb, leb, Float, Result, Ok, Err}
 use mathlib.Core.List.{List, [], ◌∷◌, ◌++◌, map, Memᴰ}
+use Rattle.refusal.specs.declared.Refusal.{Refusal}
+use Rattle.refusal.specs.Refusals.{number}
 use Rattle.big_endian.specs.Fields.{over}
 use Rattle.sketch.specs.Lists.{guard_number}
 use Rattle.sketch.specs.Drawing.{Drawing, limits}
@@ -16,13 +18,12 @@ use Rattle.edit_plan.specs.Steps.{nothing}
 use Rattle.agreement.specs.Machines as M
 use Rattle.agreement.specs.Machines.{State, DeskStep, messages, WallStep, Unread, WallEvent, started, delivered}
 use Rattle.replication.specs.declared.Replica.{Replica}
-use Rattle.replication.specs.declared.Started.{Started}
-use Rattle.replication.specs.declared.DeskReply.{DeskReply}
-use Rattle.replication.specs.declared.DeskReply.TheVariants as Desk
 use Rattle.replication.specs.declared.DeskTransition.{DeskTransition}
-use Rattle.replication.specs.declared.WallReply.{WallReply}
-use Rattle.replication.specs.declared.WallReply.TheVariants as Wall
 use Rattle.replication.specs.declared.WallTransition.{WallTransition}
+use Rattle.replication.specs.DeskReply.{DeskReply, desk_reply_of}
+use Rattle.replication.specs.DeskReply as Desk
+use Rattle.replication.specs.WallReply.{WallReply, wall_reply_of}
+use Rattle.replication.specs.WallReply as Wall
 use Rattle.replication.specs.Protocol.{Edit, protocol}
 use Rattle.replication.specs.Outcomes.{CallOutcome, refused, old, updated, on_image, desk_on, wall_on, OutcomeSound, message_after, window_after}
 
@@ -73,6 +74,15 @@ start_fault image room = first_nonzero (I.image_fault image) (guard_number (leb 
 abbrev pub no_replica : Replica
 no_replica = record { size = 0; mark = 0; count = 0 }
 
+-- what desk and wall start with: a replica, or the number that the image or the buffer is refused by
+pub record Started : Type 0 where
+  pub replica : Replica
+  pub refusal : ℕ
+
+abbrev pub started_of : Result Replica Refusal → Started
+started_of (Ok r) = record { replica = r; refusal = 0 }
+started_of (Err e) = record { replica = no_replica; refusal = number e }
+
 pub record Starts (image : List ℕ) (mark count : ℕ) (before after : List ℕ) (r : Started) : Type 0 where
   pub number : r.refusal ≡ start_fault image (length before)
   pub when_refused : (r.refusal ≡ 0 → ⊥) → (after ≡ before) × (r.replica ≡ no_replica)
@@ -103,7 +113,7 @@ pub record DeskCall : Type 0 where
 
 abbrev pub desk_call : Operation → ℕ → Float → Float → List ℕ → List ℕ → List ℕ → DeskTransition → DeskCall
 desk_call op t x y b a buffer r =
-    record { edit = record { operation = op; curve = t; at = record { x = x; y = y } }; before = b; after = a; left = memory r.replica buffer; window = r.window.bytes; reply = r.reply }
+    record { edit = record { operation = op; curve = t; at = record { x = x; y = y } }; before = b; after = a; left = memory r.replica buffer; window = r.window.bytes; reply = desk_reply_of r.reply }
 
 abbrev pub desk_reply : DeskReply → List ℕ → M.DeskReply Removed
 desk_reply (Desk.Refused k place) m = M.desk_refused k place
@@ -156,7 +166,7 @@ pub record WallCall : Type 0 where
   pub reply : WallReply
 
 abbrev pub wall_call : List ℕ → List ℕ → WallTransition → WallCall
-wall_call bytes buffer r = record { bytes = bytes; left = memory r.replica buffer; reply = r.reply }
+wall_call bytes buffer r = record { bytes = bytes; left = memory r.replica buffer; reply = wall_reply_of r.reply }
 
 abbrev pub wall_reply : WallReply → M.WallReply Removed
 wall_reply (Wall.Refused k place) = M.wall_refused k place

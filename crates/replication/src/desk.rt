@@ -4,21 +4,21 @@ ghost use Rattle.replication.specs.Transitions.{memory, DeskEdits, desk_call};
 ghost use Rattle.replication.specs.Clauses.{desk_refusing};
 
 use crate::refusals::first_fault;
-use crate::{DeskReply, DeskTransition, Replica};
+use crate::{DeskTransition, Replica};
 use geom::Vec2;
 use message::{MAX_EDIT_NUMBER, MESSAGE_SIZE, Message, Operation};
+use refusal::Refusal;
 use rows::front;
 use sketch::Id;
 use window::Window;
 
-fn refuse(replica: Replica, window: Window, number: u8, place: usize) -> DeskTransition
-    ensures { result ≡ desk_refusing replica window number place }
+fn refuse(replica: Replica, window: Window, refusal: Refusal) -> DeskTransition
+    ensures { result ≡ desk_refusing replica window refusal }
 {
-    let reply = DeskReply::Refused(number, place);
     DeskTransition {
         replica,
         window,
-        reply,
+        reply: Err(refusal),
     }
 }
 
@@ -37,25 +37,18 @@ pub fn desk_edit<'a>(
     ensures { DeskEdits (memory replica buffer.old) window.bytes (desk_call operation curve x y message.old message.new buffer.new result) }
 {
     if message.len() < MESSAGE_SIZE {
-        return refuse(
-            replica,
-            window,
-            first_fault(front(&buffer[..], replica.size), 25),
-            0,
-        );
+        let image = front(&buffer[..], replica.size);
+        return refuse(replica, window, first_fault(image, Refusal::ShortBuffer));
     }
     if MAX_EDIT_NUMBER <= replica.count {
-        return refuse(
-            replica,
-            window,
-            first_fault(front(&buffer[..], replica.size), 23),
-            0,
-        );
+        let image = front(&buffer[..], replica.size);
+        return refuse(replica, window, first_fault(image, Refusal::IdsSpent));
     }
-    let e = modify::edit_in_place(operation, buffer, replica.size, curve, Vec2 { x, y });
-    if e.refusal != 0 {
-        return refuse(replica, window, e.refusal, e.place);
-    }
+    let at = Vec2 { x, y };
+    let edited = match modify::edit_in_place(operation, buffer, replica.size, curve, at) {
+        Ok(edited) => edited,
+        Err(refusal) => return refuse(replica, window, refusal),
+    };
     let number = replica.count + 1;
     let sent = Message {
         number,
@@ -64,17 +57,15 @@ pub fn desk_edit<'a>(
         x: f64::to_bits(x),
         y: f64::to_bits(y),
     };
-    message::write_message(sent, replica.mark, message);
+    message::write_message(sent, replica.mark, message).unwrap();
     let kept = window.slide(number, &message[..]);
-    let removed = e.removed;
-    let after = Replica {
-        size: e.size,
-        mark: replica.mark,
-        count: number,
-    };
     DeskTransition {
-        replica: after,
+        replica: Replica {
+            size: edited.size,
+            mark: replica.mark,
+            count: number,
+        },
         window: kept,
-        reply: DeskReply::Accepted(removed),
+        reply: Ok(edited.removed),
     }
 }

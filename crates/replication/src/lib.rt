@@ -11,7 +11,8 @@ mod wall;
 pub use desk::desk_edit;
 use edit_plan::Removed;
 use message::{EditNumber, Mark};
-pub use refusals::first_fault;
+use refusal::Refusal;
+pub use refusals::{first_fault, test_image};
 pub use starting::start;
 pub use wall::{is_number, wall_deliver};
 use window::Window;
@@ -25,38 +26,24 @@ pub struct Replica {
     pub count: EditNumber,
 }
 
-// What desk and wall start with: a replica, or the number that the image or the buffer is refused by.
-#[derive(Clone, Copy)]
-pub struct Started {
-    pub replica: Replica,
-    pub refusal: u8,
-}
-
-// The desk's reply: refused by a number, with the place of a relation where 13 or 19 come with one, else 0; or accepted with the report.
-#[derive(Clone, Copy)]
-pub enum DeskReply {
-    Refused(u8, usize),
-    Accepted(Removed),
-}
-
-// What a call leaves of the desk, and its reply.
+// What a call leaves of the desk, and its reply: the report of the edit.
 #[derive(Clone, Copy)]
 pub struct DeskTransition {
     pub replica: Replica,
     pub window: Window,
-    pub reply: DeskReply,
+    pub reply: Result<Removed, Refusal>,
 }
 
-// The wall's reply: refused as at the desk, old (the glossary's term: a number at or below the count), or applied with the report.
+// What became of a message: it is old (the glossary's term: its number is at or below the count), or was applied, with the report.
 #[derive(Clone, Copy)]
-pub enum WallReply {
-    Refused(u8, usize),
+pub enum Delivered {
     Old,
     Applied(Removed),
 }
 
+// What a delivery leaves of the wall, and its reply.
 #[derive(Clone, Copy)]
 pub struct WallTransition {
     pub replica: Replica,
-    pub reply: WallReply,
+    pub reply: Result<Delivered, Refusal>,
 }

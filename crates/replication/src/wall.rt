@@ -5,10 +5,11 @@ ghost use Rattle.std.specs.Float.Ieee.{nan_bits};
 ghost use Rattle.replication.specs.Transitions.{memory, WallDelivers, wall_call};
 ghost use Rattle.replication.specs.Clauses.{wall_refusing, OldAnswered, MessageApplied, DeliversMessage};
 
-use crate::refusals::first_fault;
-use crate::{Replica, WallReply, WallTransition};
+use crate::refusals::{first_fault, test_image};
+use crate::{Delivered, Replica, WallTransition};
 use geom::Vec2;
-use message::{Message, MessageRead};
+use message::Message;
+use refusal::Refusal;
 use rows::front;
 
 // Whether bits are no NaN's: only such may become a float.
@@ -18,29 +19,29 @@ pub fn is_number(bits: u64) -> bool
     bits % 0x8000_0000_0000_0000 <= 0x7ff0_0000_0000_0000
 }
 
-fn refuse(replica: Replica, number: u8, place: usize) -> WallTransition
-    ensures { result ≡ wall_refusing replica number place }
+fn refuse(replica: Replica, refusal: Refusal) -> WallTransition
+    ensures { result ≡ wall_refusing replica refusal }
 {
-    let reply = WallReply::Refused(number, place);
-    WallTransition { replica, reply }
+    WallTransition {
+        replica,
+        reply: Err(refusal),
+    }
 }
 
 // An old message changes nothing, where the image is good.
 fn answer_old(replica: Replica, image: &[u8]) -> WallTransition
     ensures { OldAnswered replica image.now result }
 {
-    let fault = first_fault(image, 0);
-    if fault != 0 {
-        return refuse(replica, fault, 0);
+    if let Err(refusal) = test_image(image) {
+        return refuse(replica, refusal);
     }
-    let found = Replica {
-        size: image.len(),
-        mark: replica.mark,
-        count: replica.count,
-    };
     WallTransition {
-        replica: found,
-        reply: WallReply::Old,
+        replica: Replica {
+            size: image.len(),
+            mark: replica.mark,
+            count: replica.count,
+        },
+        reply: Ok(Delivered::Old),
     }
 }
 
@@ -49,28 +50,26 @@ fn apply_message(replica: Replica, buffer: &mut [u8], m: Message) -> WallTransit
     requires { (nan_bits binary64 m.x ≡ false) × (nan_bits binary64 m.y ≡ false) }
     ensures { MessageApplied replica m buffer.old buffer.new result }
 {
-    let operation = m.operation;
     let at = Vec2 {
         x: f64::from_bits(m.x),
         y: f64::from_bits(m.y),
     };
-    let e = modify::edit_in_place(operation, buffer, replica.size, m.curve, at);
-    if e.refusal != 0 {
-        return refuse(replica, e.refusal, e.place);
-    }
-    let removed = e.removed;
-    let after = Replica {
-        size: e.size,
-        mark: replica.mark,
-        count: m.number,
-    };
-    WallTransition {
-        replica: after,
-        reply: WallReply::Applied(removed),
+    match modify::edit_in_place(m.operation, buffer, replica.size, m.curve, at) {
+        Err(refusal) => refuse(replica, refusal),
+        Ok(edited) => {
+            WallTransition {
+                replica: Replica {
+                    size: edited.size,
+                    mark: replica.mark,
+                    count: m.number,
+                },
+                reply: Ok(Delivered::Applied(edited.removed)),
+            }
+        }
     }
 }
 
-// A message at or below the count is old; the next one's edit is made; one beyond it is ahead (7).
+// A message at or below the count is old; the next one's edit is made; one beyond it is ahead.
 fn deliver_message(replica: Replica, buffer: &mut [u8], m: Message) -> WallTransition
     ensures { DeliversMessage (memory replica buffer.old) m buffer.new result }
 {
@@ -78,27 +77,26 @@ fn deliver_message(replica: Replica, buffer: &mut [u8], m: Message) -> WallTrans
         return answer_old(replica, front(&buffer[..], replica.size));
     }
     if m.number - replica.count != 1 {
-        return refuse(replica, first_fault(front(&buffer[..], replica.size), 7), 0);
+        let image = front(&buffer[..], replica.size);
+        return refuse(replica, first_fault(image, Refusal::Ahead));
     }
-    if !(is_number(m.x) & is_number(m.y)) {
-        return refuse(replica, first_fault(front(&buffer[..], replica.size), 9), 0);
+    if !is_number(m.x) || !is_number(m.y) {
+        let image = front(&buffer[..], replica.size);
+        return refuse(replica, first_fault(image, Refusal::BadPick));
     }
     apply_message(replica, buffer, m)
 }
 
 // Takes a message as it came, to the replica whose image stands at the front of `buffer`: makes its edit and counts it, finds it old, or refuses
-// it, by 28 where its mark is not the replica's, and leaves replica and buffer.
+// it, a foreign one where its mark is not the replica's, and leaves replica and buffer.
 pub fn wall_deliver(replica: Replica, buffer: &mut [u8], bytes: &[u8]) -> WallTransition
     ensures { WallDelivers (memory replica buffer.old) (wall_call bytes.now buffer.new result) }
 {
     match message::read_message(bytes, replica.mark) {
-        MessageRead::Refused(number) => {
-            refuse(
-                replica,
-                first_fault(front(&buffer[..], replica.size), number),
-                0,
-            )
+        Err(refusal) => {
+            let image = front(&buffer[..], replica.size);
+            refuse(replica, first_fault(image, refusal))
         }
-        MessageRead::Accepted(m) => deliver_message(replica, buffer, m),
+        Ok(m) => deliver_message(replica, buffer, m),
     }
 }

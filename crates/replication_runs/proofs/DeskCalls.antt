@@ -18,7 +18,7 @@ use Rattle.message.proofs.MessageRoundTrips.{length_message}
 use Rattle.window.specs.Window.{empty_window}
 use Rattle.window.specs.KeptMessages.{concat, Numbered, KeepsLast}
 use Rattle.window.proofs.KeptMessages.{numbered_none, keeps_none}
-use Rattle.cuts.specs.Columns.{rows}
+use Rattle.cuts.specs.Lists.{rows}
 use Rattle.edit_plan.specs.declared.Removed.{Removed}
 use Rattle.edit_plan.specs.Outcome.{accepted}
 use Rattle.edit_plan.proofs.Tables.{Holds}
@@ -26,7 +26,7 @@ use Rattle.modify.proofs.Planned.{guard_accepted}
 use Rattle.agreement.specs.Machines.{State, initial, message, Call, call_outcome, DeskStep, DeskStepValid, DeskRun, desk_after, prepend_message, messages}
 use Rattle.agreement.proofs.Reference.{Step, called}
 use Rattle.agreement.proofs.Runs.{messages_join}
-use Rattle.replication.specs.declared.DeskReply.{DeskReply}
+use Rattle.replication.specs.DeskReply.{DeskReply}
 use Rattle.replication.specs.Protocol.{Edit, message_for, protocol}
 use Rattle.replication.specs.Outcomes.{CallOutcome, updated, message_after}
 use Rattle.replication.specs.Transitions.{Memory, state_in, memory_after, DeskCall, desk_reply, desk_step, desk_reply_to, DeskEdits}

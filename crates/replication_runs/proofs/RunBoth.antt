@@ -7,6 +7,9 @@ use native.Mathlib.Omega.{arith}
 use lib.ListN.{length, take}
 use lib.Dec.{leb}
 use borrow.Author.Tests.{le-leb, lt-leb, leb-true}
+use Rattle.std.specs.Prelude.{Err}
+use Rattle.refusal.specs.declared.Refusal.{Refusal}
+use Rattle.refusal.specs.Refusals as R
 use Rattle.big_endian.specs.Laws.{Bytes}
 use Rattle.sketch.specs.Lists.{guard_number}
 use Rattle.sketch.specs.Drawing.{Drawing}
@@ -19,26 +22,19 @@ use Rattle.window.specs.declared.Window.{Window}
 use Rattle.window.specs.Window.{empty_window}
 use Rattle.window.proofs.KeptMessages.{catch_up_of}
 use Rattle.agreement.specs.Machines.{State, initial}
-use Rattle.replication.specs.declared.Started.{Started}
-use Rattle.replication.specs.Transitions.{memory, state_in, first_nonzero, Starts, first_fault}
+use Rattle.replication.specs.Transitions.{memory, state_in, first_nonzero, Started, Starts, first_fault}
+use Rattle.replication.proofs.CallOutcomes.{nonzero}
 use Rattle.replication.proofs.Steps.{Holding}
-use Rattle.replication.proofs.StartCases.{nonzero_first, nonzero_second, above_first, starts_with, held_at_start}
+use Rattle.replication.proofs.StartCases.{nonzero_first, nonzero_second, starts_with, held_at_start}
 use Rattle.replication.proofs.Demand3.{demand_3}
 use Rattle.replication_runs.specs.declared.Run.{Run}
-use Rattle.replication_runs.specs.declared.RunResult.{RunResult}
-use Rattle.replication_runs.specs.RunBoth.{calls_in, has_room, holds_any, run_both_fault, RunsBoth, call_size, max_room}
-use Rattle.replication_runs.specs.Clauses.{DeskRan, Ran, NotRun}
+use Rattle.replication_runs.specs.RunBoth.{calls_in, has_room, holds_any, run_both_fault, answer_of, RunsBoth, call_size, max_room}
+use Rattle.replication_runs.specs.Clauses.{DeskRan, Ran}
 use Rattle.replication_runs.proofs.WallInputs.{wall_ran_none}
 use Rattle.replication_runs.proofs.DeskCalls.{desk_ran_none}
 use Rattle.replication_runs.proofs.RunOrder.{fed_is, log_after}
 
 -- ---- room
-
-pub room_short : (size room : ℕ) → room < max_room → false ≡ has_room size room
-room_short size room h = rw (lt-leb max_room room h)
-
-pub room_enough : (size room : ℕ) → max_room ≤ room → leb (size / call_size) ((room - max_room) / message_size) ≡ has_room size room
-room_enough size room h = rw (le-leb max_room room h)
 
 room_is : (size room : ℕ) → has_room size room ≡ true → message_size * (size / call_size) + max_room ≤ room
 room_is size room e = go (leb max_room room) refl (leb (size / call_size) ((room - max_room) / message_size)) refl e
@@ -50,29 +46,33 @@ room_is size room e = go (leb max_room room) refl (leb (size / call_size) ((room
 
 -- ---- the ways out
 
+last_false : (a : Bool) → (a && false) ≡ false
+last_false true = refl
+last_false false = refl
+
 module _ (image : List ℕ) (mark : ℕ) (entries order others before desk wall : List ℕ) where
   abbrev has_all : Bool
   has_all = has_room (length entries) (length before) && (holds_any (length desk) && holds_any (length wall))
 
-  -- the code tests the three rooms in this order
-  pub rooms_of : {a t : Bool} → a ≡ has_room (length entries) (length before) → (a && holds_any (length desk) && holds_any (length wall)) ≡ t → has_all ≡ t
-  rooms_of e h =
-      and_assoc (has_room (length entries) (length before)) (holds_any (length desk)) (holds_any (length wall)) ∙ sym (ap (λ (x : Bool). x && holds_any (length desk) && holds_any (length wall)) e) ∙ h
-    where
-      and_assoc : (x y z : Bool) → (x && (y && z)) ≡ (x && y && z)
-      and_assoc true y z = refl
-      and_assoc false y z = refl
+  -- one of the three is too short, or none
+  pub short_log : has_room (length entries) (length before) ≡ false → has_all ≡ false
+  short_log h = rw h
 
-  refusing :
-      (k : ℕ) → k ≡ run_both_fault image (length entries) (length before) (length desk) (length wall) → (k ≡ 0 → ⊥) → {r : RunResult} → NotRun k r
-      → RunsBoth image mark entries order others before before desk desk wall wall r
-  refusing k e z n = record { number = n.number ∙ e; kept = λ y. (refl, refl, refl, n.no_desk, n.no_wall, n.no_messages); held = λ y. absurd (z (sym n.number ∙ y)) }
+  pub short_desk : length desk < I.max_image_size → has_all ≡ false
+  short_desk h = rw (lt-leb I.max_image_size (length desk) h) (last_false (has_room (length entries) (length before)))
 
-  pub run_short : has_all ≡ false → {k : ℕ} → k ≡ first_fault image 25 → {r : RunResult} → NotRun k r → RunsBoth image mark entries order others before before desk desk wall wall r
+  pub short_wall : length wall < I.max_image_size → has_all ≡ false
+  short_wall h = rw (lt-leb I.max_image_size (length wall) h, last_false (holds_any (length desk))) (last_false (has_room (length entries) (length before)))
+
+  pub has_enough : has_room (length entries) (length before) ≡ true → I.max_image_size ≤ length desk → I.max_image_size ≤ length wall → has_all ≡ true
+  has_enough h d w = rw (h, le-leb I.max_image_size (length desk) d, le-leb I.max_image_size (length wall) w)
+
+  refusing : (x : Refusal) → R.number x ≡ run_both_fault image (length entries) (length before) (length desk) (length wall) → RunsBoth image mark entries order others before before desk desk wall wall (answer_of (Err x))
+  refusing x e = record { number = e; kept = λ y. (refl, refl, refl, refl, refl, refl); held = λ y. absurd (nonzero x y) }
+
+  pub run_short : has_all ≡ false → (x : Refusal) → R.number x ≡ first_fault image 25 → RunsBoth image mark entries order others before before desk desk wall wall (answer_of (Err x))
   unfolding guard_number
-  run_short h {k} e n =
-      let f : k ≡ first_nonzero (I.image_fault image) 25 = e ∙ sym (nonzero_first (I.image_fault image) 25) in
-      refusing k (f ∙ sym (rw h)) (λ z. above_first (I.image_fault image) 25 (λ y. omega arith) (sym f ∙ z)) n
+  run_short h x e = refusing x (e ∙ sym (nonzero_first (I.image_fault image) 25) ∙ sym (rw h))
 
   module _ (enough : has_all ≡ true) (d : Started) (desk₀ : List ℕ) (sd : Starts image mark 0 desk desk₀ d) where
     rooms : (holds_any (length desk) ≡ true) × (holds_any (length wall) ≡ true)
@@ -93,14 +93,16 @@ module _ (image : List ℕ) (mark : ℕ) (entries order others before desk wall 
     unfolding guard_number
     number_is = sd.number ∙ ap (λ (b : Bool). first_nonzero (I.image_fault image) (guard_number b 25 0)) (rooms.0 ∙ sym enough)
 
-    pub run_refused : (d.refusal ≡ 0 → ⊥) → {r : RunResult} → NotRun d.refusal r → RunsBoth image mark entries order others before before desk desk₀ wall wall r
-    run_refused z {r} n = subst (λ (l : List ℕ). RunsBoth image mark entries order others before before desk l wall wall r) (sym (sd.when_refused z).0) (refusing d.refusal number_is z n)
+    pub run_refused : (x : Refusal) → d.refusal ≡ R.number x → RunsBoth image mark entries order others before before desk desk₀ wall wall (answer_of (Err x))
+    run_refused x e =
+        subst (λ (l : List ℕ). RunsBoth image mark entries order others before before desk l wall wall (answer_of (Err x))) (sym (sd.when_refused (λ z. nonzero x (sym e ∙ z))).0)
+        (refusing x (sym e ∙ number_is))
 
     module _ (z : d.refusal ≡ 0) (are : Bytes image) (k : Mark mark) (w : Started) (wall₀ : List ℕ) (sw : Starts image mark 0 wall wall₀ w) where
       abbrev start : Drawing
       start = I.drawing_of image
 
-      wall_started : w.refusal ≡ 0
+      pub wall_started : w.refusal ≡ 0
       unfolding guard_number
       wall_started = sw.number ∙ ap (λ (b : Bool). first_nonzero (I.image_fault image) (guard_number b 25 0)) rooms.1 ∙ nonzero_second (I.image_fault image) 0 (sym fault_is ∙ z)
 

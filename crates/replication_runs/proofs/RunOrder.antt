@@ -20,16 +20,15 @@ use Rattle.message.specs.Message.{message_size}
 use Rattle.window.specs.declared.Window.{Window}
 use Rattle.window.specs.KeptMessages.{concat}
 use Rattle.window.proofs.KeptMessages.{due_part}
-use Rattle.cuts.specs.Columns.{rows}
+use Rattle.cuts.specs.Lists.{rows}
 use Rattle.cuts.proofs.Rows.{rows_length}
 use Rattle.edit_plan.specs.declared.Removed.{Removed}
 use Rattle.agreement.specs.Machines.{initial, Call, reference_after, accepted_log, DeskStep, calls, desk_after, messages}
 use Rattle.agreement.proofs.Runs.{written, desk_messages, desk_state}
 use Rattle.replication.specs.declared.Replica.{Replica}
-use Rattle.replication.specs.declared.Started.{Started}
-use Rattle.replication.specs.declared.DeskReply.{DeskReply}
+use Rattle.replication.specs.DeskReply.{DeskReply}
 use Rattle.replication.specs.Protocol.{Edit, protocol}
-use Rattle.replication.specs.Transitions.{Memory, memory, image_in, state_in, first_nonzero, Starts, desk_step, DeskEdits, WallCall, WallDelivers}
+use Rattle.replication.specs.Transitions.{Memory, memory, image_in, state_in, first_nonzero, Started, Starts, desk_step, DeskEdits, WallCall, WallDelivers}
 use Rattle.replication.proofs.Steps.{Holding}
 use Rattle.replication.proofs.StartCases.{starts_with, held_valid}
 use Rattle.replication_runs.specs.declared.Run.{Run}
@@ -183,7 +182,7 @@ module _ (mark : ℕ) (start : Drawing) (entries others before order : List ℕ)
     image_good : I.parse image ≡ I.accepted (state_in (memory s.desk desk)).drawing
     image_good = ap I.parse same ∙ r.of_desk.ready.image_is
 
-    not_refused : a.refusal ≡ 0
+    pub not_refused : a.refusal ≡ 0
     unfolding guard_number
     not_refused =
         st.number

@@ -8,11 +8,11 @@ use native.Mathlib.Omega.{arith}
 use lib.ListN.{length, take, drop, get_or}
 use lib.Dec.{ltb, eqb}
 use borrow.Author.Tests.{ltb-true, eq-eqb, ne_eqb, eqb-false}
+use Rattle.refusal.specs.Refusals.{Accepted, Refused}
 use Rattle.big_endian.specs.Fields.{field, part}
 use Rattle.sketch.specs.Lists.{ite}
 use Rattle.sketch.specs.Drawing.{Drawing}
 use Rattle.message.specs.declared.Message.{Message}
-use Rattle.message.specs.declared.MessageRead.TheVariants.{Accepted, Refused}
 use Rattle.message.specs.Message.{message_fault, message_of, parse}
 use Rattle.message.proofs.MessageRoundTrips.{result_accepted, result_refused}
 use Rattle.edit_plan.specs.declared.Removed.{Removed}

@@ -3,15 +3,13 @@ use Rattle.std.specs.Prelude.{ℕ, ◌+◌, ◌*◌, ◌/◌, ◌≤◌, ◌≡�
 use Rattle.sketch.specs.Drawing.{Drawing}
 use Rattle.message.specs.Message.{message_size}
 use Rattle.message.specs.Stored.{Mark}
-use Rattle.window.specs.Window.{empty_window}
 use Rattle.window.specs.KeptMessages.{concat, Numbered, KeepsLast}
-use Rattle.cuts.specs.Columns.{rows}
+use Rattle.cuts.specs.Lists.{rows}
 use Rattle.edit_plan.specs.declared.Removed.{Removed}
 use Rattle.agreement.specs.Machines.{initial, Call, DeskStep, calls, desk_after, messages, DeskRun, WallEvent, WallLife, FromDesk, session_at, session_state}
 use Rattle.replication.specs.Protocol.{Edit, protocol}
-use Rattle.replication.specs.Transitions.{no_replica, Memory, memory, state_in, Ready, WallCall, WallDelivers}
+use Rattle.replication.specs.Transitions.{Memory, memory, state_in, Ready, WallCall, WallDelivers}
 use Rattle.replication_runs.specs.declared.Run.{Run}
-use Rattle.replication_runs.specs.declared.RunResult.{RunResult}
 use Rattle.replication_runs.specs.RunBoth.{call_at, calls_in, call_size, max_room, made_after, WallInput, input_of, inputs_after}
 
 -- the desk made some calls, by some steps: its messages stand one after the other at the front of the log, whose rest is as it was, and the last of them in its window
@@ -63,10 +61,3 @@ RunsOn o entries others s log desk wall r log' desk' wall' =
 pub data WallGiven (s : Memory) : List (List ℕ) → Memory → Type 0 where
   nothing_given : WallGiven s [] s
   one_given : (c : WallCall) → WallDelivers s c → WallGiven s (c.bytes ∷ []) c.left
-
--- nothing is run
-pub record NotRun (refusal : ℕ) (r : RunResult) : Type 0 where
-  pub number : r.refusal ≡ refusal
-  pub no_desk : r.desk ≡ no_replica
-  pub no_wall : r.wall ≡ no_replica
-  pub no_messages : r.window.bytes ≡ empty_window

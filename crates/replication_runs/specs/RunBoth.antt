@@ -1,19 +1,23 @@
 -- A run of desk and wall, from one image with one mark: the desk's calls in their order, and between them deliveries to the wall, of the desk's messages so far and of other bytes,
 -- and starts of the wall from what the desk has then. Definitions only.
-use Rattle.std.specs.Prelude.{ℕ, zero, suc, ◌+◌, ◌*◌, ◌-◌, ◌/◌, ◌≡◌, Bool, ◌&&◌, List, [], ◌∷◌, ◌++◌, map, length, take, drop, get_or, leb, ltb, eqb}
+use Rattle.std.specs.Prelude.{ℕ, zero, suc, ◌+◌, ◌*◌, ◌-◌, ◌/◌, ◌≡◌, Bool, ◌&&◌, Result, Ok, Err, List, [], ◌∷◌, ◌++◌, map, length, take, drop, get_or, leb, ltb, eqb}
 use Rattle.std.specs.Float.Ieee.{of_bits}
 use Rattle.std.specs.Float.{binary64}
+use Rattle.refusal.specs.declared.Refusal.{Refusal}
+use Rattle.refusal.specs.Refusals.{number}
 use Rattle.big_endian.specs.Fields.{field, part, over}
 use Rattle.sketch.specs.Lists.{ite, guard_number}
 use Rattle.sketch.specs.Drawing.{Drawing, id_size}
 use Rattle.message.specs.Message.{operation_of, message_size, message_fault}
+use Rattle.window.specs.declared.Window.{Window}
 use Rattle.window.specs.Window.{empty_window}
 use Rattle.window.specs.KeptMessages.{concat, CatchUpOf}
 use Rattle.image.specs.Image as I
-use Rattle.cuts.specs.Columns.{rows}
+use Rattle.cuts.specs.Lists.{rows}
 use Rattle.edit_plan.specs.declared.Removed.{Removed}
 use Rattle.agreement.specs.Machines.{State, initial, Call, Entry, reference_after, accepted_log, DeskStep, calls, desk_after, messages, DeskRun, WallEvent, started, delivered, WallLife, session_at, session_state}
 use Rattle.replication_runs.specs.declared.RunResult.{RunResult}
+use Rattle.replication.specs.declared.Replica.{Replica}
 use Rattle.replication.specs.Protocol.{Edit, protocol}
 use Rattle.replication.specs.Transitions.{no_replica, first_nonzero, memory, state_in}
 use Rattle.replication.specs.Replication.{ReplicationCorrect}
@@ -106,9 +110,20 @@ holds_any room = leb I.max_image_size room
 abbrev pub run_both_fault : List ℕ → ℕ → ℕ → ℕ → ℕ → ℕ
 run_both_fault image size log desk wall = first_nonzero (I.image_fault image) (guard_number (has_room size log && (holds_any desk && holds_any wall)) 25 0)
 
+-- the two replicas and the desk's window, or the number of a refusal, with two replicas of zeros and an empty window
+pub record RunAnswer : Type 0 where
+  pub desk : Replica
+  pub window : Window
+  pub wall : Replica
+  pub refusal : ℕ
+
+abbrev pub answer_of : Result RunResult Refusal → RunAnswer
+answer_of (Ok r) = record { desk = r.desk; window = r.window; wall = r.wall; refusal = 0 }
+answer_of (Err e) = record { desk = no_replica; window = record { bytes = empty_window }; wall = no_replica; refusal = number e }
+
 -- ---- the run: the desk's calls and the wall's life as they happened, and the claim over both
 
-pub record RunHolds (image : List ℕ) (mark : ℕ) (entries order others before log desk wall : List ℕ) (r : RunResult) : Type 0 where
+pub record RunHolds (image : List ℕ) (mark : ℕ) (entries order others before log desk wall : List ℕ) (r : RunAnswer) : Type 0 where
   pub start : Drawing
   pub image_is : I.parse image ≡ I.accepted start
   pub steps_of_desk : List (DeskStep Drawing Edit Removed)
@@ -128,7 +143,7 @@ pub record RunHolds (image : List ℕ) (mark : ℕ) (entries order others before
   pub correct : ReplicationCorrect mark start steps_of_desk life
 
 -- the log, and the two buffers, before and after
-pub record RunsBoth (image : List ℕ) (mark : ℕ) (entries order others before log desk desk' wall wall' : List ℕ) (r : RunResult) : Type 0 where
+pub record RunsBoth (image : List ℕ) (mark : ℕ) (entries order others before log desk desk' wall wall' : List ℕ) (r : RunAnswer) : Type 0 where
   pub number : r.refusal ≡ run_both_fault image (length entries) (length before) (length desk) (length wall)
   -- a refusal leaves all
   pub kept : (r.refusal ≡ 0 → ⊥) → (log ≡ before) × (desk' ≡ desk) × (wall' ≡ wall) × (r.desk ≡ no_replica) × (r.wall ≡ no_replica) × (r.window.bytes ≡ empty_window)

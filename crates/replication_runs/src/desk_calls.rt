@@ -2,13 +2,14 @@
 ghost use Rattle.std.specs.Prelude.{◌≡◌, List, ℕ, ◌+◌, ◌≤◌, length};
 ghost use Rattle.std.specs.Float.Ieee.{of_bits};
 ghost use Rattle.std.specs.Float.{binary64};
+ghost use Rattle.replication.specs.DeskReply.{desk_reply_of};
 ghost use Rattle.replication.specs.Transitions.{memory, DeskEdits};
 ghost use Rattle.replication_runs.specs.RunBoth.{edit_at, call_size};
 ghost use Rattle.replication_runs.specs.Clauses.{LogFits, RunsOn};
 
 use crate::Run;
 use big_endian::{get1, get4, get8};
-use message::{MESSAGE_SIZE, operation_of};
+use message::{MESSAGE_SIZE, Operation};
 use replication::{DeskTransition, Replica, desk_edit, is_number};
 use sketch::ID_SIZE;
 use window::Window;
@@ -29,7 +30,7 @@ fn coordinate(bits: u64) -> f64
     ensures { result ≡ of_bits binary64 bits }
 {
     if !is_number(bits) {
-        return 0.0 / 0.0;
+        return f64::NAN;
     }
     f64::from_bits(bits)
 }
@@ -44,9 +45,10 @@ fn desk_edit_at<'a>(
     out: &'a mut [u8],
 ) -> DeskTransition
     requires { at + call_size ≤ length entries.now }
-    ensures { DeskEdits (memory replica buffer.old) window.bytes (record { edit = edit_at entries.now at; before = out.old; after = out.new; left = memory result.replica buffer.new; window = result.window.bytes; reply = result.reply }) }
+    ensures { DeskEdits (memory replica buffer.old) window.bytes (record { edit = edit_at entries.now at; before = out.old; after = out.new; left = memory result.replica buffer.new; window = result.window.bytes; reply = desk_reply_of result.reply }) }
 {
-    let operation = operation_of(get1(entries, at) as u32);
+    let number = u32::from(get1(entries, at));
+    let operation = Operation::try_from(number).unwrap_or(Operation::Extend);
     let x = coordinate(get8(entries, at + X_AT));
     let y = coordinate(get8(entries, at + Y_AT));
     desk_edit(
@@ -70,25 +72,20 @@ pub(crate) fn next_call<'a>(run: Run, entries: &[u8], log: &'a mut [u8], desk: &
     if entries.len() / CALL_SIZE <= made {
         return run;
     }
-    let replica = run.desk;
-    let window = run.window;
-    let from = replica.count as usize * MESSAGE_SIZE;
+    let from = run.desk.count as usize * MESSAGE_SIZE;
     let to = from + get1(entries, made * CALL_SIZE + ROOM_AT) as usize;
     let answer = desk_edit_at(
-        replica,
-        window,
+        run.desk,
+        run.window,
         desk,
         entries,
         made * CALL_SIZE,
         &mut log[from..to],
     );
-    let after = answer.replica;
-    let kept = answer.window;
-    let wall = run.wall;
     Run {
-        desk: after,
-        window: kept,
-        wall,
+        desk: answer.replica,
+        window: answer.window,
+        wall: run.wall,
         made: made + 1,
     }
 }

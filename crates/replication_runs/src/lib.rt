@@ -18,11 +18,10 @@ pub(crate) struct Run {
     pub made: usize,
 }
 
-// The result of a run: the two replicas and the desk's window, or the number of a refusal.
+// The result of a run: the two replicas and the desk's window.
 #[derive(Clone, Copy)]
 pub struct RunResult {
     pub desk: Replica,
     pub window: Window,
     pub wall: Replica,
-    pub refusal: u8,
 }

@@ -1,15 +1,16 @@
 // Desk and wall together, over the calls, the other bytes and the order in which all comes.
 ghost use Rattle.std.specs.Prelude.{◌≡◌, []};
 ghost use Rattle.replication.specs.Transitions.{memory, state_in};
-ghost use Rattle.replication_runs.specs.RunBoth.{has_room, RunsBoth};
-ghost use Rattle.replication_runs.specs.Clauses.{LogFits, Ran, RunsOn, NotRun};
+ghost use Rattle.replication_runs.specs.RunBoth.{has_room, answer_of, RunsBoth};
+ghost use Rattle.replication_runs.specs.Clauses.{LogFits, Ran, RunsOn};
 
 use crate::desk_calls::{CALL_SIZE, next_call};
 use crate::wall_inputs::{deliver_at, start_again};
 use crate::{Run, RunResult};
 use image::MAX_IMAGE_SIZE;
 use message::{MESSAGE_SIZE, Mark};
-use replication::{Replica, first_fault, start};
+use refusal::Refusal;
+use replication::{first_fault, start};
 use window::Window;
 
 // The largest room that a call's byte can hold.
@@ -49,10 +50,8 @@ fn run_order<'a>(
     ensures { Ran run.desk.mark (state_in (memory run.desk desk.old)).drawing entries.now others.now log.old order.now result log.new desk.new wall.new }
 {
     let mut last = run;
-    let mut j = 0usize;
-    while j < order.len() {
-        last = run_number(last, entries, others, log, desk, wall, order[j]);
-        j += 1;
+    for o in order {
+        last = run_number(last, entries, others, log, desk, wall, *o);
     }
     last
 }
@@ -61,38 +60,13 @@ fn run_order<'a>(
 fn has_room(size: usize, room: usize) -> bool
     ensures { result ≡ has_room size room }
 {
-    if room < MAX_ROOM {
-        return false;
-    }
-    size / CALL_SIZE <= (room - MAX_ROOM) / MESSAGE_SIZE
-}
-
-fn not_run(refusal: u8) -> RunResult
-    ensures { NotRun refusal result }
-{
-    let desk = Replica {
-        size: 0,
-        mark: 0,
-        count: 0,
-    };
-    let wall = Replica {
-        size: 0,
-        mark: 0,
-        count: 0,
-    };
-    let window = Window::empty();
-    RunResult {
-        desk,
-        window,
-        wall,
-        refusal,
-    }
+    MAX_ROOM <= room && size / CALL_SIZE <= (room - MAX_ROOM) / MESSAGE_SIZE
 }
 
 // Runs both from one image with one mark, by the numbers of `order`: the desk makes the calls in `entries`, and between them the wall is started
 // again from what the desk has then, or is given one of the desk's messages so far, by its place, or what begins at a place of `others`, where the
 // wall does not read it. The log takes the messages, and the two buffers the images. Refused are an image, as ever, and a log or a buffer that is
-// too short (25): then nothing is run, and log and buffers are left.
+// too short: then nothing is run, and log and buffers are left.
 pub fn run_both<'a>(
     image: &[u8],
     mark: Mark,
@@ -102,37 +76,27 @@ pub fn run_both<'a>(
     log: &'a mut [u8],
     desk: &'a mut [u8],
     wall: &'a mut [u8],
-) -> RunResult
-    ensures { RunsBoth image.now mark entries.now order.now others.now log.old log.new desk.old desk.new wall.old wall.new result }
+) -> Result<RunResult, Refusal>
+    ensures { RunsBoth image.now mark entries.now order.now others.now log.old log.new desk.old desk.new wall.old wall.new (answer_of result) }
 {
-    if !(has_room(entries.len(), log.len())
-        & (MAX_IMAGE_SIZE <= desk.len())
-        & (MAX_IMAGE_SIZE <= wall.len()))
+    if !has_room(entries.len(), log.len())
+        || desk.len() < MAX_IMAGE_SIZE
+        || wall.len() < MAX_IMAGE_SIZE
     {
-        return not_run(first_fault(image, 25));
+        return Err(first_fault(image, Refusal::ShortBuffer));
     }
-    let at_desk = start(image, mark, 0, desk);
-    if at_desk.refusal != 0 {
-        return not_run(at_desk.refusal);
-    }
-    let at_wall = start(image, mark, 0, wall);
-    let primary = at_desk.replica;
-    let second = at_wall.replica;
-    let window = Window::empty();
+    let primary = start(image, mark, 0, desk)?;
+    let second = start(image, mark, 0, wall)?;
     let first = Run {
         desk: primary,
-        window,
+        window: Window::empty(),
         wall: second,
         made: 0,
     };
     let last = run_order(first, entries, others, order, log, desk, wall);
-    let desk_end = last.desk;
-    let kept = last.window;
-    let wall_end = last.wall;
-    RunResult {
-        desk: desk_end,
-        window: kept,
-        wall: wall_end,
-        refusal: 0,
-    }
+    Ok(RunResult {
+        desk: last.desk,
+        window: last.window,
+        wall: last.wall,
+    })
 }

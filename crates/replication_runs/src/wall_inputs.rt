@@ -7,7 +7,7 @@ ghost use Rattle.replication_runs.specs.Clauses.{WallGiven, RunsOn};
 
 use crate::Run;
 use big_endian::get2;
-use message::{MESSAGE_SIZE, MessageRead};
+use message::MESSAGE_SIZE;
 use replication::{Replica, start, wall_deliver};
 use rows::{front, rest};
 
@@ -27,11 +27,8 @@ fn deliver_unread(replica: Replica, buffer: &mut [u8], bytes: &[u8]) -> Replica
     ensures { WallGiven (memory replica buffer.old) (if_unread replica.mark bytes.now) (memory result buffer.new) }
 {
     match message::read_message(bytes, replica.mark) {
-        MessageRead::Accepted(_) => replica,
-        MessageRead::Refused(_) => {
-            let answer = wall_deliver(replica, buffer, bytes);
-            answer.replica
-        }
+        Ok(_) => replica,
+        Err(_) => wall_deliver(replica, buffer, bytes).replica,
     }
 }
 
@@ -40,17 +37,13 @@ pub(crate) fn deliver_at(mut run: Run, log: &[u8], others: &[u8], wall: &mut [u8
     requires { message_size * run.desk.count ≤ length log.now }
     ensures { (entries desk : List ℕ) → RunsOn (suc (suc o)) entries others.now run log.now desk wall.old result log.now desk wall.new }
 {
-    let replica = run.wall;
     let n = run.desk.count as usize;
     if n <= o {
-        run.wall = deliver_unread(replica, wall, other_at(others, o - n));
+        run.wall = deliver_unread(run.wall, wall, other_at(others, o - n));
         return run;
     }
     let from = o * MESSAGE_SIZE;
-    let to = from + MESSAGE_SIZE;
-    let answer = wall_deliver(replica, wall, &log[from..to]);
-    let after = answer.replica;
-    run.wall = after;
+    run.wall = wall_deliver(run.wall, wall, &log[from..from + MESSAGE_SIZE]).replica;
     run
 }
 
@@ -59,8 +52,11 @@ pub(crate) fn start_again(mut run: Run, desk: &[u8], wall: &mut [u8]) -> Run
     ensures { (entries others log : List ℕ) → RunsOn 1 entries others run log desk.now wall.old result log desk.now wall.new }
 {
     let primary = run.desk;
-    let answer = start(front(desk, primary.size), primary.mark, primary.count, wall);
-    let after = answer.replica;
-    run.wall = after;
-    run
+    match start(front(desk, primary.size), primary.mark, primary.count, wall) {
+        Ok(replica) => {
+            run.wall = replica;
+            run
+        }
+        Err(_) => run,
+    }
 }

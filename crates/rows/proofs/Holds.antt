@@ -3,14 +3,16 @@ use mathlib.Core.Path.{◌≡◌, refl, sym, ap, ◌∙◌}
 use mathlib.Core.Bool.{false}
 use mathlib.Core.List.{List, [], ◌∷◌, map}
 use mathlib.Core.Option.{some, none}
+use Rattle.std.specs.Prelude.{Some, None}
 use Prim.Native.Nat.{ℕ, ◌/◌, ◌≤◌, ◌<◌}
 use native.Mathlib.Omega.{arith}
 use lib.ListN.{length, get_or, length-map}
 use Rattle.sketch.specs.declared.Point.{Point}
 use Rattle.sketch.specs.declared.Curve.{Curve}
 use Rattle.sketch.specs.Blanks.{no_point, no_curve}
-use Rattle.sketch.specs.Lookup.{among, Ascends, Found}
+use Rattle.sketch.specs.Lookup.{among, Ascends, Found, FoundAt}
 use Rattle.sketch.specs.Drawing.{point_ids, curve_ids, curve_in}
+use Rattle.sketch.proofs.Bisection.{found_here}
 use Rattle.sketch.proofs.Facts.{get_or_mapped, curve_at_lem, curve_nowhere}
 use Rattle.image.specs.Records.{point_size, curve_size}
 use Rattle.image.specs.Image.{row_id, drawing_of, image_fault}
@@ -59,6 +61,15 @@ module _ {ps : List Point} {points : List ℕ} (w : HoldsPoints ps points) where
     pub point_nowhere : length points / point_size ≤ k → among id (point_ids ps) ≡ false
     point_nowhere q = rw (← held_point_ids) (f.nowhere w.rise (omega (arith, f.within, length_ids_in point_size points)))
 
+  -- the same of a look-up's answer
+  pub point_found : (id k : ℕ) → FoundAt id (ids_in point_size points) (Some k) → (k < length ps) × ((get_or ps k no_point).id ≡ id)
+  point_found id k f =
+      let q : k < length points / point_size = rw (← length_ids_in point_size points) f.0 in
+      (rw held_points q, point_here (found_here id (ids_in point_size points) k f.0 f.1) q)
+
+  pub point_not_found : (id : ℕ) → FoundAt id (ids_in point_size points) None → among id (point_ids ps) ≡ false
+  point_not_found id f = rw (← held_point_ids) (f w.rise)
+
 -- ---- curves
 
 curves_ids : (rows : List (List ℕ)) → map row_id rows ≡ curve_ids (map read_curve rows)
@@ -89,3 +100,11 @@ module _ {cs : List Curve} {curves : List ℕ} (w : HoldsCurves cs curves) where
 
     pub curve_missing : length curves / curve_size ≤ k → curve_in cs id ≡ none
     curve_missing q = curve_nowhere id cs (rw (← held_curve_ids) (f.nowhere w.rise (omega (arith, f.within, length_ids_in curve_size curves))))
+
+  pub curve_found : (id k : ℕ) → FoundAt id (ids_in curve_size curves) (Some k) → (k < length cs) × (curve_in cs id ≡ some (get_or cs k no_curve))
+  curve_found id k f =
+      let q : k < length curves / curve_size = rw (← length_ids_in curve_size curves) f.0 in
+      (rw held_curves q, curve_here (found_here id (ids_in curve_size curves) k f.0 f.1) q)
+
+  pub curve_not_found : (id : ℕ) → FoundAt id (ids_in curve_size curves) None → curve_in cs id ≡ none
+  curve_not_found id f = curve_nowhere id cs (rw (← held_curve_ids) (f w.rise))

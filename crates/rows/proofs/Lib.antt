@@ -1,8 +1,10 @@
 pub mod RecordById
 pub mod Rows
 pub mod RunBytes
+pub mod Search
 pub mod GoodTables
 pub mod Sorts
 pub mod Walked
 pub mod Tested
 pub mod Holds
+pub mod RelationCases

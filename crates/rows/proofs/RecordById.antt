@@ -11,6 +11,7 @@ use lib.ListN.{length, take, drop, length-drop}
 use lib.Seq.{length-take-le}
 use Rattle.big_endian.specs.Fields.{field, part}
 use Rattle.sketch.specs.Drawing.{id_size}
+use Rattle.image.specs.Image.{row_id}
 use Rattle.sketch.proofs.Bisection.{found_here}
 use Rattle.rows.specs.Rows.{ids_in, RecordOf}
 use Rattle.rows.proofs.Rows.{length_ids_in, row_within, row_in_part, row_in_past, row_taken, field_part, id_in}
@@ -26,7 +27,7 @@ module _ (size : ℕ) (t : List ℕ) (id : ℕ) where
       let q : i < length t / size = row_fits size (length t) i (omega arith) h in
       let p = row_taken size t i q in
       let f : field t (i * size) id_size ≡ id = sym (field_part t (i * size) size id_size z) ∙ ap (λ (l : List ℕ). field l 0 id_size) (sym (row_in_part size t i q) ∙ sym p) ∙ e in
-      record { place = i; found = found_here id (ids_in size t) i (rw (length_ids_in size t) q) (id_in size t i z q ∙ f); is = p }
+      record { place = i; found = found_here id (ids_in size t) i (rw (length_ids_in size t) q) (id_in size t i q ∙ ap row_id (row_in_part size t i q) ∙ field_part t (i * size) size id_size z ∙ f); is = p }
 
   -- a record that is there is as long as its size, and one that is missing is empty
   module _ {r : List ℕ} (w : RecordOf size t id r) where

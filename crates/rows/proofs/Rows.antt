@@ -4,10 +4,10 @@ use mathlib.Core.List.{List, [], ◌∷◌}
 use Prim.Native.Nat.{ℕ, zero, suc, ◌+◌, ◌*◌, ◌-◌, ◌/◌, ◌≤◌, ◌<◌}
 use native.Mathlib.Nat.{suc-mul, add-mul, one-mul, mul-le-mul_right, div-mul-le_self, mul-div_cancel}
 use native.Mathlib.Omega.{arith}
-use lib.ListN.{length, take, drop, get_or, length-map, length-drop, drop_of_length-le, get_or-eq_default}
-use lib.Seq.{drop-drop, get_or-take, get_or-drop, length-take-le, take_all}
+use lib.ListN.{length, take, drop, get_or, length-map, length-drop, get_or-eq_default}
+use lib.Seq.{drop-drop, get_or-take, get_or-drop, length-take-le}
+use Rattle.std.specs.Simd.{first_chunks}
 use Rattle.big_endian.specs.Fields.{field, part}
-use Rattle.sketch.specs.Drawing.{id_size}
 use Rattle.sketch.proofs.Facts.{get_or_mapped}
 use Rattle.image.specs.Image.{rows_at, row_id}
 use Rattle.image.proofs.Tables.{length_rows, row_at}
@@ -41,24 +41,18 @@ module _ (size : ℕ) (t : List ℕ) where
     pub row_taken : i < length t / size → take (i * size + size - i * size) (drop (i * size) t) ≡ row_in size t i
     row_taken q = let e : i * size + size - i * size ≡ size = omega arith in rw e (sym (row_in_part q))
 
--- ---- a part as code takes it: past the end, the rest, or all of it
+-- ---- a table as a slice of arrays
 
-pub part_past : (s : List ℕ) (at n : ℕ) → length s ≤ at → take (length s - length s) (drop (length s) s) ≡ part s at n
-part_past s at n h =
-    let w : length s ≤ length s = omega arith in
-    let a : drop (length s) s ≡ [] = drop_of_length-le s w in
-    let b : drop at s ≡ [] = drop_of_length-le s h in
-    rw (a, b) (take_nil (length s - length s) ∙ sym (take_nil n))
-  where
-    take_nil : (k : ℕ) → take {A = ℕ} k [] ≡ []
-    take_nil zero = refl
-    take_nil (suc k) = refl
+chunks_at : (size n : ℕ) (t : List ℕ) (at : ℕ) → first_chunks size n (drop at t) ≡ rows_at size n t at
+unfolding rows_at
+chunks_at size zero t at = refl
+chunks_at size (suc n) t at =
+    let d : drop size (drop at t) ≡ drop (at + size) t = drop-drop size at t ∙ ap (λ (k : ℕ). drop k t) (omega arith) in
+    rw (d, chunks_at size n t (at + size))
 
-pub part_rest : (s : List ℕ) (at n : ℕ) → length s - at ≤ n → take (length s - at) (drop at s) ≡ part s at n
-part_rest s at n h = take_all (length s - at) (drop at s) (rw length-drop (omega arith)) ∙ sym (take_all n (drop at s) (rw length-drop h))
-
-pub part_taken : (s : List ℕ) (at n : ℕ) → take (at + n - at) (drop at s) ≡ part s at n
-part_taken s at n = let e : at + n - at ≡ n = omega arith in rw e
+pub chunks : (size : ℕ) (t : List ℕ) → first_chunks size (length t / size) t ≡ rows_in size t
+unfolding rows_in
+chunks size t = chunks_at size (length t / size) t 0
 
 -- ---- ids
 
@@ -70,13 +64,13 @@ field_part s at n (suc m) h =
     let k : m < n = omega arith in
     rw (field_part s at n m (omega arith), z, get_or-take n (drop at s) m 0 k, get_or-drop at s m 0)
 
--- an id's bytes, taken out of a table, spell what they spelled in it
-pub id_taken : (t : List ℕ) (at : ℕ) → field (take (at + id_size - at) (drop at t)) 0 id_size ≡ field t at id_size
-id_taken t at = ap (λ (l : List ℕ). field l 0 id_size) (part_taken t at id_size) ∙ field_part t at id_size id_size (omega arith)
+-- the id of the row at a place
+pub id_in : (size : ℕ) (t : List ℕ) (i : ℕ) → i < length t / size → get_or (ids_in size t) i 0 ≡ row_id (row_in size t i)
+id_in size t i q = get_or_mapped row_id 0 [] (rows_in size t) i (rw (length_rows_in size t) q)
 
-pub id_in : (size : ℕ) (t : List ℕ) (i : ℕ) → id_size ≤ size → i < length t / size → get_or (ids_in size t) i 0 ≡ field t (i * size) id_size
-id_in size t i z q =
-    get_or_mapped row_id 0 [] (rows_in size t) i (rw (length_rows_in size t) q) ∙ ap row_id (row_in_part size t i q) ∙ field_part t (i * size) size id_size z
+-- a row that has the id stands where a look-up finds it
+pub found_at_row : (size : ℕ) (t : List ℕ) (i : ℕ) → i < length t / size → (id : ℕ) → row_id (row_in size t i) ≡ id → (i < length (ids_in size t)) × (get_or (ids_in size t) i 0 ≡ id)
+found_at_row size t i q id e = (rw (length_ids_in size t) q, id_in size t i q ∙ e)
 
 -- ---- a table is a part of an image
 

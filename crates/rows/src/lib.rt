@@ -3,6 +3,7 @@
 #![tactic(auto)]
 
 mod faults;
+mod image_tables;
 mod places;
 mod records;
 mod references;
@@ -10,6 +11,7 @@ mod runs;
 mod tables;
 
 pub use faults::image_fault;
+pub use image_tables::Tables;
 pub use places::{curve_place, curve_record_of, point_place, point_record_of};
 pub use records::{
     curve_at, curve_count, curve_record, point_at, point_count, relation_at, relation_count,

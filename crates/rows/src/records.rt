@@ -1,5 +1,5 @@
 // A table's records as values, each by its place. Past the last stands an empty record, whose fields are all 0.
-ghost use Rattle.std.specs.Prelude.{◌≡◌, length};
+ghost use Rattle.std.specs.Prelude.{◌≡◌, ◌≤◌, ◌<◌, length};
 ghost use Rattle.image.specs.Records.{point_size, curve_size, relation_size};
 ghost use Rattle.image.specs.Decode.{read_point, read_curve, read_relation};
 ghost use Rattle.rows.specs.Rows.{row_in, points_in, curves_in, relations_in};
@@ -25,27 +25,26 @@ pub fn relation_count(relations: &[u8]) -> usize
     relations.len() / RELATION_SIZE
 }
 
+// A record of one size as it is.
+pub(crate) fn record_at<const SIZE: usize>(t: &[u8], i: usize) -> &[u8]
+    requires { (0 < SIZE) × (SIZE ≤ 65536) }
+    ensures { result.now ≡ row_in SIZE t.now i }
+{
+    let (rows, _) = t.as_chunks::<SIZE>();
+    if i < rows.len() { &rows[i] } else { &t[..0] }
+}
+
 pub fn point_at(points: &[u8], i: usize) -> Point
     ensures { result ≡ read_point (row_in point_size points.now i) }
 {
-    if i < points.len() / POINT_SIZE {
-        let at = i * POINT_SIZE;
-        let end = at + POINT_SIZE;
-        return read_point(&points[at..end]);
-    }
-    read_point(&points[..0])
+    read_point(record_at::<POINT_SIZE>(points, i))
 }
 
 // A curve's record as it is, for a caller that needs a part of it.
 pub fn curve_record(curves: &[u8], i: usize) -> &[u8]
     ensures { result.now ≡ row_in curve_size curves.now i }
 {
-    if i < curves.len() / CURVE_SIZE {
-        let at = i * CURVE_SIZE;
-        let end = at + CURVE_SIZE;
-        return &curves[at..end];
-    }
-    &curves[..0]
+    record_at::<CURVE_SIZE>(curves, i)
 }
 
 pub fn curve_at(curves: &[u8], i: usize) -> Curve
@@ -54,20 +53,9 @@ pub fn curve_at(curves: &[u8], i: usize) -> Curve
     read_curve(curve_record(curves, i))
 }
 
-// A relation's record as it is. It is read in one place: the reading is then compiled in place, with its length known.
-fn relation_record(relations: &[u8], i: usize) -> &[u8]
-    ensures { result.now ≡ row_in relation_size relations.now i }
-{
-    if i < relations.len() / RELATION_SIZE {
-        let at = i * RELATION_SIZE;
-        let end = at + RELATION_SIZE;
-        return &relations[at..end];
-    }
-    &relations[..0]
-}
-
+// The record is read in one place: the reading is then compiled in place, with its length known.
 pub fn relation_at(relations: &[u8], i: usize) -> Relation
     ensures { result ≡ read_relation (row_in relation_size relations.now i) }
 {
-    read_relation(relation_record(relations, i))
+    read_relation(record_at::<RELATION_SIZE>(relations, i))
 }

@@ -1,32 +1,12 @@
 // Runs of records copied.
-ghost use Rattle.std.specs.Prelude.{◌≡◌, ◌≤◌, length};
-ghost use Rattle.big_endian.specs.Fields.{over, over_if_fits};
+ghost use Rattle.std.specs.Prelude.{◌≡◌};
+ghost use Rattle.big_endian.specs.Fields.{over_if_fits};
 
-// Copies all of `run` to the front of `out`.
-fn copy_to_front(run: &[u8], out: &mut [u8])
-    requires { length run.now ≤ length out.old }
-    ensures { out.new ≡ over out.old 0 run.now }
-{
-    let n = run.len();
-    let mut i: usize = 0;
-    while i < n {
-        out[i] = run[i];
-        i += 1;
-    }
-}
+use big_endian::put_bytes;
 
 // Writes a run of bytes over those of `out` from a place on; nothing where it doesn't fit.
 pub fn put_run(run: &[u8], out: &mut [u8], at: usize)
     ensures { out.new ≡ over_if_fits out.old at run.now }
 {
-    let n = run.len();
-    let size = out.len();
-    if size < n {
-        return;
-    }
-    if size - n < at {
-        return;
-    }
-    let end = at + n;
-    copy_to_front(run, &mut out[at..end]);
+    put_bytes(out, at, run);
 }

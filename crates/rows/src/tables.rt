@@ -10,34 +10,27 @@ use image::layout::{
     RELATION_COUNT_AT, RELATION_SIZE,
 };
 use sketch::Id;
-
-// The n bytes at a place, or as many of them as there are.
-fn bytes_at(s: &[u8], at: usize, n: usize) -> &[u8]
-    ensures { result.now ≡ part s.now at n }
-{
-    let size = s.len();
-    if size <= at {
-        return &s[size..];
-    }
-    if size - at <= n {
-        return &s[at..];
-    }
-    let end = at + n;
-    &s[at..end]
-}
+use std::cmp::min;
 
 // The first n bytes, or as many of them as there are.
 pub fn front(s: &[u8], n: usize) -> &[u8]
     ensures { result.now ≡ take n s.now }
 {
-    bytes_at(s, 0, n)
+    &s[..min(n, s.len())]
 }
 
 // The bytes from a place on, none where there are no more.
 pub fn rest(s: &[u8], at: usize) -> &[u8]
     ensures { result.now ≡ drop at s.now }
 {
-    bytes_at(s, at, s.len())
+    &s[min(at, s.len())..]
+}
+
+// The n bytes at a place, or as many of them as there are.
+fn bytes_at(s: &[u8], at: usize, n: usize) -> &[u8]
+    ensures { result.now ≡ part s.now at n }
+{
+    front(rest(s, at), n)
 }
 
 // The next id.

@@ -1,12 +1,10 @@
 -- Where endless lines and full circles cross, in order. Each operation is rounded once, from left to right. Definitions only.
-use Rattle.std.specs.Prelude.{cond, List, [], ◌∷◌, Float}
+use Rattle.std.specs.Prelude.{cond, Option, Some, None, List, [], ◌∷◌, Float}
 use Rattle.std.specs.Float.Ieee.{lt, eq}
 use Rattle.float.specs.Numbers.{◌⊕◌, ◌⊖◌, ◌⊗◌, ◌⊘◌, √, 0f, 2f, 1e-12, 1e-15}
 use Rattle.float.specs.Sign.{abs}
 use Rattle.geom.specs.Plane.{◌+ᵥ◌, ◌-ᵥ◌, ◌·ᵥ◌, ◌/ᵥ◌, dot, cross, perp, len, normalized}
 use Rattle.geom.specs.declared.Vec2.{Vec2}
-use Rattle.geom.specs.declared.Direction.{Direction}
-use Rattle.geom.specs.declared.Direction.TheVariants.{None, Unit}
 use Rattle.shape.specs.declared.Crossings.{Crossings}
 use Rattle.shape.specs.declared.Crossings.TheVariants.{Zero, One, Two}
 use Rattle.shape.specs.declared.Shape.{Shape}
@@ -29,9 +27,9 @@ unfoldable pub by_sign : Float → Vec2 → Vec2 → Vec2 → Crossings
 by_sign H m first second = cond (lt H 0f) Zero (cond (eq H 0f) (One m) (Two first second))
 
 -- from a in a direction d, and around c with radius r: none without d, and else at √H before and behind the foot m of c
-unfoldable pub line_and_round : Vec2 → Direction → Vec2 → Float → Crossings
+unfoldable pub line_and_round : Vec2 → Option Vec2 → Vec2 → Float → Crossings
 line_and_round a None c r = Zero
-line_and_round a (Unit d) c r =
+line_and_round a (Some d) c r =
     let m = a +ᵥ d ·ᵥ dot (c -ᵥ a) d in
     let H = r ⊗ r ⊖ dot (m -ᵥ c) (m -ᵥ c) in
     by_sign H m (m -ᵥ d ·ᵥ √ H) (m +ᵥ d ·ᵥ √ H)
@@ -55,12 +53,12 @@ crossings (Round c r start sweep) (Line a b) = line_and_round a (normalized (b -
 crossings (Round c1 r1 start1 sweep1) (Round c2 r2 start2 sweep2) = rounds c1 r1 c2 r2
 
 -- the direction of a line; a round has none
-unfoldable pub direction_of : Shape → Direction
+unfoldable pub direction_of : Shape → Option Vec2
 direction_of (Line a b) = normalized (b -ᵥ a)
 direction_of (Round c r start sweep) = None
 
 -- the same with a given direction of the first, for a line and a round
-unfoldable pub crossings_by : Direction → Shape → Shape → Crossings
+unfoldable pub crossings_by : Option Vec2 → Shape → Shape → Crossings
 crossings_by d (Line a b) (Line c e) = crossings (Line a b) (Line c e)
 crossings_by d (Line a b) (Round c r start sweep) = line_and_round a d c r
 crossings_by d (Round c r start sweep) other = crossings (Round c r start sweep) other

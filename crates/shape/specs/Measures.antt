@@ -1,13 +1,11 @@
 -- Measures of a line and of a round: parameter, point, projection, distance and range. Projection and distance go to the endless line or the
 -- full circle. Each operation is rounded once, from left to right. Definitions only.
-use Rattle.std.specs.Prelude.{Bool, false, Float}
+use Rattle.std.specs.Prelude.{Bool, false, Option, Some, None, Float}
 use Rattle.std.specs.Float.Ieee.{le}
 use Rattle.float.specs.Numbers.{◌⊕◌, ◌⊖◌, ◌⊘◌, 0f, 1f, 4f, 1e-12, 1e-30}
 use Rattle.float.specs.Order.{max}
 use Rattle.geom.specs.Plane.{vec, ◌+ᵥ◌, ◌-ᵥ◌, ◌·ᵥ◌, dot, len, distance, normalized}
 use Rattle.geom.specs.declared.Vec2.{Vec2}
-use Rattle.geom.specs.declared.Direction.{Direction}
-use Rattle.geom.specs.declared.Direction.TheVariants.{None, Unit}
 use Rattle.shape.specs.declared.Range.{Range}
 use Rattle.shape.specs.declared.Shape.{Shape}
 use Rattle.shape.specs.declared.Shape.TheVariants.{Line, Round}
@@ -62,9 +60,9 @@ point (Round c r start sweep) t = heading (wrapped (start ⊕ t)) ·ᵥ r +ᵥ c
 -- ---- projection and distance
 
 -- on the circle, in a direction from its centre; the centre itself projects to (r, 0) from it
-unfoldable pub on_circle : Vec2 → Float → Direction → Vec2
+unfoldable pub on_circle : Vec2 → Float → Option Vec2 → Vec2
 on_circle c r None = c +ᵥ vec r 0f
-on_circle c r (Unit n) = c +ᵥ n ·ᵥ r
+on_circle c r (Some n) = c +ᵥ n ·ᵥ r
 
 unfoldable pub project : Shape → Vec2 → Vec2
 project (Line a b) p = line_point a b (line_param a b p)

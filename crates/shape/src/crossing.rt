@@ -4,7 +4,7 @@ ghost use Rattle.shape.specs.Intersections as I;
 ghost use Rattle.shape.specs.Intersections.{line_and_round, crossings, direction_of, crossings_by};
 
 use crate::{Crossings, Shape};
-use geom::{Direction, Vec2};
+use geom::Vec2;
 
 // From a along r, and from c along s.
 fn lines(a: Vec2, r: Vec2, c: Vec2, s: Vec2) -> Crossings
@@ -15,17 +15,17 @@ fn lines(a: Vec2, r: Vec2, c: Vec2, s: Vec2) -> Crossings
         return Crossings::Zero;
     }
     let t = Vec2::from_points(a, c).cross(s) / k;
-    Crossings::One(a.add(r.scale(t)))
+    Crossings::One(a + r * t)
 }
 
 // From a in the direction d, and around c with the radius r. A root is taken only where there are two crossings.
-fn line_and_round(a: Vec2, d: Direction, c: Vec2, r: f64) -> Crossings
+fn line_and_round(a: Vec2, d: Option<Vec2>, c: Vec2, r: f64) -> Crossings
     ensures { result ≡ line_and_round a d c r }
 {
-    let Direction::Unit(u) = d else {
+    let Some(u) = d else {
         return Crossings::Zero;
     };
-    let m = a.add(u.scale(Vec2::from_points(a, c).dot(u)));
+    let m = a + u * Vec2::from_points(a, c).dot(u);
     let w = Vec2::from_points(c, m);
     let h = r * r - w.dot(w);
     if h < 0.0 {
@@ -34,8 +34,8 @@ fn line_and_round(a: Vec2, d: Direction, c: Vec2, r: f64) -> Crossings
     if h == 0.0 {
         return Crossings::One(m);
     }
-    let k = u.scale(float::sqrt(h));
-    Crossings::Two(m.sub(k), m.add(k))
+    let k = u * float::sqrt(h);
+    Crossings::Two(m - k, m + k)
 }
 
 // Around c1 with the radius r1, and around c2 with r2. The second root is taken only where there are two crossings.
@@ -52,47 +52,44 @@ fn rounds(c1: Vec2, r1: f64, c2: Vec2, r2: f64) -> Crossings
     if h < 0.0 {
         return Crossings::Zero;
     }
-    let m = c1.add(e.scale(g / d));
+    let m = c1 + e * (g / d);
     if h == 0.0 {
         return Crossings::One(m);
     }
-    let k = e.perp().div(d).scale(float::sqrt(h));
-    Crossings::Two(m.add(k), m.sub(k))
+    let k = e.perp() / d * float::sqrt(h);
+    Crossings::Two(m + k, m - k)
 }
 
 // The crossings of the endless line or the full circle of each. Between a line and a round they run along the line, whichever is given first.
 pub fn intersections(sh: Shape, other: Shape) -> Crossings
     ensures { result ≡ crossings sh other }
 {
-    match sh {
-        Shape::Line(a, b) => match other {
-            Shape::Line(c, d) => lines(a, Vec2::from_points(a, b), c, Vec2::from_points(c, d)),
-            Shape::Round(c, r, _, _) => line_and_round(
-                a,
-                Vec2::from_points(a, b).normalized(),
-                c,
-                r,
-            ),
-        },
-        Shape::Round(c1, r1, _, _) => match other {
-            Shape::Line(a, b) => line_and_round(a, Vec2::from_points(a, b).normalized(), c1, r1),
-            Shape::Round(c2, r2, _, _) => rounds(c1, r1, c2, r2),
-        },
+    match (sh, other) {
+        (Shape::Line(a, b), Shape::Line(c, d)) => {
+            lines(a, Vec2::from_points(a, b), c, Vec2::from_points(c, d))
+        }
+        (Shape::Line(a, b), Shape::Round(c, r, _, _)) => {
+            line_and_round(a, Vec2::from_points(a, b).normalized(), c, r)
+        }
+        (Shape::Round(c, r, _, _), Shape::Line(a, b)) => {
+            line_and_round(a, Vec2::from_points(a, b).normalized(), c, r)
+        }
+        (Shape::Round(c1, r1, _, _), Shape::Round(c2, r2, _, _)) => rounds(c1, r1, c2, r2),
     }
 }
 
 // The direction of a line, none of a round: for a caller that asks for many crossings with one shape.
-pub fn direction_of(sh: Shape) -> Direction
+pub fn direction_of(sh: Shape) -> Option<Vec2>
     ensures { result ≡ direction_of sh }
 {
     match sh {
         Shape::Line(a, b) => Vec2::from_points(a, b).normalized(),
-        Shape::Round(_, _, _, _) => Direction::None,
+        Shape::Round(_, _, _, _) => None,
     }
 }
 
 // The crossings of the endless line through a and b, whose direction is given.
-pub fn line_crossings(a: Vec2, b: Vec2, d: Direction, other: Shape) -> Crossings
+pub fn line_crossings(a: Vec2, b: Vec2, d: Option<Vec2>, other: Shape) -> Crossings
     ensures { result ≡ crossings_by d (Shape.Line a b) other }
 {
     match other {
@@ -102,7 +99,7 @@ pub fn line_crossings(a: Vec2, b: Vec2, d: Direction, other: Shape) -> Crossings
 }
 
 // The crossings, given the direction of the first where it is a line.
-pub fn intersections_by(sh: Shape, d: Direction, other: Shape) -> Crossings
+pub fn intersections_by(sh: Shape, d: Option<Vec2>, other: Shape) -> Crossings
     ensures { result ≡ crossings_by d sh other }
 {
     match sh {

@@ -5,7 +5,7 @@ ghost use Rattle.shape.specs.Measures.{arc, circle, up_to, is_full, line_param, 
 
 use crate::turning::{forward, heading, turn, upward, wrapped};
 use crate::{Range, Shape};
-use geom::{Direction, Vec2};
+use geom::Vec2;
 
 // Where p stands along the line from a to b: 0 at a, and 1 at b. A line of no length has a divisor all the same.
 fn line_param(a: Vec2, b: Vec2, p: Vec2) -> f64
@@ -19,16 +19,16 @@ fn line_param(a: Vec2, b: Vec2, p: Vec2) -> f64
 fn line_point(a: Vec2, b: Vec2, t: f64) -> Vec2
     ensures { result ≡ line_point a b t }
 {
-    a.add(Vec2::from_points(a, b).scale(t))
+    a + Vec2::from_points(a, b) * t
 }
 
 // The point of a circle in a direction from its centre, or on the side of x where there is none.
-fn on_circle(c: Vec2, r: f64, d: Direction) -> Vec2
+fn on_circle(c: Vec2, r: f64, d: Option<Vec2>) -> Vec2
     ensures { result ≡ on_circle c r d }
 {
     match d {
-        Direction::Unit(n) => c.add(n.scale(r)),
-        Direction::None => c.add(Vec2::new(r, 0.0)),
+        Some(n) => c + n * r,
+        None => c + Vec2::new(r, 0.0),
     }
 }
 
@@ -99,7 +99,7 @@ impl Shape {
     {
         match self {
             Shape::Line(a, b) => line_point(a, b, t),
-            Shape::Round(c, r, start, _) => heading(wrapped(start + t)).scale(r).add(c),
+            Shape::Round(c, r, start, _) => heading(wrapped(start + t)) * r + c,
         }
     }
 

@@ -65,7 +65,7 @@ fn first_quarter(f: f64) -> Vec2
     ensures { result ≡ first_quarter f }
 {
     let u = Vec2::new(1.0 - f, f);
-    u.div(u.len())
+    u / u.len()
 }
 
 // The direction that has turned by s.

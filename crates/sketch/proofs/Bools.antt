@@ -51,5 +51,13 @@ at_most_or_above {A} m n f g = go (leb m n) refl
 pub leb_ltb : (a x : ℕ) → leb a x ≡ not (ltb x a)
 leb_ltb a x = at_most_or_above a x (λ h. rw (le-leb a x h, le-ltb x a h)) (λ h. rw (lt-leb a x h, lt-ltb x a h))
 
-pub joined : {a b c d : Bool} → a ≡ c → b ≡ d → (a && b) ≡ (c && d)
-joined e f = cc
+-- a record whose id is not above the last or not below the next, and one whose id is
+pub too_low : {l i : ℕ} (b c : Bool) → i ≤ l → (ltb l i && b && c) ≡ false
+too_low {l} {i} b c h = rw (le-ltb l i h)
+
+pub too_high : {i n : ℕ} (a c : Bool) → n ≤ i → (a && ltb i n && c) ≡ false
+too_high {i} {n} true c h = rw (le-ltb i n h)
+too_high {i} {n} false c h = refl
+
+pub between : {l i n : ℕ} {c t : Bool} → l < i → i < n → c ≡ t → (ltb l i && ltb i n && c) ≡ t
+between {l} {i} {n} h k e = rw (lt-ltb l i h, lt-ltb i n k) e

@@ -1,40 +1,25 @@
 -- The fault of a sketch from the tests of its counts, of its next id and of each of its tables.
-use mathlib.Core.Path.{◌≡◌, refl, sym, ◌∙◌}
-use mathlib.Core.Bool.{Bool, true, false, not, ◌&&◌, ◌||◌}
+use mathlib.Core.Path.{◌≡◌, sym, ◌∙◌}
+use mathlib.Core.Bool.{Bool, true, false, ◌&&◌}
 use mathlib.Core.List.{List, map}
 use Prim.Native.Nat.{ℕ, ◌≤◌, ◌<◌}
 use native.Mathlib.Omega.{arith}
 use lib.ListN.{length, take, length-take, length-map}
-use lib.Dec.{leb, ltb}
-use borrow.Author.Tests.{leb-true, ltb-false, le-leb, lt-leb}
+use lib.Dec.{leb}
+use borrow.Author.Tests.{leb-true, le-leb, lt-leb}
 use Rattle.sketch.specs.declared.Point.{Point}
 use Rattle.sketch.specs.declared.Curve.{Curve}
 use Rattle.sketch.specs.declared.Sketch.{Sketch}
 use Rattle.sketch.specs.Lists.{guard_number}
 use Rattle.sketch.specs.Lookup.{Ascends}
 use Rattle.sketch.specs.Drawing.{view, limits, point_ids, curve_ids}
-use Rattle.sketch.specs.Valid.{ok_point, ok_curve, sound_curve, has_point, points_fault, curves_fault, relations_fault, sketch_fault}
+use Rattle.sketch.specs.Valid.{ok_point, ok_curve, sound_curve, has_point, points_fault, curves_fault, relations_fault, counts_fit, sketch_fault}
 use Rattle.sketch.specs.Facts.{Sized, Valid}
 use Rattle.sketch.specs.Columns.{sorts_of, shapes_fault, PointsChecked, CurvesChecked, RelationsChecked}
-use Rattle.sketch.proofs.Bools.{all_three, or_left_false, or_right_false, leb_ltb}
+use Rattle.sketch.proofs.Bools.{all_three}
 use Rattle.sketch.proofs.Facts.{guard_number_none, none_guard_number, table_first, table_later, table_ascends, curves_by_column, relations_by_columns, fault_valid, valid_fault}
 
--- ---- three counts against three limits
-
-module _ (a b c x y z : ℕ) where
-  none_over : ltb x a || ltb y b || ltb z c ≡ false → (a ≤ x) × (b ≤ y) × (c ≤ z)
-  none_over h =
-      let u = or_left_false (ltb x a || ltb y b) (ltb z c) h in
-      (ltb-false x a (or_left_false (ltb x a) (ltb y b) u), ltb-false y b (or_right_false (ltb x a) (ltb y b) u), ltb-false z c (or_right_false (ltb x a || ltb y b) (ltb z c) h))
-
-  some_over : ltb x a || ltb y b || ltb z c ≡ true → (leb a x && leb b y && leb c z) ≡ false
-  some_over h = rw (leb_ltb a x, leb_ltb b y, leb_ltb c z) (go (ltb x a) (ltb y b) (ltb z c) h)
-    where
-      go : (u v w : Bool) → u || v || w ≡ true → (not u && not v && not w) ≡ false
-      go true v w e = refl
-      go false true w e = refl
-      go false false true e = refl
-      go false false false e = sym e
+-- ---- counts within their limits
 
 fits : {A : Type 0} (n m : ℕ) (l : List A) → n ≤ m → leb (length (take n l)) m ≡ true
 fits n m l h = le-leb (length (take n l)) m (rw length-take (omega arith))
@@ -51,30 +36,26 @@ abbrev curve_id : Curve → ℕ
 curve_id c = c.id
 
 module _ (s : Sketch) where
-  abbrev within : Bool
-  within = leb s.npoints 512 && leb s.ncurves 128 && leb s.nrelations 256
-
-  counts : Sized s → within ≡ true
+  counts : Sized s → counts_fit s ≡ true
   counts z = rw (le-leb s.npoints 512 z.points, le-leb s.ncurves 128 z.curves, le-leb s.nrelations 256 z.relations)
+
+  pub sized : counts_fit s ≡ true → Sized s
+  sized h =
+      let u = all_three (leb s.npoints 512) (leb s.ncurves 128) (leb s.nrelations 256) h in
+      record { points = leb-true _ _ u.0; curves = leb-true _ _ u.1; relations = leb-true _ _ u.2 }
 
   -- a sketch has no fault exactly where its counts are within its tables and what it shows is valid
   pub sketch_valid : sketch_fault s ≡ 0 → Sized s × Valid limits (view s)
   sketch_valid h =
-      let p = guard_number_none within 3 _ (omega arith) h in
-      let u = all_three (leb s.npoints 512) (leb s.ncurves 128) (leb s.nrelations 256) p.0 in
-      (record { points = leb-true _ _ u.0; curves = leb-true _ _ u.1; relations = leb-true _ _ u.2 }, fault_valid limits (view s) p.1)
+      let p = guard_number_none (counts_fit s) 3 _ (omega arith) h in
+      (sized p.0, fault_valid limits (view s) p.1)
 
   pub valid_sketch : Sized s → Valid limits (view s) → sketch_fault s ≡ 0
-  valid_sketch z v = none_guard_number within 3 _ (counts z) (valid_fault limits (view s) v)
+  valid_sketch z v = none_guard_number (counts_fit s) 3 _ (counts z) (valid_fault limits (view s) v)
 
-  pub fault_over : ltb 512 s.npoints || ltb 128 s.ncurves || ltb 256 s.nrelations ≡ true → 3 ≡ sketch_fault s
+  pub fault_over : counts_fit s ≡ false → 3 ≡ sketch_fault s
   unfolding guard_number
-  fault_over h = sym (rw (some_over s.npoints s.ncurves s.nrelations 512 128 256 h))
-
-  pub sized : ltb 512 s.npoints || ltb 128 s.ncurves || ltb 256 s.nrelations ≡ false → Sized s
-  sized h =
-      let u = none_over s.npoints s.ncurves s.nrelations 512 128 256 h in
-      record { points = u.0; curves = u.1; relations = u.2 }
+  fault_over h = rw h
 
   abbrev relations_rest : ℕ
   relations_rest = relations_fault (view s).points (view s).curves (view s).relations
@@ -100,21 +81,21 @@ module _ (s : Sketch) where
   -- the points are right, and the later tables decide
   pub record PointsPassed (ids : List ℕ) : Type 0 where
     pub rest : sketch_fault s ≡ shapes_fault (view s)
-    pub column : take s.npoints ids ≡ point_ids (view s).points
-    pub rise : Ascends (take s.npoints ids)
+    pub column : take (length (view s).points) ids ≡ point_ids (view s).points
+    pub rise : Ascends (take (length (view s).points) ids)
 
   -- of those the curves are right, and the relations decide
   pub record CurvesPassed (ids sorts : List ℕ) : Type 0 where
     pub rest : shapes_fault (view s) ≡ relations_rest
-    pub column : take s.ncurves ids ≡ curve_ids (view s).curves
-    pub beside : take s.ncurves sorts ≡ sorts_of (view s).curves
-    pub rise : Ascends (take s.ncurves ids)
+    pub column : take (length (view s).curves) ids ≡ curve_ids (view s).curves
+    pub beside : take (length (view s).curves) sorts ≡ sorts_of (view s).curves
+    pub rise : Ascends (take (length (view s).curves) ids)
 
   pub begun : Sized s → 1 ≤ s.next → s.next ≤ limits.ids → Begun
   unfolding guard_number
   begun z low high = record { rest = in_order_lem z ∙ rw (le-leb 1 s.next low, le-leb s.next limits.ids high) }
 
-module _ {s : Sketch} (g : Begun s) {before ids : List ℕ} {p : ℕ} (t : PointsChecked s.next (view s).points s.npoints before ids p) where
+module _ {s : Sketch} (g : Begun s) {before ids : List ℕ} {p : ℕ} (t : PointsChecked s.next (view s).points (length (view s).points) before ids p) where
   pub fault_points : (p ≡ 0 → ⊥) → p ≡ sketch_fault s
   fault_points h = sym (g.rest ∙ table_first point_id ok_point (λ (x : Point). true) s.next 0 (view s).points _ p t.number h)
 
@@ -129,7 +110,7 @@ module _ {s : Sketch} (g : Begun s) {before ids : List ℕ} {p : ℕ} (t : Point
 
 module _ (s : Sketch) {points : List ℕ} (g : points ≡ point_ids (view s).points) where
   module _ {before was ids sorts : List ℕ} {c : ℕ}
-      (t : CurvesChecked s.next points (view s).curves s.ncurves before was ids sorts c) where
+      (t : CurvesChecked s.next points (view s).curves (length (view s).curves) before was ids sorts c) where
     abbrev sound : Curve → Bool
     sound = sound_curve (has_point (view s).points)
 
@@ -150,6 +131,6 @@ module _ (s : Sketch) {points : List ℕ} (g : points ≡ point_ids (view s).poi
         }
 
   pub fault_relations :
-      {ids sorts : List ℕ} {r : ℕ} → CurvesPassed s ids sorts → RelationsChecked points (take s.ncurves ids) (take s.ncurves sorts) (view s).relations r → r ≡ shapes_fault (view s)
+      {ids sorts : List ℕ} {r : ℕ} → CurvesPassed s ids sorts → RelationsChecked points (take (length (view s).curves) ids) (take (length (view s).curves) sorts) (view s).relations r → r ≡ shapes_fault (view s)
   fault_relations h t =
       t.number ∙ relations_by_columns (view s).points (view s).curves (view s).relations g h.column h.beside ∙ sym h.rest

@@ -1,5 +1,6 @@
 pub mod Lists
 pub mod Lookup
+pub mod Sorts
 pub mod Drawing
 pub mod Valid
 pub mod Columns

@@ -1,5 +1,5 @@
 -- Look-ups by id in a list of ids.
-use Rattle.std.specs.Prelude.{ℕ, ◌%◌, ◌≤◌, ◌<◌, ◌≡◌, Bool, false, ◌||◌, List, [], ◌∷◌, length, get_or, set, ltb, eqb}
+use Rattle.std.specs.Prelude.{ℕ, ◌%◌, ◌≤◌, ◌<◌, ◌≡◌, Bool, false, ◌||◌, List, [], ◌∷◌, length, get_or, set, ltb, eqb, Option, Some, None}
 use Rattle.sketch.specs.Lists.{ite}
 
 -- whether the id is in the list
@@ -22,6 +22,11 @@ pub record Found (id : ℕ) (ids : List ℕ) (r : ℕ) : Type 0 where
   pub within : r ≤ length ids
   pub here : r < length ids → get_or ids r 0 ≡ id
   pub nowhere : Ascends ids → r ≡ length ids → among id ids ≡ false
+
+-- a look-up's answer: a place where the id stands, or none, and in a list that rises none only where it stands nowhere
+abbrev pub FoundAt : ℕ → List ℕ → Option ℕ → Type 0
+FoundAt id ids (Some k) = (k < length ids) × (get_or ids k 0 ≡ id)
+FoundAt id ids None = Ascends ids → among id ids ≡ false
 
 -- the sort that stands beside the first such id, 0 where there is none
 unfoldable pub sort_among : ℕ → List ℕ → List ℕ → ℕ

@@ -167,8 +167,12 @@ fault_of m d =
     (curves_fault d.next d.points d.curves
     (relations_fault d.points d.curves d.relations))))
 
+-- a sketch's counts are within its tables
+abbrev pub counts_fit : Sketch → Bool
+counts_fit s = leb s.npoints limits.points && leb s.ncurves limits.curves && leb s.nrelations limits.relations
+
 -- the first broken rule of a sketch, whose counts may be anything
 abbrev pub sketch_fault : Sketch → ℕ
 sketch_fault s =
-    guard_number (leb s.npoints limits.points && leb s.ncurves limits.curves && leb s.nrelations limits.relations) 3
+    guard_number (counts_fit s) 3
     (fault_of limits (view s))

@@ -38,6 +38,15 @@ pub enum CurveKind {
     Conic(Id, Id, Id, f64),
 }
 
+// The sorts of curves that relations tell apart.
+#[derive(Clone, Copy, PartialEq, Eq)]
+pub enum Sort {
+    Line,
+    // An arc or a circle.
+    Round,
+    Freeform,
+}
+
 #[derive(Clone, Copy)]
 pub struct Curve {
     pub id: Id,

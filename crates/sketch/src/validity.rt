@@ -1,301 +1,337 @@
-// The test of a sketch: the number of the first rule that it breaks, as its image would be refused.
-ghost use Rattle.std.specs.Prelude.{◌≡◌, map, ◌≤◌, length, take, drop, eqb};
+// The test of a sketch: the first rule that it breaks, as its image would be refused.
+ghost use Rattle.std.specs.Prelude.{◌≡◌, map, ◌≤◌, length, drop, eqb};
+ghost use Rattle.refusal.specs.Refusals.{refusal_number};
 ghost use Rattle.sketch.specs.Lists.{every};
 ghost use Rattle.sketch.specs.Lookup.{among, Ascends, sort_among};
-ghost use Rattle.sketch.specs.Valid.{ok_curve, ok_relation, sound_curve, sound_relation, sort_of, sketch_fault};
-ghost use Rattle.sketch.specs.Drawing.{view, point_ids};
+ghost use Rattle.sketch.specs.Sorts.{sort_number};
+ghost use Rattle.sketch.specs.Valid.{ok_point, ok_number, in_slots, ok_curve, ok_relation, distinct, fits, apart, sound_curve, sound_relation, sort_of, counts_fit, sketch_fault};
+ghost use Rattle.sketch.specs.Drawing.{view, point_ids, uses_of, points_of};
 ghost use Rattle.sketch.specs.Facts.{Sized};
 ghost use Rattle.sketch.specs.Columns.{PointsChecked, CurvesChecked, RelationsChecked, shapes_fault};
 
 use crate::lookup::{has, note, sort_at};
 use crate::values::{coordinate_ok, measure_ok, radius_ok, rho_ok};
-use crate::{Curve, CurveKind, Id, Point, Relation, RelationSlot, Sketch};
+use crate::{Curve, CurveKind, Id, Point, Relation, RelationSlot, Sketch, Sort};
+use refusal::Refusal;
+use std::cmp::min;
 
-// The first broken rule of the first n points, 0 for none: then `ids` holds their ids. `near` gets guesses of their
-// places.
+// A point's values.
+fn point_ok(p: Point) -> bool
+    ensures { result ≡ ok_point p }
+{
+    coordinate_ok(p.x) && coordinate_ok(p.y)
+}
+
+// The first rule that the points break: where they break none `ids` holds their ids. `near` gets guesses of their places.
 fn points_fault<'a>(
-    points: [Point; 512],
-    n: usize,
+    points: &[Point],
     next: Id,
     ids: &'a mut [Id],
     near: &'a mut [u16],
-) -> u8
-    requires { (n ≤ 512) × (n ≤ length ids.old) }
-    ensures { PointsChecked next (take n points) n ids.old ids.new result }
+) -> Result<(), Refusal>
+    requires { length points.now ≤ length ids.old }
+    ensures { PointsChecked next points.now (length points.now) ids.old ids.new (refusal_number result) }
 {
     let mut last: Id = 0;
-    let mut i: usize = 0;
-    while i < n {
-        let p = points[i];
-        let id = p.id;
-        if !(coordinate_ok(p.x) & coordinate_ok(p.y)) {
-            return 4;
+    for (i, p) in points.iter().enumerate() {
+        if !point_ok(*p) {
+            return Err(Refusal::BadValue);
         }
-        if !((last < id) & (id < next)) {
-            return 5;
+        if p.id <= last || next <= p.id {
+            return Err(Refusal::BadId);
         }
-        ids[i] = id;
-        note(near, id, i);
-        last = id;
-        i += 1;
+        ids[i] = p.id;
+        note(near, p.id, i);
+        last = p.id;
     }
-    0
+    Ok(())
 }
 
 // Whether the slots from a place on hold 0.
 fn clear_from(slots: [Id; 8], from: usize) -> bool
     ensures { result ≡ every (λ i. eqb i 0) (drop from slots) }
 {
-    let mut i: usize = from;
-    while i < 8 {
-        if slots[i] != 0 {
-            return false;
-        }
-        i += 1;
-    }
-    true
+    slots.iter().skip(from).all(|id| *id == 0)
 }
 
-// Whether the first n slots name points, whose ids rise.
-fn all_in<'a>(ids: &'a [Id], near: &'a [u16], slots: [Id; 8], n: usize) -> bool
+// Whether all of some ids are among ids that rise.
+fn all_in<'a>(ids: &'a [Id], near: &'a [u16], wanted: &[Id]) -> bool
     requires { Ascends ids.now }
-    ensures { result ≡ every (λ p. among p ids.now) (take n slots) }
+    ensures { result ≡ every (λ p. among p ids.now) wanted.now }
 {
-    let mut i: usize = 0;
-    while i < 8 {
-        if n <= i {
-            return true;
-        }
-        if !has(ids, near, slots[i]) {
-            return false;
-        }
-        i += 1;
+    wanted.iter().all(|id| has(ids, near, *id))
+}
+
+// The sort of a curve, by its kind.
+#[tactic(auto, unfolding(crate::specs::Valid::sort_of))]
+fn sort_of(kind: CurveKind) -> Sort
+    ensures { sort_number result ≡ sort_of kind }
+{
+    match kind {
+        CurveKind::Line(_, _) => Sort::Line,
+        CurveKind::Arc(_, _, _) | CurveKind::Circle(_, _) => Sort::Round,
+        CurveKind::Bezier(_) | CurveKind::Conic(_, _, _, _) => Sort::Freeform,
     }
-    true
+}
+
+// A circle's radius, a Bézier curve's degree, a conic's rho.
+#[tactic(auto, unfolding(crate::specs::Valid::ok_number))]
+fn number_ok(kind: CurveKind) -> bool
+    ensures { result ≡ ok_number kind }
+{
+    match kind {
+        CurveKind::Line(_, _) | CurveKind::Arc(_, _, _) => true,
+        CurveKind::Circle(_, r) => radius_ok(r),
+        CurveKind::Bezier(n) => (1..=7).contains(&n),
+        CurveKind::Conic(_, _, _, rho) => rho_ok(rho),
+    }
+}
+
+// How many of the slots beside it a kind uses.
+#[tactic(auto, unfolding(crate::specs::Valid::in_slots))]
+fn slots_used(kind: CurveKind) -> usize
+    ensures { result ≡ in_slots kind }
+{
+    match kind {
+        CurveKind::Bezier(n) => n as usize + 1,
+        _ => 0,
+    }
 }
 
 // A curve's values.
 fn curve_ok(c: Curve) -> bool
     ensures { result ≡ ok_curve c }
 {
-    let slots = c.slots;
-    let kind = c.kind;
-    match kind {
-        CurveKind::Line(_, _) => clear_from(slots, 0),
-        CurveKind::Arc(_, _, _) => !c.infinite & clear_from(slots, 0),
-        CurveKind::Circle(_, r) => !c.infinite & radius_ok(r) & clear_from(slots, 0),
-        CurveKind::Bezier(n) => !c.infinite
-            & (1 <= n)
-            & (n <= 7)
-            & clear_from(slots, n as usize + 1),
-        CurveKind::Conic(_, _, _, rho) => !c.infinite & rho_ok(rho) & clear_from(slots, 0),
-    }
+    (!c.infinite || sort_of(c.kind) == Sort::Line)
+        && number_ok(c.kind)
+        && clear_from(c.slots, slots_used(c.kind))
 }
 
-// A curve's references, given the ids of the points and guesses of their places.
-fn curve_sound<'a>(c: Curve, ids: &'a [Id], near: &'a [u16]) -> bool
+// Whether the points that a curve uses are there, given the ids of the points and guesses of their places.
+#[tactic(auto, unfolding(crate::specs::Drawing::uses_of))]
+fn uses_known<'a>(c: Curve, ids: &'a [Id], near: &'a [u16]) -> bool
     requires { Ascends ids.now }
-    ensures { result ≡ sound_curve (λ p. among p ids.now) c }
+    ensures { result ≡ every (λ p. among p ids.now) (uses_of c.kind c.slots) }
 {
-    let slots = c.slots;
-    let kind = c.kind;
-    match kind {
-        CurveKind::Line(a, b) => has(ids, near, a) & has(ids, near, b) & (a != b),
-        CurveKind::Arc(o, a, b) => has(ids, near, o)
-            & has(ids, near, a)
-            & has(ids, near, b)
-            & (o != a)
-            & (o != b)
-            & (a != b),
-        CurveKind::Circle(o, _) => has(ids, near, o),
-        CurveKind::Bezier(n) => all_in(ids, near, slots, n as usize + 1),
-        CurveKind::Conic(a, p, b, _) => has(ids, near, a) & has(ids, near, p) & has(ids, near, b),
+    match c.kind {
+        CurveKind::Line(a, b) => all_in(ids, near, &[a, b]),
+        CurveKind::Arc(o, a, b) => all_in(ids, near, &[o, a, b]),
+        CurveKind::Circle(o, _) => all_in(ids, near, &[o]),
+        CurveKind::Bezier(n) => all_in(ids, near, &c.slots[..min(n as usize + 1, 8)]),
+        CurveKind::Conic(a, p, b, _) => all_in(ids, near, &[a, p, b]),
     }
 }
 
-// A line 1, a round 2, a freeform curve 3.
-fn sort_of(kind: CurveKind) -> u8
-    ensures { result ≡ sort_of kind }
+// Whether a line's two points differ, or an arc's three.
+#[tactic(auto, unfolding(crate::specs::Valid::distinct))]
+fn distinct(kind: CurveKind) -> bool
+    ensures { result ≡ distinct kind }
 {
     match kind {
-        CurveKind::Line(_, _) => 1,
-        CurveKind::Arc(_, _, _) => 2,
-        CurveKind::Circle(_, _) => 2,
-        CurveKind::Bezier(_) => 3,
-        CurveKind::Conic(_, _, _, _) => 3,
-    }
-}
-
-// The first broken rule of the first n curves, 0 for none: then `ids` and `sorts` hold theirs. `near` gets guesses of
-// their places, as `near_points` has of the points'.
-fn curves_fault<'a, 'b>(
-    curves: [Curve; 128],
-    n: usize,
-    next: Id,
-    points: &'a [Id],
-    near_points: &'a [u16],
-    ids: &'b mut [Id],
-    sorts: &'b mut [u8],
-    near: &'b mut [u16],
-) -> u8
-    requires { (n ≤ 128) × (n ≤ length ids.old) × (n ≤ length sorts.old) × Ascends points.now }
-    ensures { CurvesChecked next points.now (take n curves) n ids.old sorts.old ids.new sorts.new result }
-{
-    let mut last: Id = 0;
-    let mut i: usize = 0;
-    while i < n {
-        let c = curves[i];
-        let id = c.id;
-        let kind = c.kind;
-        if !curve_ok(c) {
-            return 4;
-        }
-        if !((last < id) & (id < next) & curve_sound(c, points, near_points)) {
-            return 5;
-        }
-        ids[i] = id;
-        sorts[i] = sort_of(kind);
-        note(near, id, i);
-        last = id;
-        i += 1;
-    }
-    0
-}
-
-// What a relation measures.
-fn relation_ok(r: Relation) -> bool
-    ensures { result ≡ ok_relation r }
-{
-    match r {
-        Relation::Length(_, v) => measure_ok(v),
-        Relation::Distance(_, _, v) => measure_ok(v),
-        Relation::ArcLength(_, v) => measure_ok(v),
-        Relation::ArcSweep(_, v) => measure_ok(v),
+        CurveKind::Line(a, b) => a != b,
+        CurveKind::Arc(o, a, b) => o != a && o != b && a != b,
         _ => true,
     }
 }
 
-// A relation's references, given the ids of the points, the ids and sorts of the curves, and guesses of their places.
+// A curve's references.
+fn curve_sound<'a>(c: Curve, ids: &'a [Id], near: &'a [u16]) -> bool
+    requires { Ascends ids.now }
+    ensures { result ≡ sound_curve (λ p. among p ids.now) c }
+{
+    uses_known(c, ids, near) && distinct(c.kind)
+}
+
+// The first rule that the curves break: where they break none `ids` and `sorts` hold theirs. `near` gets guesses of their
+// places, as `near_points` has of the points'.
+fn curves_fault<'a, 'b>(
+    curves: &[Curve],
+    next: Id,
+    points: &'a [Id],
+    near_points: &'a [u16],
+    ids: &'b mut [Id],
+    sorts: &'b mut [Sort],
+    near: &'b mut [u16],
+) -> Result<(), Refusal>
+    requires { (length curves.now ≤ length ids.old) × (length curves.now ≤ length sorts.old) × Ascends points.now }
+    ensures { CurvesChecked next points.now curves.now (length curves.now) ids.old (map sort_number sorts.old) ids.new (map sort_number sorts.new) (refusal_number result) }
+{
+    let mut last: Id = 0;
+    for (i, c) in curves.iter().enumerate() {
+        if !curve_ok(*c) {
+            return Err(Refusal::BadValue);
+        }
+        if c.id <= last || next <= c.id || !curve_sound(*c, points, near_points) {
+            return Err(Refusal::BadId);
+        }
+        ids[i] = c.id;
+        sorts[i] = sort_of(c.kind);
+        note(near, c.id, i);
+        last = c.id;
+    }
+    Ok(())
+}
+
+// What a relation measures.
+#[tactic(auto, unfolding(crate::specs::Valid::ok_relation))]
+fn relation_ok(r: Relation) -> bool
+    ensures { result ≡ ok_relation r }
+{
+    match r {
+        Relation::Length(_, v)
+        | Relation::Distance(_, _, v)
+        | Relation::ArcLength(_, v)
+        | Relation::ArcSweep(_, v) => measure_ok(v),
+        _ => true,
+    }
+}
+
+// Whether the points that a relation names are there, given the ids of the points and guesses of their places.
+#[tactic(auto, unfolding(crate::specs::Drawing::points_of))]
+fn points_known<'a>(r: Relation, ids: &'a [Id], near: &'a [u16]) -> bool
+    requires { Ascends ids.now }
+    ensures { result ≡ every (λ p. among p ids.now) (points_of r) }
+{
+    match r {
+        Relation::Coincident(p, q) | Relation::Distance(p, q, _) => all_in(ids, near, &[p, q]),
+        Relation::PointOnCurve(p, _) | Relation::Midpoint(p, _) => all_in(ids, near, &[p]),
+        _ => true,
+    }
+}
+
+// Whether the curves that a relation names are of its sorts, given the ids and sorts of the curves and guesses of their places.
+#[tactic(auto, using(crate::proofs::Sorts::some_sort, crate::proofs::Sorts::same_line, crate::proofs::Sorts::same_round), unfolding(crate::specs::Valid::fits))]
+fn sorts_fit<'a>(r: Relation, ids: &'a [Id], near: &'a [u16], sorts: &'a [Sort]) -> bool
+    requires { (length ids.now ≡ length sorts.now) × Ascends ids.now }
+    ensures { result ≡ fits (λ i. sort_among i ids.now (map sort_number sorts.now)) r }
+{
+    match r {
+        Relation::Coincident(_, _) | Relation::Distance(_, _, _) => true,
+        Relation::PointOnCurve(_, c) => sort_at(ids, near, sorts, c).is_some(),
+        Relation::Collinear(a, b) => {
+            sort_at(ids, near, sorts, a) == Some(Sort::Line)
+                && sort_at(ids, near, sorts, b) == Some(Sort::Line)
+        }
+        Relation::Equal(a, b) => matches!(
+            (sort_at(ids, near, sorts, a), sort_at(ids, near, sorts, b)),
+            (Some(Sort::Line), Some(Sort::Line)) | (Some(Sort::Round), Some(Sort::Round))
+        ),
+        Relation::Length(l, _) | Relation::Midpoint(_, l) => {
+            sort_at(ids, near, sorts, l) == Some(Sort::Line)
+        }
+        Relation::ArcLength(c, _) | Relation::ArcSweep(c, _) => {
+            sort_at(ids, near, sorts, c) == Some(Sort::Round)
+        }
+    }
+}
+
+// Whether two ids of one sort that a relation names differ.
+#[tactic(auto, unfolding(crate::specs::Valid::apart))]
+fn apart(r: Relation) -> bool
+    ensures { result ≡ apart r }
+{
+    match r {
+        Relation::Coincident(a, b)
+        | Relation::Collinear(a, b)
+        | Relation::Equal(a, b)
+        | Relation::Distance(a, b, _) => a != b,
+        _ => true,
+    }
+}
+
+// A relation's references.
 fn relation_sound<'a>(
     r: Relation,
     points: &'a [Id],
     near_points: &'a [u16],
     curves: &'a [Id],
     near_curves: &'a [u16],
-    sorts: &'a [u8],
+    sorts: &'a [Sort],
 ) -> bool
     requires { (length curves.now ≡ length sorts.now) × Ascends points.now × Ascends curves.now }
-    ensures { result ≡ sound_relation (λ p. among p points.now) (λ i. sort_among i curves.now sorts.now) r }
+    ensures { result ≡ sound_relation (λ p. among p points.now) (λ i. sort_among i curves.now (map sort_number sorts.now)) r }
 {
-    match r {
-        Relation::Coincident(p, q) => has(points, near_points, p)
-            & has(points, near_points, q)
-            & (p != q),
-        Relation::PointOnCurve(p, c) => has(points, near_points, p)
-            & (0 < sort_at(curves, near_curves, sorts, c)),
-        Relation::Collinear(a, b) => (sort_at(curves, near_curves, sorts, a) == 1)
-            & (sort_at(curves, near_curves, sorts, b) == 1)
-            & (a != b),
-        Relation::Equal(a, b) => {
-            let s = sort_at(curves, near_curves, sorts, a);
-            let t = sort_at(curves, near_curves, sorts, b);
-            (((s == 1) & (t == 1)) | ((s == 2) & (t == 2))) & (a != b)
-        }
-        Relation::Length(l, _) => sort_at(curves, near_curves, sorts, l) == 1,
-        Relation::Distance(p, q, _) => has(points, near_points, p)
-            & has(points, near_points, q)
-            & (p != q),
-        Relation::Midpoint(p, l) => has(points, near_points, p)
-            & (sort_at(curves, near_curves, sorts, l) == 1),
-        Relation::ArcLength(c, _) => sort_at(curves, near_curves, sorts, c) == 2,
-        Relation::ArcSweep(c, _) => sort_at(curves, near_curves, sorts, c) == 2,
-    }
+    points_known(r, points, near_points) && sorts_fit(r, curves, near_curves, sorts) && apart(r)
 }
 
-// The first broken rule of the first n relations, 0 for none.
+// The first rule that the relations break.
 fn relations_fault<'a>(
-    relations: [RelationSlot; 256],
-    n: usize,
+    relations: &[RelationSlot],
     points: &'a [Id],
     near_points: &'a [u16],
     curves: &'a [Id],
     near_curves: &'a [u16],
-    sorts: &'a [u8],
-) -> u8
-    requires { (n ≤ 256) × (length curves.now ≡ length sorts.now) × Ascends points.now × Ascends curves.now }
-    ensures { RelationsChecked points.now curves.now sorts.now (map (λ s. s.relation) (take n relations)) result }
+    sorts: &'a [Sort],
+) -> Result<(), Refusal>
+    requires { (length curves.now ≡ length sorts.now) × Ascends points.now × Ascends curves.now }
+    ensures { RelationsChecked points.now curves.now (map sort_number sorts.now) (map (λ s. s.relation) relations.now) (refusal_number result) }
 {
-    let mut i: usize = 0;
-    while i < n {
-        let slot = relations[i];
-        let r = slot.relation;
-        i += 1;
-        if !relation_ok(r) {
-            return 4;
+    for slot in relations {
+        if !relation_ok(slot.relation) {
+            return Err(Refusal::BadValue);
         }
-        if !relation_sound(r, points, near_points, curves, near_curves, sorts) {
-            return 5;
+        if !relation_sound(
+            slot.relation,
+            points,
+            near_points,
+            curves,
+            near_curves,
+            sorts,
+        ) {
+            return Err(Refusal::BadId);
         }
     }
-    0
+    Ok(())
 }
 
-// The first broken rule of the curves and relations, 0 for none, given the ids of the points.
-fn shapes_fault<'a>(sk: Sketch, points: &'a [Id], near_points: &'a [u16]) -> u8
-    requires { Sized sk × Ascends points.now × (points.now ≡ point_ids (view sk).points) }
-    ensures { result ≡ shapes_fault (view sk) }
+// The first rule that the curves and relations break, given the ids of the points.
+fn shapes_fault<'a>(sk: &Sketch, points: &'a [Id], near_points: &'a [u16]) -> Result<(), Refusal>
+    requires { Sized sk.now × Ascends points.now × (points.now ≡ point_ids (view sk.now).points) }
+    ensures { refusal_number result ≡ shapes_fault (view sk.now) }
 {
-    let nc = sk.ncurves;
-    let curves = sk.curves;
+    let curves = &sk.curves[..sk.ncurves];
     let mut ids: [Id; 128] = [0; 128];
-    let mut sorts = [0u8; 128];
+    let mut sorts = [Sort::Line; 128];
     let mut near = [0u16; 1024];
-    let c = curves_fault(
+    curves_fault(
         curves,
-        nc,
         sk.next,
         points,
         near_points,
         &mut ids,
         &mut sorts,
         &mut near,
-    );
-    if c != 0 {
-        return c;
-    }
-    let relations = sk.relations;
-    let nr = sk.nrelations;
+    )?;
     relations_fault(
-        relations,
-        nr,
+        &sk.relations[..sk.nrelations],
         points,
         near_points,
-        &ids[..nc],
+        &ids[..curves.len()],
         &near,
-        &sorts[..nc],
+        &sorts[..curves.len()],
     )
 }
 
-// 3, 4 or 5 for a sketch that no image gives, 0 for one that an image gives.
-pub fn fault(sk: Sketch) -> u8
-    ensures { result ≡ sketch_fault sk }
+// Whether a sketch's counts are within its tables.
+fn counts_fit(sk: &Sketch) -> bool
+    ensures { result ≡ counts_fit sk.now }
 {
-    let np = sk.npoints;
-    let nc = sk.ncurves;
-    let nr = sk.nrelations;
-    let next = sk.next;
-    if (512 < np) | (128 < nc) | (256 < nr) {
-        return 3;
+    sk.npoints <= 512 && sk.ncurves <= 128 && sk.nrelations <= 256
+}
+
+// Whether an image gives a sketch, or how its image would be refused.
+pub fn fault(sk: Sketch) -> Result<(), Refusal>
+    ensures { refusal_number result ≡ sketch_fault sk }
+{
+    if !counts_fit(&sk) {
+        return Err(Refusal::BadCount);
     }
-    if next < 1 {
-        return 4;
+    if sk.next < 1 {
+        return Err(Refusal::BadValue);
     }
-    let points = sk.points;
+    let points = &sk.points[..sk.npoints];
     let mut ids: [Id; 512] = [0; 512];
     let mut near = [0u16; 1024];
-    let p = points_fault(points, np, next, &mut ids, &mut near);
-    if p != 0 {
-        return p;
-    }
-    shapes_fault(sk, &ids[..np], &near)
+    points_fault(points, sk.next, &mut ids, &mut near)?;
+    shapes_fault(&sk, &ids[..points.len()], &near)
 }

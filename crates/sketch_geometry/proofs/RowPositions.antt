@@ -4,9 +4,9 @@ use mathlib.Core.Bool.{Bool, true, false, ◌||◌}
 use mathlib.Core.List.{List, [], ◌∷◌, map}
 use Prim.Native.Nat.{ℕ, ◌/◌, ◌≤◌, ◌<◌}
 use native.Mathlib.Omega.{arith}
-use lib.ListN.{length, get_or, length-map}
+use lib.ListN.{length, length-map}
 use lib.Dec.{eqb}
-use borrow.Author.Tests.{eq-eqb, ne_eqb, eqb-true}
+use borrow.Author.Tests.{ne_eqb, eqb-true}
 use Rattle.geom.specs.Plane.{vec}
 use Rattle.geom.specs.declared.Vec2.{Vec2}
 use Rattle.sketch.specs.declared.Point.{Point}
@@ -22,7 +22,7 @@ use Rattle.rows.specs.Rows.{row_in, ids_in, HoldsPoints}
 use Rattle.rows.proofs.Holds as H
 use Rattle.edit_plan.specs.Tables.{moved}
 use Rattle.sketch_geometry.specs.declared.Moved.{Moved}
-use Rattle.sketch_geometry.specs.declared.Moved.TheVariants.{Nothing, To}
+use Rattle.std.specs.Prelude.{Option, Some, None}
 use Rattle.sketch_geometry.specs.Geometry.{nowhere, position_of}
 use Rattle.sketch_geometry.specs.Positions.{points_after_move}
 use Rattle.sketch_geometry.proofs.Found.{point_at_lem, point_nowhere}
@@ -56,14 +56,14 @@ module _ (i : ℕ) (v : Vec2) where
         go false e w = w
 
 -- every other point stays
-module _ (ps : List Point) (id : ℕ) {m : Moved} where
-  pub none_moved : m ≡ Nothing → position_of ps id ≡ position_of (points_after_move m ps) id
+module _ (ps : List Point) (id : ℕ) {m : Option Moved} where
+  pub none_moved : m ≡ None → position_of ps id ≡ position_of (points_after_move m ps) id
   unfolding points_after_move
   none_moved e = rw e
 
-  pub another_moved : {i : ℕ} {v : Vec2} → m ≡ To i v → (i ≡ id → ⊥) → position_of ps id ≡ position_of (points_after_move m ps) id
+  pub another_moved : {x : Moved} → m ≡ Some x → (x.point ≡ id → ⊥) → position_of ps id ≡ position_of (points_after_move m ps) id
   unfolding points_after_move
-  another_moved {i} {v} e h = rw e (sym (moved_other i v id h ps))
+  another_moved {x} e h = rw e (sym (moved_other x.point x.to id h ps))
 
 -- ---- a point by its id
 
@@ -79,15 +79,15 @@ module _ {ps : List Point} {points : List ℕ} (w : HoldsPoints ps points) {id k
     there : among id (point_ids ps) ≡ true
     there = among_at id (point_ids ps) k (rw (length-map ps (λ (p : Point). p.id)) within) (get_or_mapped (λ (p : Point). p.id) 0 no_point ps k within ∙ H.point_here w f q)
 
-    pub moved_there : {m : Moved} {i : ℕ} {v : Vec2} → m ≡ To i v → i ≡ id → v ≡ position_of (points_after_move m ps) id
+    pub moved_there : {m : Option Moved} {x : Moved} → m ≡ Some x → x.point ≡ id → x.to ≡ position_of (points_after_move m ps) id
     unfolding points_after_move
-    moved_there {v = v} e h = rw (e, h) (sym (moved_itself id v ps there))
+    moved_there {x = x} e h = rw (e, h) (sym (moved_itself id x.to ps there))
 
   module _ (q : length points / point_size ≤ k) where
     pub position_missing : nowhere ≡ position_of ps id
     position_missing = sym (point_nowhere id ps (H.point_nowhere w f q))
 
-    pub missing_after : (m : Moved) → nowhere ≡ position_of (points_after_move m ps) id
+    pub missing_after : (m : Option Moved) → nowhere ≡ position_of (points_after_move m ps) id
     unfolding points_after_move
-    missing_after Nothing = position_missing
-    missing_after (To i v) = sym (point_nowhere id (map (moved i v) ps) (rw (moved_ids i v ps) (H.point_nowhere w f q)))
+    missing_after None = position_missing
+    missing_after (Some x) = sym (point_nowhere id (map (moved x.point x.to) ps) (rw (moved_ids x.point x.to ps) (H.point_nowhere w f q)))

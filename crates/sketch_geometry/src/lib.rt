@@ -4,19 +4,11 @@
 pub mod positions;
 
 use geom::Vec2;
-use shape::Shape;
 use sketch::Id;
-
-// A curve's shape; a freeform curve has none.
-#[derive(Clone, Copy)]
-pub enum Outline {
-    Freeform,
-    Analytic(Shape),
-}
 
 // A point that has moved, by its id, and where to; an image still has it where it was.
 #[derive(Clone, Copy)]
-pub enum Moved {
-    Nothing,
-    To(Id, Vec2),
+pub struct Moved {
+    pub point: Id,
+    pub to: Vec2,
 }

@@ -5,7 +5,7 @@ ghost use Rattle.image.specs.Decode.{read_point};
 ghost use Rattle.sketch_geometry.specs.Geometry.{nowhere};
 ghost use Rattle.sketch_geometry.specs.Positions.{PositionIn, PositionAfter, ShapeFrom};
 
-use crate::{Moved, Outline};
+use crate::Moved;
 use geom::Vec2;
 use image::{POINT_SIZE, read_x, read_y};
 use rows::point_record_of;
@@ -23,9 +23,7 @@ fn nowhere() -> Vec2
 fn coordinates(r: &[u8]) -> Vec2
     ensures { result ≡ vec (read_point r.now).x (read_point r.now).y }
 {
-    let x = read_x(r);
-    let y = read_y(r);
-    Vec2::new(x, y)
+    Vec2::new(read_x(r), read_y(r))
 }
 
 // The point with an id; `near` guesses its place.
@@ -39,45 +37,41 @@ pub fn position_of<'a>(id: Id, points: &'a [u8], near: &'a [u16]) -> Vec2
     coordinates(r)
 }
 
-// The point with an id, once a point has moved.
-pub fn position_after<'a>(id: Id, points: &'a [u8], near: &'a [u16], moved: Moved) -> Vec2
+// The point with an id, once a point may have moved.
+pub fn position_after<'a>(id: Id, points: &'a [u8], near: &'a [u16], moved: Option<Moved>) -> Vec2
     ensures { PositionAfter points.now moved id result }
 {
     match moved {
-        Moved::Nothing => position_of(id, points, near),
-        Moved::To(i, v) => {
-            if i == id {
-                let r = point_record_of(points, near, id);
-                if r.len() < POINT_SIZE {
-                    return nowhere();
-                }
-                return v;
+        Some(m) if m.point == id => {
+            if point_record_of(points, near, id).len() < POINT_SIZE {
+                return nowhere();
             }
-            position_of(id, points, near)
+            m.to
         }
+        _ => position_of(id, points, near),
     }
 }
 
-// The shape of a curve by its kind.
-pub fn shape_of<'a>(kind: CurveKind, points: &'a [u8], near: &'a [u16]) -> Outline
+// The shape of a curve by its kind; a freeform curve has none.
+pub fn shape_of<'a>(kind: CurveKind, points: &'a [u8], near: &'a [u16]) -> Option<Shape>
     ensures { ShapeFrom points.now kind result }
 {
     match kind {
         CurveKind::Line(a, b) => {
             let p = position_of(a, points, near);
             let q = position_of(b, points, near);
-            Outline::Analytic(Shape::from_line(p, q))
+            Some(Shape::from_line(p, q))
         }
         CurveKind::Arc(c, a, b) => {
             let o = position_of(c, points, near);
             let p = position_of(a, points, near);
             let q = position_of(b, points, near);
-            Outline::Analytic(Shape::from_arc(o, p, q))
+            Some(Shape::from_arc(o, p, q))
         }
         CurveKind::Circle(c, r) => {
             let o = position_of(c, points, near);
-            Outline::Analytic(Shape::from_circle(o, r))
+            Some(Shape::from_circle(o, r))
         }
-        _ => Outline::Freeform,
+        _ => None,
     }
 }

@@ -3,6 +3,7 @@ use mathlib.Core.Path.{◌≡◌, refl, sym, ap, ◌∙◌}
 use mathlib.Core.Bool.{true, ◌&&◌}
 use mathlib.Core.List.{List, map}
 use Prim.Native.Nat.{ℕ, zero, suc}
+use native.Mathlib.Omega.{arith}
 use lib.ListN.{length, take}
 use lib.Dec.{leb}
 use borrow.Author.Tests.{le-leb}
@@ -16,8 +17,12 @@ use Rattle.image.proofs.RoundTrips.{image_kept, result_refused, result_number, r
 use Rattle.image.proofs.GoodImages.{drawing_good}
 use Rattle.rows.specs.Rows.{point_table, curve_table, relation_table, points_in, curves_in, relations_in}
 use Rattle.rows.proofs.GoodTables.{points_in_lem, curves_in_lem, relations_in_lem, points_count, curves_count, relations_count}
-use Rattle.sketch_image.specs.declared.ImageRead.{ImageRead}
-use Rattle.sketch_image.specs.SketchImage.{outcome, empty_drawing, drawing_in}
+use Rattle.std.specs.Prelude.{Ok, Err}
+use Rattle.refusal.specs.declared.Refusal.{Refusal}
+use Rattle.refusal.specs.Refusals.{number}
+use Rattle.refusal.proofs.Numbers.{number_above_0}
+use Rattle.sketch.specs.Lists.{guard_number}
+use Rattle.sketch_image.specs.SketchImage.{ImageRead, read_of, outcome, empty_drawing, drawing_in, ReadAnswer}
 
 -- ---- the sketch of a good image
 
@@ -56,6 +61,18 @@ drawing_accepted s r o z = sym (ap drawing_in (sym o ∙ ap (λ (n : ℕ). resul
 
 pub accepted_as : (s : List ℕ) {n : ℕ} → n ≡ image_fault s → n ≡ 0 → (r : ImageRead) → r.refusal ≡ 0 → view r.sketch ≡ drawing_of s → outcome r ≡ parse s
 accepted_as s e h r f v = rw (f, v, ← e, h)
+
+pub read_refused : (s : List ℕ) (r : Refusal) → number r ≡ image_fault s → ReadAnswer s (read_of (Err r))
+unfolding guard_number
+read_refused s r e =
+    let n = number_above_0 r in
+    let o = refused_by_lem s e (λ z. omega arith) (read_of (Err r)) refl in
+    record { result_is = o; drawing_is = drawing_refused s (read_of (Err r)) o (λ z. omega arith) refl; sound = refl }
+
+pub read_accepted : (s : List ℕ) (sk : Sketch) → 0 ≡ image_fault s → (view sk ≡ drawing_of s) × (sketch_fault sk ≡ 0) → ReadAnswer s (read_of (Ok sk))
+read_accepted s sk e h =
+    let o = accepted_as s e refl (read_of (Ok sk)) refl h.0 in
+    record { result_is = o; drawing_is = drawing_accepted s (read_of (Ok sk)) o refl; sound = h.1 }
 
 -- ---- a reader's answer that stands for what the bytes are read as
 

@@ -14,11 +14,15 @@ use Rattle.sketch.specs.Valid.{sketch_fault}
 use Rattle.sketch.specs.declared.Sketch.{Sketch}
 use Rattle.sketch.proofs.Facts.{valid_fault}
 use Rattle.sketch.proofs.Sketches.{sketch_valid}
-use Rattle.sketch_image.specs.declared.ImageRead.{ImageRead}
 use Rattle.image.specs.Image.{refused, accepted, image_fault, drawing_of, result_of, parse}
 use Rattle.image.specs.Encode.{drawing_size, encode}
 use Rattle.image.specs.Stored.{Stored}
-use Rattle.sketch_image.specs.SketchImage.{outcome, empty_drawing, drawing_in, ReadAnswer, write_fault, ImageWritten}
+use native.Mathlib.Omega.{arith}
+use Rattle.std.specs.Prelude.{Err}
+use Rattle.refusal.specs.declared.Refusal.{Refusal}
+use Rattle.refusal.specs.Refusals.{number}
+use Rattle.refusal.proofs.Numbers.{number_above_0}
+use Rattle.sketch_image.specs.SketchImage.{ImageRead, read_of, outcome, drawing_in, ReadAnswer, write_fault, ImageWritten}
 use Rattle.sketch_image.specs.RoundTrip.{ReadBack}
 use Rattle.image.proofs.RoundTrips.{length_encode, parse_encode, result_refused, result_accepted}
 
@@ -37,13 +41,15 @@ written_fault a r h = go (eqb a 0) refl h
     go false e h = h
 
 module _ (s : Sketch) (before now : List ℕ) {n : ℕ} (w : ImageWritten s before now n) where
-  pub back_refused : (n ≡ 0 → ⊥) → (r : ImageRead) → r.refusal ≡ n → view r.sketch ≡ empty_drawing → ReadBack s before now r
-  back_refused z r e v =
-      let o : result_of (write_fault s (length before)) (view s) ≡ refused r.refusal = ap (λ (k : ℕ). result_of k (view s)) (sym w.number ∙ sym e) ∙ result_refused r.refusal (view s) (λ h. z (sym e ∙ h)) in
+  pub back_refused : (r : Refusal) → n ≡ number r → ReadBack s before now (read_of (Err r))
+  unfolding result_of
+  back_refused r e =
+      let above = number_above_0 r in
+      let o : result_of (write_fault s (length before)) (view s) ≡ refused (number r) = ap (λ (k : ℕ). result_of k (view s)) (sym w.number ∙ e) ∙ result_refused (number r) (view s) (λ z. omega arith) in
       record {
-        same = result_refused r.refusal (view r.sketch) (λ h. z (sym e ∙ h)) ∙ sym o;
-        drawing_is = v ∙ sym (ap drawing_in o);
-        written = subst (ImageWritten s before now) (sym e) w;
+        same = result_refused (number r) (view (read_of (Err r)).sketch) (λ z. omega arith) ∙ sym o;
+        drawing_is = sym (ap drawing_in o);
+        written = subst (ImageWritten s before now) e w;
       }
 
   module _ (z : n ≡ 0) where

@@ -36,11 +36,10 @@ pub over_where_fits : (l : List ℕ) (at : ℕ) (b : List ℕ) {m : List ℕ} {s
 over_where_fits l at b e h w = w ∙ over_fits l at b (rw e h)
 
 -- a curve of eight slots is written in a record's size
-pub each_at : {A : Type 0} (P : A → Type 0) (l : List A) (n i : ℕ) (none : A) → Each P (take n l) → i < n → i < length l → P (get_or l i none)
-each_at P [] n i none w p q = absurd (omega arith)
-each_at P (a ∷ l) zero i none w p q = absurd (omega arith)
-each_at P (a ∷ l) (suc n) zero none w p q = w.0
-each_at P (a ∷ l) (suc n) (suc i) none w p q = each_at P l n i none w.1 (omega arith) (omega arith)
+pub each_at : {A : Type 0} (P : A → Type 0) (l : List A) (i : ℕ) (none : A) → Each P l → i < length l → P (get_or l i none)
+each_at P [] i none w q = absurd (omega arith)
+each_at P (a ∷ l) zero none w q = w.0
+each_at P (a ∷ l) (suc i) none w q = each_at P l i none w.1 (omega arith)
 
 each_sized : (cs : List Curve) → Each (λ (c : Curve). length c.slots ≡ 8) cs → Sized encode_curve curve_size cs
 each_sized [] w = tt

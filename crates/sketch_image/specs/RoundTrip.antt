@@ -2,9 +2,8 @@
 use Rattle.std.specs.Prelude.{ℕ, ◌≡◌, List, length}
 use Rattle.sketch.specs.Drawing.{view}
 use Rattle.sketch.specs.declared.Sketch.{Sketch}
-use Rattle.sketch_image.specs.declared.ImageRead.{ImageRead}
 use Rattle.image.specs.Image.{result_of}
-use Rattle.sketch_image.specs.SketchImage.{outcome, drawing_in, write_fault, ImageWritten}
+use Rattle.sketch_image.specs.SketchImage.{ImageRead, outcome, drawing_in, write_fault, ImageWritten}
 
 -- the writer's refusal, with the empty drawing, or the sketch's own drawing; and the buffer as the writer leaves it
 pub record ReadBack (s : Sketch) (before later : List ℕ) (r : ImageRead) : Type 0 where

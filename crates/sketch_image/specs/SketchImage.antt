@@ -1,5 +1,5 @@
 -- What the reader answers, and what a write leaves in the buffer.
-use Rattle.std.specs.Prelude.{ℕ, ◌≡◌, List, [], length, leb, eqb}
+use Rattle.std.specs.Prelude.{ℕ, ◌≡◌, List, [], length, leb, eqb, Result, Ok, Err}
 use Rattle.big_endian.specs.Fields.{over}
 use Rattle.sketch.specs.Lists.{ite, guard_number}
 use Rattle.sketch.specs.Drawing.{Drawing, view}
@@ -7,9 +7,23 @@ use Rattle.sketch.specs.Valid.{sketch_fault}
 use Rattle.sketch.specs.declared.Sketch.{Sketch}
 use Rattle.image.specs.Image.{ParseResult, refused, accepted, result_of, parse}
 use Rattle.image.specs.Encode.{drawing_size, encode}
-use Rattle.sketch_image.specs.declared.ImageRead.{ImageRead}
+use Rattle.refusal.specs.declared.Refusal.{Refusal}
+use Rattle.refusal.specs.Refusals.{number}
 
 -- ---- reading
+
+-- what reading an image answers: the number of a refusal, or 0 and the sketch
+pub record ImageRead : Type 0 where
+  pub sketch : Sketch
+  pub refusal : ℕ
+
+-- beside a refusal stands the empty sketch
+abbrev pub empty_sketch : Sketch
+empty_sketch = record { next = 1; npoints = 0; ncurves = 0; nrelations = 0; points = []; curves = []; relations = [] }
+
+abbrev pub read_of : Result Sketch Refusal → ImageRead
+read_of (Ok sk) = record { sketch = sk; refusal = 0 }
+read_of (Err r) = record { sketch = empty_sketch; refusal = number r }
 
 -- what the reader's answer stands for
 abbrev pub outcome : ImageRead → ParseResult

@@ -4,60 +4,43 @@ ghost use Rattle.sketch.specs.Drawing.{view};
 ghost use Rattle.sketch.specs.Valid.{sketch_fault};
 ghost use Rattle.image.specs.Image.{drawing_of, image_fault};
 ghost use Rattle.rows.specs.Rows.{points_in, curves_in, relations_in};
-ghost use Rattle.sketch_image.specs.SketchImage.{empty_drawing, ReadAnswer};
+ghost use Rattle.sketch_image.specs.SketchImage.{read_of, ReadAnswer};
 
-use crate::ImageRead;
+use refusal::Refusal;
 use rows::{
     curve_at, curve_count, curves_of, image_fault, next_id, point_at, point_count, points_of,
     relation_at, relation_count, relations_of,
 };
-use sketch::{Curve, CurveKind, Id, Point, Relation, RelationSlot, Sketch};
+use sketch::{Curve, CurveKind, Point, Relation, RelationSlot, Sketch};
 
-fn no_points() -> [Point; 512]
-    ensures { length result ≡ 512 }
-{
-    let none = Point {
-        id: 0,
-        fixed: false,
-        x: 0.0,
-        y: 0.0,
-    };
-    [none; 512]
-}
+// What a table holds past its count.
+const NO_POINT: Point = Point {
+    id: 0,
+    fixed: false,
+    x: 0.0,
+    y: 0.0,
+};
 
-fn no_curves() -> [Curve; 128]
-    ensures { length result ≡ 128 }
-{
-    let slots: [Id; 8] = [0; 8];
-    let none = Curve {
-        id: 0,
-        construction: false,
-        centerline: false,
-        infinite: false,
-        kind: CurveKind::Line(0, 0),
-        slots,
-    };
-    [none; 128]
-}
+const NO_CURVE: Curve = Curve {
+    id: 0,
+    construction: false,
+    centerline: false,
+    infinite: false,
+    kind: CurveKind::Line(0, 0),
+    slots: [0; 8],
+};
 
-fn no_relations() -> [RelationSlot; 256]
-    ensures { length result ≡ 256 }
-{
-    let none = RelationSlot {
-        relation: Relation::Coincident(0, 0),
-    };
-    [none; 256]
-}
+const NO_RELATION: RelationSlot = RelationSlot {
+    relation: Relation::Coincident(0, 0),
+};
 
 fn read_points(points: &[u8], n: usize) -> [Point; 512]
     requires { (n ≤ 512) × (n ≡ length (points_in points.now)) }
     ensures { take n result ≡ points_in points.now }
 {
-    let mut slots = no_points();
-    let mut i: usize = 0;
-    while i < n {
+    let mut slots = [NO_POINT; 512];
+    for i in 0..n {
         slots[i] = point_at(points, i);
-        i += 1;
     }
     slots
 }
@@ -66,11 +49,9 @@ fn read_curves(curves: &[u8], n: usize) -> [Curve; 128]
     requires { (n ≤ 128) × (n ≡ length (curves_in curves.now)) }
     ensures { take n result ≡ curves_in curves.now }
 {
-    let mut slots = no_curves();
-    let mut i: usize = 0;
-    while i < n {
+    let mut slots = [NO_CURVE; 128];
+    for i in 0..n {
         slots[i] = curve_at(curves, i);
-        i += 1;
     }
     slots
 }
@@ -79,12 +60,11 @@ fn read_relations(relations: &[u8], n: usize) -> [RelationSlot; 256]
     requires { (n ≤ 256) × (n ≡ length (relations_in relations.now)) }
     ensures { map (λ t. t.relation) (take n result) ≡ relations_in relations.now }
 {
-    let mut slots = no_relations();
-    let mut i: usize = 0;
-    while i < n {
-        let relation = relation_at(relations, i);
-        slots[i] = RelationSlot { relation };
-        i += 1;
+    let mut slots = [NO_RELATION; 256];
+    for i in 0..n {
+        slots[i] = RelationSlot {
+            relation: relation_at(relations, i),
+        };
     }
     slots
 }
@@ -114,38 +94,12 @@ fn decode_sketch(s: &[u8]) -> Sketch
     }
 }
 
-// The answer of a refusal: its number and the empty sketch.
-pub fn refuse(number: u8) -> ImageRead
-    ensures { (result.refusal ≡ number) × (sketch_fault result.sketch ≡ 0) × (view result.sketch ≡ empty_drawing) }
-{
-    let points = no_points();
-    let curves = no_curves();
-    let relations = no_relations();
-    let sketch = Sketch {
-        next: 1,
-        npoints: 0,
-        ncurves: 0,
-        nrelations: 0,
-        points,
-        curves,
-        relations,
-    };
-    ImageRead {
-        sketch,
-        refusal: number,
-    }
-}
-
-// Reads an image: its sketch, or the number of the first rule that it breaks, with an empty sketch. The bytes are tested
-// first, and tables made of good ones only: a refusal costs no table, and no table is copied to be tested.
-pub fn read(s: &[u8]) -> ImageRead
-    ensures { ReadAnswer s.now result }
+// Reads an image: its sketch, or the first rule that it breaks. The bytes are tested first, and tables made of good ones only:
+// a refusal costs no table, and no table is copied to be tested.
+pub fn read(s: &[u8]) -> Result<Sketch, Refusal>
+    ensures { ReadAnswer s.now (read_of result) }
 {
     let mut near = [0u16; 1024];
-    let fault = image_fault(s, &mut near);
-    if fault != 0 {
-        return refuse(fault);
-    }
-    let sketch = decode_sketch(s);
-    ImageRead { sketch, refusal: 0 }
+    image_fault(s, &mut near)?;
+    Ok(decode_sketch(s))
 }

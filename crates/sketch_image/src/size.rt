@@ -10,13 +10,7 @@ use image::layout::{CURVE_SIZE, HEADER_SIZE, POINT_SIZE, RELATION_SIZE};
 pub fn image_size(np: usize, nc: usize, nr: usize) -> usize
     ensures { result ≡ ite (leb np limits.points && leb nc limits.curves && leb nr limits.relations) (size_of np nc nr) 0 }
 {
-    if 512 < np {
-        return 0;
-    }
-    if 128 < nc {
-        return 0;
-    }
-    if 256 < nr {
+    if 512 < np || 128 < nc || 256 < nr {
         return 0;
     }
     HEADER_SIZE + np * POINT_SIZE + nc * CURVE_SIZE + nr * RELATION_SIZE

@@ -1,6 +1,7 @@
 // The writer of images.
-ghost use Rattle.std.specs.Prelude.{◌≡◌, map, ◌+◌, ◌*◌, ◌≤◌, length, take};
+ghost use Rattle.std.specs.Prelude.{◌≡◌, map, ◌+◌, ◌*◌, ◌≤◌, length};
 ghost use Rattle.big_endian.specs.Fields.{over};
+ghost use Rattle.refusal.specs.Refusals.{refusal_number};
 ghost use Rattle.sketch.specs.Lists.{concat_map};
 ghost use Rattle.image.specs.Encode.{encode_point, encode_curve, encode_relation};
 ghost use Rattle.image.specs.Stored.{Each};
@@ -10,71 +11,56 @@ ghost use Rattle.sketch_image.specs.SketchImage.{ImageWritten};
 use crate::size::image_size;
 use image::layout::{CURVE_SIZE, HEADER_SIZE, POINT_SIZE, RELATION_SIZE};
 use image::{write_curve, write_header, write_point, write_relation};
+use refusal::Refusal;
 use sketch::{Curve, Point, RelationSlot, Sketch};
 
-fn write_points(buf: &mut [u8], from: usize, points: [Point; 512], n: usize)
-    requires { (n ≤ 512) × (from + n * point_size ≤ length buf.old) }
-    ensures { buf.new ≡ over buf.old from (concat_map encode_point (take n points)) }
+fn write_points(buf: &mut [u8], from: usize, points: &[Point])
+    requires { from + length points.now * point_size ≤ length buf.old }
+    ensures { buf.new ≡ over buf.old from (concat_map encode_point points.now) }
 {
-    let mut i: usize = 0;
-    while i < n {
-        let p = points[i];
-        write_point(buf, from + i * POINT_SIZE, p);
-        i += 1;
+    for (i, p) in points.iter().enumerate() {
+        write_point(buf, from + i * POINT_SIZE, *p);
     }
 }
 
-fn write_curves(buf: &mut [u8], from: usize, curves: [Curve; 128], n: usize)
-    requires { (n ≤ 128) × (from + n * curve_size ≤ length buf.old) × Each (λ c. length c.slots ≡ 8) (take n curves) }
-    ensures { buf.new ≡ over buf.old from (concat_map encode_curve (take n curves)) }
+fn write_curves(buf: &mut [u8], from: usize, curves: &[Curve])
+    requires { (from + length curves.now * curve_size ≤ length buf.old) × Each (λ c. length c.slots ≡ 8) curves.now }
+    ensures { buf.new ≡ over buf.old from (concat_map encode_curve curves.now) }
 {
-    let mut i: usize = 0;
-    while i < n {
-        let c = curves[i];
-        write_curve(buf, from + i * CURVE_SIZE, c);
-        i += 1;
+    for (i, c) in curves.iter().enumerate() {
+        write_curve(buf, from + i * CURVE_SIZE, *c);
     }
 }
 
-fn write_relations(buf: &mut [u8], from: usize, relations: [RelationSlot; 256], n: usize)
-    requires { (n ≤ 256) × (from + n * relation_size ≤ length buf.old) }
-    ensures { buf.new ≡ over buf.old from (concat_map encode_relation (map (λ s. s.relation) (take n relations))) }
+fn write_relations(buf: &mut [u8], from: usize, relations: &[RelationSlot])
+    requires { from + length relations.now * relation_size ≤ length buf.old }
+    ensures { buf.new ≡ over buf.old from (concat_map encode_relation (map (λ s. s.relation) relations.now)) }
 {
-    let mut i: usize = 0;
-    while i < n {
-        let slot = relations[i];
-        let r = slot.relation;
-        write_relation(buf, from + i * RELATION_SIZE, r);
-        i += 1;
+    for (i, slot) in relations.iter().enumerate() {
+        write_relation(buf, from + i * RELATION_SIZE, slot.relation);
     }
 }
 
-// Writes a sketch's image to the buffer's front and answers 0; or answers 3, 4 or 5 for a sketch that no image gives,
-// or 25 for a buffer that is too short, and leaves the buffer.
-pub fn write(sk: Sketch, buf: &mut [u8]) -> u8
-    ensures { ImageWritten sk buf.old buf.new result }
+// Writes a sketch's image to the buffer's front. A sketch that no image gives is refused as its image would be, then a buffer
+// that is too short, and the buffer is left.
+pub fn write(sk: Sketch, buf: &mut [u8]) -> Result<(), Refusal>
+    ensures { ImageWritten sk buf.old buf.new (refusal_number result) }
 {
-    let fault = sketch::fault(sk);
-    if fault != 0 {
-        return fault;
-    }
+    sketch::fault(sk)?;
     let np = sk.npoints;
     let nc = sk.ncurves;
     let nr = sk.nrelations;
     if buf.len() < image_size(np, nc, nr) {
-        return 25;
+        return Err(Refusal::ShortBuffer);
     }
+    let points = &sk.points[..np];
+    let curves = &sk.curves[..nc];
+    let relations = &sk.relations[..nr];
+    let curves_at = HEADER_SIZE + np * POINT_SIZE;
+    let relations_at = curves_at + nc * CURVE_SIZE;
     write_header(buf, sk.next, np, nc, nr);
-    let points = sk.points;
-    write_points(buf, HEADER_SIZE, points, np);
-    let curves = sk.curves;
-    write_curves(buf, HEADER_SIZE + np * POINT_SIZE, curves, nc);
-    let relations = sk.relations;
-    write_relations(
-        buf,
-        HEADER_SIZE + np * POINT_SIZE + nc * CURVE_SIZE,
-        relations,
-        nr,
-    );
-    0
+    write_points(buf, HEADER_SIZE, points);
+    write_curves(buf, curves_at, curves);
+    write_relations(buf, relations_at, relations);
+    Ok(())
 }

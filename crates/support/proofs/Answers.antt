@@ -8,8 +8,7 @@ use lib.ListN.{length, take, drop, set, length-map, length-take}
 use lib.Ieee.{Float}
 use Rattle.geom.specs.Plane.{◌-ᵥ◌, normalized}
 use Rattle.geom.specs.declared.Vec2.{Vec2}
-use Rattle.geom.specs.declared.Direction.{Direction}
-use Rattle.geom.specs.declared.Direction.TheVariants.{None, Unit}
+use Rattle.std.specs.Prelude.{Option, Some, None}
 use Rattle.shape.specs.declared.Crossings.{Crossings}
 use Rattle.shape.specs.declared.Crossings.TheVariants.{Zero, One, Two}
 use Rattle.shape.specs.declared.Shape.{Shape}
@@ -17,8 +16,7 @@ use Rattle.shape.specs.declared.Shape.TheVariants.{Line, Round}
 use Rattle.shape.specs.Intersections.{points, crossings, direction_of, crossings_by}
 use Rattle.shape.proofs.CrossingsBy.{crossings_by_lem}
 use Rattle.sketch.specs.Lists.{keep}
-use Rattle.support.specs.declared.Hits.{Hits}
-use Rattle.support.specs.declared.Hits.TheVariants.{Found, Refused}
+use Rattle.bernstein.specs.Answers.{Answer, Found, Refused}
 use Rattle.support.specs.Hits.{HitsResult, found, refused, guard_hits, overlaps, on_piece, shape_hits}
 use Rattle.support.specs.Pieces.{answer_of, list_of, HitsWritten}
 use Rattle.support.specs.Clauses.{HitsAtFront}
@@ -67,10 +65,10 @@ unfolding answer_of list_of
 left_alone (found l c) hx hy n b e = let z : ◌≡◌ {A = ℕ} 0 1 = cc in absurd (omega arith)
 left_alone (refused m c) hx hy n b e = record { answer = sym e; across = refl; up = refl }
 
-module _ (o : HitsResult) (qx qy : List Float) (r : Hits) (w : HitsAtFront o qx qy r) where
+module _ (o : HitsResult) (qx qy : List Float) (r : Answer) (w : HitsAtFront o qx qy r) where
   -- a refusal leaves the lent floats alone
-  pub met_nothing : (hx hy : List Float) (n b : ℕ) → r ≡ Refused n b → HitsWritten o hx hy hx hy r
-  met_nothing hx hy n b e = rw e (left_alone o hx hy n b (sym w.answer ∙ e))
+  pub met_nothing : (hx hy : List Float) (n b : ℕ) → r ≡ Refused n b → HitsWritten o hx hy hx hy (Refused n b)
+  met_nothing hx hy n b e = left_alone o hx hy n b (sym w.answer ∙ e)
 
   module _ (k b : ℕ) (e : r ≡ Found k b) where
     same_count : k ≡ length (list_of o)
@@ -94,29 +92,19 @@ module _ (o : HitsResult) (qx qy : List Float) (r : Hits) (w : HitsAtFront o qx 
     pub hits_fit_Y : k ≤ length qy
     hits_fit_Y = omega (arith, hits_count_Y, length-take k qy)
 
-    pub hits_room_X : (n : ℕ) → length qx ≡ n → n ≤ 28 → (hx : List Float) → 28 ≤ length hx → length (take k qx) ≤ length hx
-    hits_room_X n same few hx room = omega (arith, hits_count_X, hits_fit_X)
-
-    pub hits_room_Y : (n : ℕ) → length qy ≡ n → n ≤ 28 → (hy : List Float) → 28 ≤ length hy → length (take k qy) ≤ length hy
-    hits_room_Y n same few hy room = omega (arith, hits_count_Y, hits_fit_Y)
-
-    pub met_all : (hx hy laterX laterY : List Float) → laterX ≡ take k qx ++ drop (length (take k qx)) hx → laterY ≡ take k qy ++ drop (length (take k qy)) hy
-        → HitsWritten o hx hy laterX laterY (Found k b)
+    pub met_all : (hx hy laterX laterY : List Float) → laterX ≡ take k qx ++ drop k hx → laterY ≡ take k qy ++ drop k hy → HitsWritten o hx hy laterX laterY (Found k b)
     met_all hx hy laterX laterY ex ey =
-        let n : k ≡ length (list_of o) = same_count in
-        let x : length (take k qx) ≡ length (list_of o) = sym hits_count_X ∙ n in
-        let y : length (take k qy) ≡ length (list_of o) = sym hits_count_Y ∙ n in
-        record { answer = sym e ∙ w.answer; across = ex ∙ rw (x, front_x); up = ey ∙ rw (y, front_y) }
+        record { answer = sym e ∙ w.answer; across = ex ∙ rw (front_x, same_count); up = ey ∙ rw (front_y, same_count) }
 
 -- ---- a line or round
 
-pub as_outcome : {o o' : HitsResult} {hx hy laterX laterY : List Float} {r : Hits} → o ≡ o' → HitsWritten o' hx hy laterX laterY r → HitsWritten o hx hy laterX laterY r
+pub as_outcome : {o o' : HitsResult} {hx hy laterX laterY : List Float} {r : Answer} → o ≡ o' → HitsWritten o' hx hy laterX laterY r → HitsWritten o hx hy laterX laterY r
 as_outcome e h = rw e h
 
-pub round_clear : (p : Vec2) (d : Direction) (sh : Shape) (c : Vec2) (r start sweep : Float) → sh ≡ Round c r start sweep → overlaps p d sh ≡ false
+pub round_clear : (p : Vec2) (d : Option Vec2) (sh : Shape) (c : Vec2) (r start sweep : Float) → sh ≡ Round c r start sweep → overlaps p d sh ≡ false
 unfolding overlaps
 round_clear p None sh c r start sweep e = refl
-round_clear p (Unit u) sh c r start sweep e = rw e
+round_clear p (Some u) sh c r start sweep e = rw e
 
 module _ (a b : Vec2) (sh : Shape) (budget : ℕ) where
   pub overlapping : overlaps a (normalized (b -ᵥ a)) sh ≡ true → shape_hits a b sh budget ≡ refused 15 budget
@@ -129,9 +117,9 @@ module _ (a b : Vec2) (sh : Shape) (budget : ℕ) where
   clear e all f = rw (e, f)
 
 -- by the direction of the support
-module _ (a b : Vec2) (sh : Shape) (budget : ℕ) {along : Direction} (d : along ≡ normalized (b -ᵥ a)) {r : Bool} (o : r ≡ overlaps a along sh) where
+module _ (a b : Vec2) (sh : Shape) (budget : ℕ) {along : Option Vec2} (d : along ≡ normalized (b -ᵥ a)) {r : Bool} (o : r ≡ overlaps a along sh) where
   same_overlap : r ≡ overlaps a (normalized (b -ᵥ a)) sh
-  same_overlap = o ∙ ap (λ (x : Direction). overlaps a x sh) d
+  same_overlap = o ∙ ap (λ (x : Option Vec2). overlaps a x sh) d
 
   pub overlapping_along : r ≡ true → shape_hits a b sh budget ≡ refused 15 budget
   overlapping_along h = overlapping a b sh budget (sym same_overlap ∙ h)

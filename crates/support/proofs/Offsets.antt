@@ -1,13 +1,14 @@
 -- Laws of the walks that make the polynomial. Assumes nothing.
-use mathlib.Core.Path.{◌≡◌, refl, sym, ◌∙◌}
-use mathlib.Core.List.{List, ◌++◌, map, append-nil}
-use mathlib.Core.Bool.{Bool, true, false}
+use mathlib.Core.Path.{◌≡◌, refl, sym, ◌∙◌, ap}
+use mathlib.Core.List.{List, [], ◌∷◌, ◌++◌, map, append-nil}
+use mathlib.Core.Bool.{Bool, ◌&&◌}
 use Prim.Native.Nat.{ℕ, ◌+◌, ◌≤◌, ◌<◌}
 use native.Mathlib.Numerals.{add-one}
 use native.Mathlib.Omega.{arith}
 use lib.ListN.{length, take, drop, get_or, set, drop_of_length-le}
 use lib.Seq.{drop-cons}
 use lib.Ieee.{Float, nan, lt}
+use Rattle.std.specs.List.{list_all}
 use Rattle.float.specs.Numbers.{◌⊘◌, 1f, 1e-28}
 use Rattle.float.specs.Order.{max}
 use Rattle.float.specs.Sign.{abs}
@@ -77,12 +78,6 @@ small a = lt a 1e-28
 abbrev pub tiny : Float → Bool
 tiny x = small (abs x)
 
-module _ (c : List Float) (i : ℕ) where
-  pub not_tiny : i < length c → tiny (get_or c i nan) ≡ false → every tiny (drop i c) ≡ false
-  not_tiny h e = rw (drop-cons c i nan h, e)
-
-  pub tiny_too : i < length c → tiny (get_or c i nan) ≡ true → every tiny (drop (i + 1) c) ≡ every tiny (drop i c)
-  tiny_too h e = rw (drop-cons c i nan h, e, add-one)
-
-  pub all_tiny : length c ≤ i → every tiny (drop i c) ≡ true
-  all_tiny h = rw (drop_of_length-le c h)
+pub every_is : {A : Type 0} (f : A → Bool) (l : List A) → list_all f l ≡ every f l
+every_is f [] = refl
+every_is f (x ∷ l) = ap (λ b. f x && b) (every_is f l)

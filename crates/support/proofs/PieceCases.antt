@@ -8,7 +8,7 @@ use lib.ListN.{length, take}
 use lib.Ieee.{Float}
 use Rattle.geom.specs.Plane.{◌-ᵥ◌, normalized}
 use Rattle.geom.specs.declared.Vec2.{Vec2}
-use Rattle.geom.specs.declared.Direction.TheVariants.{None, Unit}
+use Rattle.std.specs.Prelude.{Some, None}
 use Rattle.shape.specs.declared.Shape.{Shape}
 use Rattle.shape.specs.declared.Shape.TheVariants.{Line}
 use Rattle.sketch.specs.Lists.{every}
@@ -30,7 +30,7 @@ module _ (a b : Vec2) (f : Freeform) (budget : ℕ) where
   unfolding freeform_along
   without_direction e = rw e
 
-  module _ (d : Vec2) (e : normalized (b -ᵥ a) ≡ Unit d) (c : List Float) (ec : c ≡ polynomial d a f) where
+  module _ (d : Vec2) (e : normalized (b -ᵥ a) ≡ Some d) (c : List Float) (ec : c ≡ polynomial d a f) where
     pub all_along : every tiny c ≡ true → freeform_hits a b f budget ≡ refused 15 budget
     unfolding freeform_along freeform_by guard_hits
     all_along t = rw (e, ← ec, t)

@@ -1,54 +1,45 @@
 -- Laws of the walk over the roots. Assumes nothing.
 use mathlib.Core.Path.{◌≡◌, refl, sym, ◌∙◌}
 use mathlib.Core.List.{List, [], ◌∷◌, ◌++◌}
-use mathlib.Core.Bool.{Bool, true, false, cond}
+use mathlib.Core.Bool.{Bool, true, false, cond, ◌||◌}
 use Prim.Native.Nat.{ℕ, ◌+◌, ◌≤◌, ◌<◌}
 use native.Mathlib.Numerals.{add-one}
 use native.Mathlib.Omega.{arith}
 use lib.ListN.{length, take, drop, get_or, set, drop_of_length-le, length-set}
 use lib.Seq.{drop-cons, length-take-le}
 use lib.Ieee.{Float, nan, lt, le}
+use Rattle.std.specs.List.{list_any, zip}
 use Rattle.float.specs.Thresholds.{least_of, most_of, at_1e-7}
 use Rattle.float.proofs.Lengths.{exact_1e-7}
 use Rattle.float.specs.Numbers.{1e-7}
-use Rattle.geom.specs.Plane.{◌-ᵥ◌, dot, distance}
+use Rattle.geom.specs.Plane.{vec, ◌-ᵥ◌, dot}
 use Rattle.geom.specs.declared.Vec2.{Vec2}
 use Rattle.geom.proofs.Distances.{distance_below}
 use Rattle.shape.specs.declared.Shape.{Shape}
 use Rattle.shape.specs.Measures.{dist, dist2}
 use Rattle.shape.proofs.Offsets.{dist_at_most}
-use Rattle.support.specs.declared.Hits.TheVariants.{Found, Refused}
+use Rattle.bernstein.specs.Answers.{Found, Refused}
 use Rattle.support.specs.Freeform.{Freeform, point_at}
 use Rattle.support.specs.Hits.{found, refused, guard_hits, has_near_hit, resolved}
-use Rattle.support.specs.Pieces.{zip_points, point_in, answer_of, list_of}
+use Rattle.support.specs.Pieces.{zip_points, answer_of, list_of}
 use Rattle.support.specs.Clauses.{HitsAtFront}
-use Rattle.support.proofs.Coordinates.{points_length, points_across, points_up, points_stored, points_next, points_end}
+use Rattle.support.proofs.Coordinates.{points_length, points_across, points_up, points_stored}
 
 -- ---- near an earlier hit
 
-module _ (q : Vec2) (xs ys : List Float) (i : ℕ) where
-  abbrev pub near_from : Bool
-  near_from = has_near_hit q (zip_points (drop i xs) (drop i ys))
+-- by the square of the distance, where the point is given by its coordinates
+abbrev pub near : Vec2 → Float × Float → Bool
+near q p = let d = vec p.0 p.1 -ᵥ q in lt (dot d d) (least_of at_1e-7)
 
-  module _ (h : i < length xs) (e : length ys ≡ length xs) (p : Vec2) (ep : p ≡ point_in xs ys i) (s : Float) (es : s ≡ dot (p -ᵥ q) (p -ᵥ q)) where
-    by_square : lt s (least_of at_1e-7) ≡ lt (distance p q) 1e-7
-    by_square = rw es (sym (distance_below at_1e-7 exact_1e-7 p q))
-
-    pub near_this : lt s (least_of at_1e-7) ≡ true → near_from ≡ true
-    unfolding has_near_hit
-    near_this t =
-        let d : lt (distance (point_in xs ys i) q) 1e-7 ≡ true = rw ep at (sym by_square ∙ t) in
-        rw (points_next xs ys i h e, d)
-
-    pub near_next : lt s (least_of at_1e-7) ≡ false → has_near_hit q (zip_points (drop (i + 1) xs) (drop (i + 1) ys)) ≡ near_from
-    unfolding has_near_hit
-    near_next t =
-        let d : lt (distance (point_in xs ys i) q) 1e-7 ≡ false = rw ep at (sym by_square ∙ t) in
-        rw (points_next xs ys i h e, d)
-
-  pub near_none : length xs ≤ i → near_from ≡ false
-  unfolding has_near_hit
-  near_none h = rw (points_end xs ys i h)
+pub near_hits : (q : Vec2) (xs ys : List Float) → list_any (near q) (zip xs ys) ≡ has_near_hit q (zip_points xs ys)
+unfolding has_near_hit zip_points
+near_hits q [] ys = refl
+near_hits q (x ∷ xs) [] = refl
+near_hits q (x ∷ xs) (y ∷ ys) = rw (distance_below at_1e-7 exact_1e-7 (vec x y) q) (go (near q (x, y)) (near_hits q xs ys))
+  where
+    go : (t : Bool) {a b : Bool} → a ≡ b → t || a ≡ cond t true b
+    go true e = refl
+    go false e = e
 
 -- ---- the points at the roots
 

@@ -7,14 +7,13 @@ use lib.ListN.{length, take, drop, length-append}
 use lib.Seq.{take_at, length-take-le}
 use lib.Ieee.{Float}
 use Rattle.shape.specs.declared.Shape.{Shape}
-use Rattle.bernstein.specs.declared.Roots.{Roots}
-use Rattle.bernstein.specs.declared.Roots.TheVariants as R
+use Rattle.bernstein.specs.Answers as R
 use Rattle.bernstein.specs.Roots as B
 use Rattle.bernstein.specs.Roots.{roots_of, search_of, left_in, Searched}
 use Rattle.bernstein.proofs.Levels.{room_enough}
-use Rattle.support.specs.declared.Hits.TheVariants.{Refused}
+use Rattle.bernstein.specs.Answers.{Refused}
 use Rattle.support.specs.Freeform.{Freeform}
-use Rattle.support.specs.Hits.{found, refused, resolved, resolved_at}
+use Rattle.support.specs.Hits.{resolved, resolved_at}
 use Rattle.support.specs.Pieces.{HitsWritten}
 use Rattle.support.proofs.Answers.{met_refused}
 
@@ -39,7 +38,7 @@ found_fits (B.found l b) m left lent later e g =
     omega (arith, ap length g, length-append l (drop (length l) lent))
 found_fits (B.refused w b) m left lent later e g = let z : ◌≡◌ {A = ℕ} 0 1 = cc in absurd (omega arith)
 
-module _ (line : Shape) (f : Freeform) (c ts₀ ts : List Float) (b : ℕ) (r : Roots) (s : Searched (search_of (length ts₀) c b) ts₀ ts r) (room : 28 ≤ length ts₀) where
+module _ (line : Shape) (f : Freeform) (c ts₀ ts : List Float) (b : ℕ) (r : R.Answer) (s : Searched (search_of (length ts₀) c b) ts₀ ts r) (room : 28 ≤ length ts₀) where
   roots_are : search_of (length ts₀) c b ≡ roots_of c b
   roots_are = room_enough (length ts₀) c b room
 

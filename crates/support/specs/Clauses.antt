@@ -5,7 +5,7 @@ use Rattle.geom.specs.Plane.{distance}
 use Rattle.geom.specs.declared.Vec2.{Vec2}
 use Rattle.support.specs.declared.Form.{Form}
 use Rattle.support.specs.declared.Form.TheVariants.{Polynomial, Rational}
-use Rattle.support.specs.declared.Hits.{Hits}
+use Rattle.bernstein.specs.Answers.{Answer}
 use Rattle.support.specs.Freeform.{Freeform}
 use Rattle.support.specs.Hits.{HitsResult, max_of}
 use Rattle.support.specs.Pieces.{bezier_of, conic_of, answer_of, list_of}
@@ -38,7 +38,7 @@ unfoldable pub farthest_of : Vec2 → List Vec2 → Float
 farthest_of o ps = max_of 1f (map (λ p. distance p o) ps)
 
 -- what was found lies at the front, whatever is behind it
-pub record HitsAtFront (o : HitsResult) (laterX laterY : List Float) (r : Hits) : Type 0 where
+pub record HitsAtFront (o : HitsResult) (laterX laterY : List Float) (r : Answer) : Type 0 where
   pub answer : r ≡ answer_of o
   pub across : take (length (list_of o)) laterX ≡ map (λ p. p.x) (list_of o)
   pub up : take (length (list_of o)) laterY ≡ map (λ p. p.y) (list_of o)

@@ -1,13 +1,11 @@
 -- Where the endless line of a support meets a piece: hits. Each operation is rounded once, from left to right. Definitions only.
-use Rattle.std.specs.Prelude.{ℕ, Bool, true, false, not, ◌&&◌, cond, List, [], ◌∷◌, ◌++◌, map, Float}
+use Rattle.std.specs.Prelude.{ℕ, Bool, true, false, not, ◌&&◌, cond, Option, Some, None, List, [], ◌∷◌, ◌++◌, map, Float}
 use Rattle.std.specs.Float.Ieee.{lt, le, neg}
 use Rattle.float.specs.Numbers.{◌⊕◌, ◌⊖◌, ◌⊗◌, ◌⊘◌, 1f, 1e-28, 1e-10, 1e-9, 1e-7, 1e7}
 use Rattle.float.specs.Sign.{abs}
 use Rattle.float.specs.Order.{max}
 use Rattle.geom.specs.Plane.{◌+ᵥ◌, ◌-ᵥ◌, ◌·ᵥ◌, dot, cross, distance, normalized}
 use Rattle.geom.specs.declared.Vec2.{Vec2}
-use Rattle.geom.specs.declared.Direction.{Direction}
-use Rattle.geom.specs.declared.Direction.TheVariants.{None, Unit}
 use Rattle.shape.specs.declared.Shape.{Shape}
 use Rattle.shape.specs.declared.Shape.TheVariants.{Line, Round}
 use Rattle.shape.specs.Measures.{param, dist}
@@ -30,10 +28,10 @@ guard_hits false n b o = refused n b
 -- ---- a line or round
 
 -- the line lies along the support, from p in the direction: both its ends are within 1e-9 of it
-unfoldable pub overlaps : Vec2 → Direction → Shape → Bool
+unfoldable pub overlaps : Vec2 → Option Vec2 → Shape → Bool
 overlaps p None piece = false
-overlaps p (Unit d) (Line a b) = lt (abs (cross d (a -ᵥ p))) 1e-9 && lt (abs (cross d (b -ᵥ p))) 1e-9
-overlaps p (Unit d) (Round c r start sweep) = false
+overlaps p (Some d) (Line a b) = lt (abs (cross d (a -ᵥ p))) 1e-9 && lt (abs (cross d (b -ᵥ p))) 1e-9
+overlaps p (Some d) (Round c r start sweep) = false
 
 -- within the piece's ends, but for 1e-10 of the parameter; a round's parameter is never negative
 unfoldable pub on_piece : Shape → Vec2 → Bool
@@ -93,18 +91,18 @@ unfoldable pub freeform_by : Shape → Freeform → List Float → ℕ → HitsR
 freeform_by line f c budget = guard_hits (not (every (λ x. lt (abs x) 1e-28) c)) 15 budget (resolved_at line f (roots_of c budget))
 
 -- 16 where the support has no direction
-unfoldable pub freeform_along : Vec2 → Vec2 → Direction → Freeform → ℕ → HitsResult
+unfoldable pub freeform_along : Vec2 → Vec2 → Option Vec2 → Freeform → ℕ → HitsResult
 freeform_along a b None f budget = refused 16 budget
-freeform_along a b (Unit d) f budget = freeform_by (Line a b) f (polynomial d a f) budget
+freeform_along a b (Some d) f budget = freeform_by (Line a b) f (polynomial d a f) budget
 
 abbrev pub freeform_hits : Vec2 → Vec2 → Freeform → ℕ → HitsResult
 freeform_hits a b f budget = freeform_along a b (normalized (b -ᵥ a)) f budget
 
 -- ---- endless: an infinite line as a boundary, 1e7 each way from its point nearest to `near`
 
-unfoldable pub endless_along : Vec2 → Vec2 → Direction → Vec2 → Shape
+unfoldable pub endless_along : Vec2 → Vec2 → Option Vec2 → Vec2 → Shape
 endless_along a b None near = Line a b
-endless_along a b (Unit d) near =
+endless_along a b (Some d) near =
     let m = a +ᵥ d ·ᵥ dot (near -ᵥ a) d in
     Line (m -ᵥ d ·ᵥ 1e7) (m +ᵥ d ·ᵥ 1e7)
 

@@ -5,8 +5,7 @@ use Rattle.geom.specs.Plane.{vec}
 use Rattle.geom.specs.declared.Vec2.{Vec2}
 use Rattle.support.specs.declared.Piece.{Piece}
 use Rattle.support.specs.declared.Piece.TheVariants.{Analytic, Bezier, Conic}
-use Rattle.support.specs.declared.Hits.{Hits}
-use Rattle.support.specs.declared.Hits.TheVariants.{Found, Refused}
+use Rattle.bernstein.specs.Answers.{Answer, Found, Refused}
 use Rattle.support.specs.Freeform.{Freeform, bezier, conic}
 use Rattle.support.specs.Hits.{HitsResult, found, refused, guard_hits, shape_hits, freeform_hits}
 
@@ -42,7 +41,7 @@ with_room hx hy budget o = guard_hits (leb 28 (length hx) && leb 28 (length hy))
 
 -- ---- what is answered and left in the lent floats
 
-unfoldable pub answer_of : HitsResult → Hits
+unfoldable pub answer_of : HitsResult → Answer
 answer_of (found l b) = Found (length l) b
 answer_of (refused n b) = Refused n b
 
@@ -51,7 +50,7 @@ list_of (found l b) = l
 list_of (refused n b) = []
 
 -- the hits lie at the front, and the rest is unchanged: all of it where the call is refused
-pub record HitsWritten (o : HitsResult) (hx hy laterX laterY : List Float) (r : Hits) : Type 0 where
+pub record HitsWritten (o : HitsResult) (hx hy laterX laterY : List Float) (r : Answer) : Type 0 where
   pub answer : r ≡ answer_of o
   pub across : laterX ≡ map (λ p. p.x) (list_of o) ++ drop (length (list_of o)) hx
   pub up : laterY ≡ map (λ p. p.y) (list_of o) ++ drop (length (list_of o)) hy

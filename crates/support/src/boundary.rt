@@ -2,7 +2,7 @@
 ghost use Rattle.std.specs.Prelude.{◌≡◌};
 ghost use Rattle.support.specs.Hits.{endless_line};
 
-use geom::{Direction, Vec2};
+use geom::Vec2;
 use shape::Shape;
 
 // How far an infinite line reaches each way: well past any coordinate.
@@ -12,10 +12,10 @@ const REACH: f64 = 1e7;
 pub fn endless(a: Vec2, b: Vec2, near: Vec2) -> Shape
     ensures { result ≡ endless_line a b near }
 {
-    let Direction::Unit(d) = Vec2::from_points(a, b).normalized() else {
+    let Some(d) = Vec2::from_points(a, b).normalized() else {
         return Shape::Line(a, b);
     };
-    let m = a.add(d.scale(Vec2::from_points(a, near).dot(d)));
-    let reach = d.scale(REACH);
-    Shape::Line(m.sub(reach), m.add(reach))
+    let m = a + d * Vec2::from_points(a, near).dot(d);
+    let reach = d * REACH;
+    Shape::Line(m - reach, m + reach)
 }

@@ -18,10 +18,8 @@ fn farthest<'a>(o: Vec2, xs: &'a [f64], ys: &'a [f64]) -> f64
     ensures { result ≡ farthest_of o (zip_points xs.now ys.now) }
 {
     let mut m = 1.0;
-    let mut i = 0usize;
-    while i < xs.len() {
-        m = float::max(m, Vec2::new(xs[i], ys[i]).dist(o));
-        i += 1;
+    for (x, y) in xs.iter().zip(ys) {
+        m = float::max(m, Vec2::new(*x, *y).dist(o));
     }
     m
 }
@@ -31,10 +29,8 @@ fn heaviest(ws: &[f64]) -> f64
     ensures { result ≡ Defs.max_of 1f ws.now }
 {
     let mut m = 1.0;
-    let mut i = 0usize;
-    while i < ws.len() {
-        m = float::max(m, ws[i]);
-        i += 1;
+    for w in ws {
+        m = float::max(m, *w);
     }
     m
 }
@@ -70,10 +66,8 @@ fn off_each<'a>(
     ensures { (take (length xs.now) result ≡ off_each d o scale (zip_points xs.now ys.now) (map (λ w. w ⊘ top) ws.now)) × (length result ≡ 8) }
 {
     let mut c = [0.0; 8];
-    let mut i = 0usize;
-    while i < xs.len() {
+    for i in 0..xs.len() {
         c[i] = off(d, o, scale, Vec2::new(xs[i], ys[i]), ws[i] / top);
-        i += 1;
     }
     c
 }
@@ -100,12 +94,5 @@ pub(crate) fn polynomial<'a>(
 pub(crate) fn vanishes(c: &[f64]) -> bool
     ensures { result ≡ every (λ x. lt (abs x) 1e-28) c.now }
 {
-    let mut i = 0usize;
-    while i < c.len() {
-        if !(float::abs(c[i]) < 1e-28) {
-            return false;
-        }
-        i += 1;
-    }
-    true
+    c.iter().all(|x| float::abs(*x) < 1e-28)
 }

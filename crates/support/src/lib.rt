@@ -29,10 +29,3 @@ enum Form {
     Polynomial,
     Rational(f64),
 }
-
-// How many hits there are, or a refusal's number; and the budget that is left.
-#[derive(Clone, Copy)]
-pub enum Hits {
-    Found(usize, usize),
-    Refused(u8, usize),
-}

@@ -18,7 +18,7 @@ fn rational_point<'a>(w: f64, xs: &'a [f64], ys: &'a [f64], t: f64) -> Vec2
     let up = [ys[0] * 1.0, ys[1] * w, ys[2] * 1.0];
     let weights = [1.0, w, 1.0];
     let p = Vec2::new(bernstein::evaluate(&across, t), bernstein::evaluate(&up, t));
-    p.div(bernstein::evaluate(&weights, t))
+    p / bernstein::evaluate(&weights, t)
 }
 
 pub(crate) fn curve_point<'a>(curve: Form, xs: &'a [f64], ys: &'a [f64], t: f64) -> Vec2
@@ -34,5 +34,5 @@ pub(crate) fn curve_point<'a>(curve: Form, xs: &'a [f64], ys: &'a [f64], t: f64)
 pub(crate) fn at_most_8(n: usize) -> usize
     ensures { (result ≡ at_most8 n) × (result ≤ 8) }
 {
-    if n <= CONTROLS { n } else { CONTROLS }
+    n.min(CONTROLS)
 }

@@ -1,5 +1,6 @@
 // The search for the hits of a support.
 ghost use Rattle.std.specs.Prelude.{◌≡◌};
+ghost use Rattle.bernstein.specs.Answers.{answer_in};
 ghost use Rattle.geom.specs.Plane.{◌-ᵥ◌, normalized};
 ghost use Rattle.support.specs.Hits.{shape_hits};
 ghost use Rattle.support.specs.Pieces.{hits_of, with_room, HitsWritten};
@@ -7,8 +8,10 @@ ghost use Rattle.support.specs.Pieces.{hits_of, with_room, HitsWritten};
 use crate::freeform::freeform_hits;
 use crate::points::at_most_8;
 use crate::shapes::{shape_hits, shape_hits_along};
-use crate::{Form, Hits, Piece, ROOM};
-use geom::{Direction, Vec2};
+use crate::{Form, Piece, ROOM};
+use bernstein::{Found, Stopped};
+use geom::Vec2;
+use refusal::Refusal;
 use shape::Shape;
 
 // Finds where the endless line through a and b meets a piece, whose control points, if it has any, are in xs and ys, and puts the places, in
@@ -24,14 +27,14 @@ pub fn hits<'a>(
     hx: &'a mut [f64],
     hy: &'a mut [f64],
     budget: usize,
-) -> Hits
-    ensures { HitsWritten (with_room hx.old hy.old budget (hits_of a b piece xs ys budget)) hx.old hy.old hx.new hy.new result }
+) -> Result<Found, Stopped>
+    ensures { HitsWritten (with_room hx.old hy.old budget (hits_of a b piece xs ys budget)) hx.old hy.old hx.new hy.new (answer_in result) }
 {
-    if hx.len() < ROOM {
-        return Hits::Refused(25, budget);
-    }
-    if hy.len() < ROOM {
-        return Hits::Refused(25, budget);
+    if hx.len() < ROOM || hy.len() < ROOM {
+        return Err(Stopped {
+            refusal: Refusal::ShortBuffer,
+            budget,
+        });
     }
     match piece {
         Piece::Analytic(sh) => shape_hits(a, b, sh, hx, hy, budget),
@@ -49,19 +52,19 @@ pub fn hits<'a>(
 pub fn hits_along<'a>(
     a: Vec2,
     b: Vec2,
-    along: Direction,
+    along: Option<Vec2>,
     sh: Shape,
     hx: &'a mut [f64],
     hy: &'a mut [f64],
     budget: usize,
-) -> Hits
-    ensures { (along ≡ normalized (b -ᵥ a)) → HitsWritten (with_room hx.old hy.old budget (shape_hits a b sh budget)) hx.old hy.old hx.new hy.new result }
+) -> Result<Found, Stopped>
+    ensures { (along ≡ normalized (b -ᵥ a)) → HitsWritten (with_room hx.old hy.old budget (shape_hits a b sh budget)) hx.old hy.old hx.new hy.new (answer_in result) }
 {
-    if hx.len() < ROOM {
-        return Hits::Refused(25, budget);
-    }
-    if hy.len() < ROOM {
-        return Hits::Refused(25, budget);
+    if hx.len() < ROOM || hy.len() < ROOM {
+        return Err(Stopped {
+            refusal: Refusal::ShortBuffer,
+            budget,
+        });
     }
     shape_hits_along(a, b, along, sh, hx, hy, budget)
 }

@@ -1,13 +1,13 @@
 -- The wall's program: messages piece by piece, and the ways out.
 use mathlib.Core.Path.{◌≡◌, refl, sym, ap, ap₂, ◌∙◌, subst}
 use mathlib.Core.Bool.{Bool, true, false}
-use mathlib.Core.List.{List, [], ◌∷◌}
-use Prim.Native.Nat.{ℕ, zero, suc, ◌+◌, ◌-◌, ◌≤◌, ◌<◌}
+use mathlib.Core.List.{List, [], ◌∷◌, ◌++◌, append-nil}
+use Prim.Native.Nat.{ℕ, zero, suc, ◌+◌, ◌≤◌, ◌<◌, min}
 use native.Mathlib.Omega.{arith}
-use lib.ListN.{length, take, drop, set, length-drop, drop_of_length-le}
-use lib.Seq.{take_all, drop-drop}
+use lib.ListN.{length, take, drop, length-append, length-drop, drop_of_length-le}
+use lib.Seq.{take_all, take_at, drop_at}
 use lib.Dec.{leb}
-use borrow.Author.Tests.{le-leb, lt-leb, leb-false}
+use borrow.Author.Tests.{le-leb, lt-leb, leb-true, leb-false}
 use Rattle.big_endian.specs.Fields.{over, over_if_fits}
 use Rattle.big_endian.specs.Laws.{Bytes, over_fits}
 use Rattle.sketch.specs.Lists.{ite, guard_number}
@@ -17,44 +17,11 @@ use Rattle.image.proofs.RoundTrips.{result_refused, result_none, encode_parse}
 use Rattle.image.proofs.Tables.{bytes_take}
 use Rattle.message.specs.Message.{message_size}
 use Rattle.agreement.specs.Machines.{State, initial, wall_transition}
-use Rattle.replication.specs.declared.Started.{Started}
 use Rattle.replication.specs.Protocol.{protocol}
-use Rattle.replication.specs.Transitions.{Memory, memory, image_in, state_in, Ready, first_nonzero, Starts, WallCall, WallDelivers}
-use Rattle.wall_program.specs.Program.{image_end, mark_in, mark_end, chunks_up_to, chunks, wall_after_messages, outcome_on, program_outcome, WritesOutcome, DeliversAll, WritesImage}
+use Rattle.replication.specs.Transitions.{Memory, memory, image_in, state_in, Ready, first_nonzero, Started, Starts, WallCall, WallDelivers}
+use Rattle.wall_program.specs.Program.{image_end, mark_in, mark_end, chunks_up_to, chunks, wall_after_messages, outcome_on, program_outcome, output, WritesOutcome, DeliversAll, WritesBytes}
 use Rattle.replication.proofs.Steps.{length_parsed, Holding, wall_step_lem}
 use Rattle.replication.proofs.StartCases.{start_image, starts_with, held_at_start}
-
--- ---- the lesser of two sizes
-
-abbrev pub least : ℕ → ℕ → ℕ
-least a b = ite (leb a b) a b
-
-pub least_first : (a b : ℕ) → a ≤ b → (a ≡ least a b) × (a ≤ a) × (a ≤ b)
-least_first a b h = (rw (le-leb a b h), omega arith, h)
-
-pub least_second : (a b : ℕ) → b < a → (b ≡ least a b) × (b ≤ a) × (b ≤ b)
-least_second a b h = (rw (lt-leb a b h), omega arith, omega arith)
-
-pub least_above : (a b : ℕ) {r : ℕ} → r ≡ least a b → 0 < a → 0 < b → 0 < r
-least_above a b {r} e p q = go (leb a b) e
-  where
-    go : (t : Bool) → r ≡ ite t a b → 0 < r
-    go true e = omega arith
-    go false e = omega arith
-
-pub take_least : (n : ℕ) (l : List ℕ) → take (least n (length l)) l ≡ take n l
-take_least n l = go (leb n (length l)) refl
-  where
-    go : (t : Bool) → leb n (length l) ≡ t → take (ite t n (length l)) l ≡ take n l
-    go true e = refl
-    go false e = let h : length l ≤ n = omega (arith, leb-false n (length l) e) in take_all (length l) l (omega arith) ∙ sym (take_all n l h)
-
-drop_least : (n : ℕ) (l : List ℕ) → drop (least n (length l)) l ≡ drop n l
-drop_least n l = go (leb n (length l)) refl
-  where
-    go : (t : Bool) → leb n (length l) ≡ t → drop (ite t n (length l)) l ≡ drop n l
-    go true e = refl
-    go false e = let h : length l ≤ n = omega (arith, leb-false n (length l) e) in let k : length l ≤ length l = omega arith in drop_of_length-le l k ∙ sym (drop_of_length-le l h)
 
 -- ---- pieces
 
@@ -84,72 +51,67 @@ more s l h c v e w =
     (wall_step_lem s v c w).0.state ∙ ap (λ (m : List ℕ). (wall_transition p (state_in s) (p.decode m)).0) e in
     ap (λ (t : State Drawing). wall_after_messages s.mark t (chunks (drop message_size l))) x ∙ sym (ap (wall_after_messages s.mark (state_in s)) (pieces_more l h))
 
--- what the loop keeps
-pub record Follows (s₀ : Memory) (bytes : List ℕ) (s : Memory) (at : ℕ) : Type 0 where
-  pub within : at ≤ length bytes
+-- what the loop keeps, with the bytes that are left
+pub record Follows (s₀ : Memory) (bytes : List ℕ) (s : Memory) (left : List ℕ) : Type 0 where
   pub ready : Ready s
   pub mark_is : s.mark ≡ s₀.mark
-  pub on : wall_after_messages s₀.mark (state_in s) (chunks (drop at bytes)) ≡ wall_after_messages s₀.mark (state_in s₀) (chunks bytes)
+  pub on : wall_after_messages s₀.mark (state_in s) (chunks left) ≡ wall_after_messages s₀.mark (state_in s₀) (chunks bytes)
+
+-- a list that is cut where it is as long as a piece, or at its end
+cut : (n : ℕ) (l x y : List ℕ) → l ≡ x ++ y → length x ≡ min n (length l) → (take n l ≡ x) × (drop n l ≡ y)
+cut n l x y e h = go (leb n (length l)) refl
+  where
+    none : (y : List ℕ) → length y ≡ 0 → y ≡ []
+    none [] h = refl
+    none (b ∷ y) h = absurd (omega arith)
+
+    go : (t : Bool) → leb n (length l) ≡ t → (take n l ≡ x) × (drop n l ≡ y)
+    go true q =
+        let long : length x ≡ n = omega (arith, leb-true n (length l) q) in
+        (ap (take n) e ∙ take_at x y n long, ap (drop n) e ∙ drop_at x y n long)
+    go false q =
+        let few : length l ≤ n = omega (arith, leb-false n (length l) q) in
+        let z : y ≡ [] = none y (omega (arith, ap length e, length-append x y)) in
+        let same : l ≡ x = e ∙ ap (λ (y : List ℕ). x ++ y) z ∙ append-nil x in
+        (take_all n l few ∙ same, drop_of_length-le l few ∙ sym z)
 
 pub delivers_more :
-    (s₀ : Memory) (bytes : List ℕ) (s : Memory) (at r : ℕ) → Follows s₀ bytes s at → at < length bytes → r ≡ least message_size (length bytes - at) → r ≤ length bytes - at
-    → (c : WallCall) → c.bytes ≡ take (at + r - at) (drop at bytes) → WallDelivers s c → Follows s₀ bytes c.left (at + r)
-delivers_more s₀ bytes s at r f h e le c b w =
-    let l = drop at bytes in
-    let n : length l ≡ length bytes - at = length-drop at bytes in
-    let q : at + r - at ≡ r = omega arith in
-    let e2 : r ≡ least message_size (length l) = e ∙ ap (least message_size) (sym n) in
-    let t : take (at + r - at) l ≡ take message_size l = ap (λ (k : ℕ). take k l) (q ∙ e2) ∙ take_least message_size l in
-    let d : drop (at + r) bytes ≡ drop message_size l = sym (drop-drop r at bytes) ∙ ap (λ (k : ℕ). drop k l) e2 ∙ drop_least message_size l in
-    let one = more s l (omega arith) c f.ready (b ∙ t) w in
+    (s₀ : Memory) (bytes : List ℕ) (s : Memory) (l x y : List ℕ) → Follows s₀ bytes s l → l ≡ x ++ y → length x ≡ min message_size (length l) → 0 < length l
+    → (c : WallCall) → c.bytes ≡ x → WallDelivers s c → Follows s₀ bytes c.left y
+delivers_more s₀ bytes s l x y f e h some c b w =
+    let (front, rest) = cut message_size l x y e h in
+    let one = more s l some c f.ready (b ∙ sym front) w in
     let left = (wall_step_lem s f.ready c w).1 in
     record {
-      within = omega arith;
       ready = left.0;
       mark_is = left.1 ∙ f.mark_is;
       on =
-          ap (λ (m : List ℕ). wall_after_messages s₀.mark (state_in c.left) (chunks m)) d
+          ap (λ (m : List ℕ). wall_after_messages s₀.mark (state_in c.left) (chunks m)) (sym rest)
           ∙ subst (λ (k : ℕ). wall_after_messages k (state_in c.left) (chunks (drop message_size l)) ≡ wall_after_messages k (state_in s) (chunks l)) f.mark_is one ∙ f.on;
     }
 
-pub delivers_all : (s₀ : Memory) (bytes : List ℕ) (s : Memory) (at : ℕ) → Follows s₀ bytes s at → length bytes ≤ at → DeliversAll s₀ bytes s
-delivers_all s₀ bytes s at f h =
-    record { is = ap (λ (l : List ℕ). wall_after_messages s₀.mark (state_in s) (chunks l)) (sym (drop_of_length-le bytes h)) ∙ f.on; ready = f.ready }
+pub delivers_all : (s₀ : Memory) (bytes : List ℕ) (s : Memory) (l : List ℕ) → Follows s₀ bytes s l → length l ≡ 0 → DeliversAll s₀ bytes s
+delivers_all s₀ bytes s [] f h = record { is = f.on; ready = f.ready }
+delivers_all s₀ bytes s (b ∷ l) f h = absurd (omega arith)
 
 -- ---- what is written
 
-pub refusal_short : (k : ℕ) (b : List ℕ) → length b < 6 → WritesOutcome (I.refused k) b b 0
-refusal_short k b h = record { size = rw (lt-leb 6 (length b) h); buffer = rw (lt-leb 6 (length b) h); within = omega arith }
+module _ (s b : List ℕ) (are : Bytes s) where
+  pub bytes_short : length b < length s → WritesBytes s b b 0
+  bytes_short h = record { size = rw (lt-leb (length s) (length b) h); buffer = rw (lt-leb (length s) (length b) h); within = omega arith; are = are }
 
-pub refusal_written : (k : ℕ) (b : List ℕ) → 6 ≤ length b → WritesOutcome (I.refused k) b (set (set (set (set (set (set b 0 0) 1 0) 2 0) 3 2) 4 1) 5 k) 6
-unfolding over
-refusal_written k b h = record { size = rw (le-leb 6 (length b) h); buffer = rw (le-leb 6 (length b) h) (go b h); within = h }
-  where
-    go : (b : List ℕ) → 6 ≤ length b → set (set (set (set (set (set b 0 0) 1 0) 2 0) 3 2) 4 1) 5 k ≡ over b 0 (0 ∷ 0 ∷ 0 ∷ 2 ∷ 1 ∷ k ∷ [])
-    go (a ∷ b ∷ c ∷ d ∷ e ∷ f ∷ l) h = refl
-    go [] h = absurd (omega arith)
-    go (a ∷ []) h = absurd (omega arith)
-    go (a ∷ b ∷ []) h = absurd (omega arith)
-    go (a ∷ b ∷ c ∷ []) h = absurd (omega arith)
-    go (a ∷ b ∷ c ∷ d ∷ []) h = absurd (omega arith)
-    go (a ∷ b ∷ c ∷ d ∷ e ∷ []) h = absurd (omega arith)
+  pub bytes_written : length s ≤ length b → {now : List ℕ} → now ≡ over_if_fits b 0 s → WritesBytes s b now (length s)
+  bytes_written h q = record { size = rw (le-leb (length s) (length b) h); buffer = rw (le-leb (length s) (length b) h) (q ∙ over_fits b 0 s (omega arith)); within = h; are = are }
 
-module _ (image b : List ℕ) (are : Bytes image) where
-  by_image : (d : Drawing) → I.parse image ≡ I.accepted d → {now : List ℕ} {r : ℕ} → r ≡ ite (leb (length image) (length b)) (length image) 0 → now ≡ ite (leb (length image) (length b)) (over b 0 image) b → r ≤ length b → WritesOutcome (I.accepted d) b now r
-  by_image d e p q l =
-      let size = length_parsed image d e in
-      let same = encode_parse image d are e in
-      record {
-        size = p ∙ ap (λ (n : ℕ). ite (leb n (length b)) n 0) size;
-        buffer = q ∙ ap₂ (λ (n : ℕ) (s : List ℕ). ite (leb n (length b)) (over b 0 s) b) size (sym same);
-        within = l;
-      }
-
-  pub image_short : length b < length image → WritesImage image b b 0
-  image_short h d e = by_image d e (rw (lt-leb (length image) (length b) h)) (rw (lt-leb (length image) (length b) h)) (omega arith)
-
-  pub image_written : length image ≤ length b → {now : List ℕ} → now ≡ over_if_fits b 0 image → WritesImage image b now (length image)
-  image_written h q d e = by_image d e (rw (le-leb (length image) (length b) h)) (rw (le-leb (length image) (length b) h) (q ∙ over_fits b 0 image (omega arith))) h
+by_image : (image b : List ℕ) (d : Drawing) → I.parse image ≡ I.accepted d → {now : List ℕ} {r : ℕ} → WritesBytes image b now r → WritesOutcome (I.accepted d) b now r
+by_image image b d e w =
+    let size = length_parsed image d e in
+    let same = encode_parse image d w.are e in
+    record {
+      size = w.size ∙ ap (λ (n : ℕ). ite (leb n (length b)) n 0) size;
+      buffer = w.buffer ∙ ap₂ (λ (n : ℕ) (s : List ℕ). ite (leb n (length b)) (over b 0 s) b) size (sym same);
+      within = w.within;
+    }
 
 -- ---- the whole
 
@@ -162,14 +124,14 @@ module _
     (b b' : List ℕ) (r : Started) (st : Starts image mark 0 b b' r)
   where
     -- the buffer has room for any image, so that a refusal is the image's
-    pub outcome_refused : I.max_image_size ≤ length b → (r.refusal ≡ 0 → ⊥) → (l now : List ℕ) (n : ℕ) → WritesOutcome (I.refused r.refusal) l now n → WritesOutcome (program_outcome s) l now n
+    pub outcome_refused : I.max_image_size ≤ length b → (r.refusal ≡ 0 → ⊥) → (k : ℕ) → k ≡ r.refusal → (l now : List ℕ) (n : ℕ) → WritesBytes (output (I.refused k)) l now n → WritesOutcome (program_outcome s) l now n
     unfolding guard_number
-    outcome_refused room h l now n w =
+    outcome_refused room h k number l now n w =
         let own : r.refusal ≡ I.image_fault image = st.number ∙ rw (le-leb I.max_image_size (length b) room) (go (I.image_fault image)) in
         let z : I.image_fault image ≡ 0 → ⊥ = λ y. h (own ∙ y) in
-        let q : program_outcome s ≡ I.refused r.refusal =
-        ap (λ (o : I.ParseResult). outcome_on (mark_in s) o (chunks (drop (mark_end s) s))) (ap I.parse (sym e) ∙ result_refused (I.image_fault image) _ z) ∙ ap I.refused (sym own) in
-        subst (λ (o : I.ParseResult). WritesOutcome o l now n) (sym q) w
+        let q : program_outcome s ≡ I.refused k =
+        ap (λ (o : I.ParseResult). outcome_on (mark_in s) o (chunks (drop (mark_end s) s))) (ap I.parse (sym e) ∙ result_refused (I.image_fault image) _ z) ∙ ap I.refused (sym (number ∙ own)) in
+        subst (λ (o : I.ParseResult). WritesOutcome o l now n) (sym q) (record { size = w.size; buffer = w.buffer; within = w.within })
       where
         go : (k : ℕ) → first_nonzero k 0 ≡ k
         go zero = refl
@@ -187,7 +149,7 @@ module _
 
       pub program_outcome_lem :
           (rest : List ℕ) → rest ≡ drop (mark_end s) s → (last : Memory) → DeliversAll (memory r.replica b') rest last → (left : List ℕ) → left ≡ image_in last → (l now : List ℕ) (n : ℕ)
-          → WritesImage left l now n → WritesOutcome (program_outcome s) l now n
+          → WritesBytes left l now n → WritesOutcome (program_outcome s) l now n
       program_outcome_lem rest g last f left h l now n w =
           let d = I.drawing_of image in
           let m : state_in last ≡ wall_after_messages (mark_in s) (initial d) (chunks (drop (mark_end s) s)) =
@@ -197,7 +159,7 @@ module _
           let q : program_outcome s ≡ I.accepted (state_in last).drawing =
           ap (λ (o : I.ParseResult). outcome_on (mark_in s) o (chunks (drop (mark_end s) s))) (ap I.parse (sym e) ∙ start_drawing) ∙ ap (λ (t : State Drawing). I.accepted t.drawing) (sym m)
           in
-          subst (λ (o : I.ParseResult). WritesOutcome o l now n) (sym q) (w (state_in last).drawing (ap I.parse h ∙ f.ready.image_is))
+          subst (λ (o : I.ParseResult). WritesOutcome o l now n) (sym q) (by_image left l (state_in last).drawing (ap I.parse h ∙ f.ready.image_is) w)
 
 -- with fewer bytes than a mark's after the image, the outcome is the image's own
 pub without_mark : (s : List ℕ) → length s < mark_end s → program_outcome s ≡ I.parse (take (image_end s) s)

@@ -1,6 +1,7 @@
 -- What the wall's program writes for what it reads: an image, a mark, then messages, a shorter rest as it is. Definitions only.
 use Rattle.std.specs.Prelude.{ℕ, zero, suc, ◌+◌, ◌≤◌, ◌≡◌, List, [], ◌∷◌, length, take, drop, leb}
 use Rattle.big_endian.specs.Fields.{field, over}
+use Rattle.big_endian.specs.Laws.{Bytes}
 use Rattle.sketch.specs.Lists.{ite}
 use Rattle.sketch.specs.Drawing.{Drawing}
 use Rattle.image.specs.Image as I
@@ -63,6 +64,9 @@ pub record DeliversAll (s : Memory) (bytes : List ℕ) (r : Memory) : Type 0 whe
   pub is : state_in r ≡ wall_after_messages s.mark (state_in s) (chunks bytes)
   pub ready : Ready r
 
--- an image's bytes, where it is one
-abbrev pub WritesImage : List ℕ → List ℕ → List ℕ → ℕ → Type 0
-WritesImage image before later r = (d : Drawing) → I.parse image ≡ I.accepted d → WritesOutcome (I.accepted d) before later r
+-- bytes at the buffer's front and how many they are, as an outcome's
+pub record WritesBytes (s before later : List ℕ) (r : ℕ) : Type 0 where
+  pub are : Bytes s
+  pub size : r ≡ ite (leb (length s) (length before)) (length s) 0
+  pub buffer : later ≡ ite (leb (length s) (length before)) (over before 0 s) before
+  pub within : r ≤ length before

@@ -3,7 +3,7 @@ ghost use Rattle.std.specs.Prelude.{◌≡◌};
 ghost use Rattle.window.specs.Window.{slot_at, slot, is_held};
 
 use crate::WINDOW_MESSAGES;
-use message::{EditNumber, MESSAGE_SIZE, Mark, MessageRead};
+use message::{EditNumber, MESSAGE_SIZE, Mark};
 use rows::{front, rest};
 
 // Where the message with a number stands.
@@ -24,8 +24,5 @@ pub(crate) fn slot(window: &[u8], number: EditNumber) -> &[u8]
 pub(crate) fn is_held(window: &[u8], mark: Mark, number: EditNumber) -> bool
     ensures { result ≡ is_held mark window.now number }
 {
-    match message::read_message(slot(window, number), mark) {
-        MessageRead::Refused(_) => false,
-        MessageRead::Accepted(m) => m.number == number,
-    }
+    message::read_message(slot(window, number), mark).is_ok_and(|m| m.number == number)
 }

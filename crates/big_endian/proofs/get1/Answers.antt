@@ -1,11 +1,7 @@
-use Rattle.std.proofs.Common.{◌≤◌, length, arith}
-use Rattle.big_endian.specs.Laws.{field_one, field_past}
+use Rattle.std.proofs.Common.{rules}
+use Rattle.std.proofs.lemmas.Option.{unwrap_or-slice_get}
+use Rattle.big_endian.specs.Laws.{field_one}
 use Rattle.big_endian.proofs.get1.Goals as goal
 
-pub returns-then-at-s : goal.returns-then-at-s
-returns-then-at-s c = rw field_one
-
-pub returns-else-at-s : goal.returns-else-at-s
-returns-else-at-s c =
-    let h : length c.args.s.now ≤ c.args.at = omega arith in
-    rw field_past
+pub returns : goal.returns
+returns c = rw field_one (search (rules, unwrap_or-slice_get))

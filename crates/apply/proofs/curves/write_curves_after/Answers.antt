@@ -1,5 +1,6 @@
 -- `apply::write_curves_after` meets its contract.
-use Rattle.std.proofs.Common.{arith}
+use Rattle.std.proofs.Common.{◌≡◌, length, subst, Option, IfSome, arith}
+use Rattle.sketch.specs.declared.Curve.{Curve}
 use Rattle.apply.proofs.Parts.{length_after, set_only, set_added}
 use Rattle.image.proofs.Curves.{length_curve}
 use Rattle.apply.proofs.curves.write_curves_after.Goals as goal
@@ -22,12 +23,12 @@ put_rows-b-requires c =
     let n = length_after a.k a.curves.now c.requires.0 a.ch in
     (omega (arith, c.requires.0), omega arith, omega (arith, n, c.requires.1, c.requires.0, c.put_rows-a.ensures.1))
 
-pub returns-then-ch-ne0 : goal.returns-then-ch-ne0
-returns-then-ch-ne0 c =
+pub returns-in-Some : goal.returns-in-Some
+returns-in-Some c =
     let a = c.args in
-    set_added a.k a.curves.now c.requires.0 a.out.now a.at _ _ c.put_rows-a.ensures.0 c.put_rows-a.ensures.1 a.ch _ _ _ c.requires.1 (length_curve a.ch.kept c.requires.2.0) c.write_curve.ensures c.put_rows-b.ensures.0 c.put_rows-b.ensures.1 _ c.if-ch-ne0.true (length_curve a.ch.added c.requires.2.1) c.write_curve-then-ch-ne0.ensures
+    set_added a.k a.curves.now c.requires.0 a.out.now a.at _ _ c.put_rows-a.ensures.0 c.put_rows-a.ensures.1 a.ch _ _ _ c.requires.1 (length_curve a.ch.kept c.requires.2.0) c.write_curve.ensures c.put_rows-b.ensures.0 c.put_rows-b.ensures.1 c.in-Some.added _ c.in-Some.is (length_curve c.in-Some.added (subst (λ (o : Option Curve). IfSome o (λ (x : Curve). length x.slots ≡ 8)) c.in-Some.is c.requires.2.1)) c.write_curve-in-Some.ensures
 
-pub returns-else-ch-ne0 : goal.returns-else-ch-ne0
-returns-else-ch-ne0 c =
+pub returns-in_default : goal.returns-in_default
+returns-in_default c =
     let a = c.args in
-    set_only a.k a.curves.now c.requires.0 a.out.now a.at _ _ c.put_rows-a.ensures.0 c.put_rows-a.ensures.1 a.ch _ _ _ c.requires.1 (length_curve a.ch.kept c.requires.2.0) c.write_curve.ensures c.put_rows-b.ensures.0 c.put_rows-b.ensures.1 c.if-ch-ne0.false
+    set_only a.k a.curves.now c.requires.0 a.out.now a.at _ _ c.put_rows-a.ensures.0 c.put_rows-a.ensures.1 a.ch _ _ _ c.requires.1 (length_curve a.ch.kept c.requires.2.0) c.write_curve.ensures c.put_rows-b.ensures.0 c.put_rows-b.ensures.1 c.in_default.is

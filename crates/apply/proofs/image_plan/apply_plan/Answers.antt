@@ -1,8 +1,17 @@
 -- `apply::apply_plan` meets its contract.
+use Rattle.std.proofs.Common.{refl, ◌∙◌}
 use Rattle.apply.proofs.Lifted.{plan_answered}
 use Rattle.apply.proofs.image_plan.apply_plan.Goals as goal
+
+pub returns-in_err-tables : goal.returns-in_err-tables
+returns-in_err-tables c =
+    let a = c.args in
+    let t = a.t.now in
+    plan_answered t.image.now t.bytes a.k a.plan a.out.now _ _ _ _ _ _ t.own_points t.own_curves t.own_relations refl (λ w. absurd (c.in_err-tables.ensures w))
 
 pub returns : goal.returns
 returns c =
     let a = c.args in
-    plan_answered a.s.now (λ k. (c.type_inv.s k).fits) a.k a.plan a.out.now _ _ _ _ _ _ c.points_of.ensures c.curves_of.ensures c.relations_of.ensures c.next_id.ensures c.apply_to.ensures
+    let t = a.t.now in
+    let l = c.in_ok-tables.ensures in
+    plan_answered t.image.now t.bytes a.k a.plan a.out.now _ _ _ _ _ _ (l.1 ∙ t.own_points) (l.2 ∙ t.own_curves) (l.3 ∙ t.own_relations) l.0 (λ w. c.apply_to.ensures)

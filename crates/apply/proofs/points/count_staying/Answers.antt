@@ -1,47 +1,21 @@
 -- `apply::count_staying` meets its contract.
-use Rattle.std.proofs.Common.{[], refl, ap, ◌∙◌, ◌≤◌, ◌<◌, length, length-append, arith}
-use Rattle.apply.proofs.Turns.{stay, staying_is, stays_so, goes_so, all_stay}
+use Rattle.std.proofs.Common.{sym, ap, ◌∙◌, length, rules, tests}
+use Rattle.std.proofs.lemmas.Iterator.Consumers.{count_from_yields_List, YieldsList-from_filter}
+use Rattle.std.proofs.lemmas.Iterator.{YieldsList-from_slice}
+use Rattle.apply.proofs.Turns.{staying_kept, all_stay}
 use Rattle.image.specs.Records.{point_size}
-use Rattle.apply.proofs.Walks.{up_to, map_next, map_all}
-use Rattle.edit_plan.specs.Changes.{orphan_list}
-use Rattle.rows.proofs.Rows.{length_rows_in}
-use Rattle.rows.specs.Rows.{rows_in, row_in}
+use Rattle.image.specs.Image.{row_id}
+use Rattle.edit_plan.specs.Changes.{orphan_list, staying}
+use Rattle.rows.proofs.Search.{rows_are}
 use Rattle.apply.proofs.points.count_staying.Goals as goal
 
-pub returns-then-not-os : goal.returns-then-not-os
-returns-then-not-os c =
+pub returns-then-is_empty : goal.returns-then-is_empty
+returns-then-is_empty c =
     let a = c.args in
-    omega (arith, ap length (all_stay a.os a.points.now c.if-not-os.true), length_rows_in point_size a.points.now)
-
-pub loop-i-init : goal.loop-i-init
-loop-i-init c = (omega arith, refl, omega arith, refl)
-
-pub point_id-id-requires : goal.point_id-id-requires
-point_id-id-requires c = omega (arith, c.loop-i.invariant.1)
-
-pub loop-i-preserved-then-not-is_orphan : goal.loop-i-preserved-then-not-is_orphan
-loop-i-preserved-then-not-is_orphan c =
-    let a = c.args in
-    let l = c.loop-i in
-    let rows = rows_in point_size a.points.now in
-    let h : l.i < length rows = omega (arith, l.invariant.1, length_rows_in point_size a.points.now) in
-    let g = stays_so (orphan_list a.os) (row_in point_size a.points.now l.i) _ _ c.point_id-id.ensures c.is_orphan.ensures c.if-not-is_orphan.true in
-    let n = ap length (map_next (stay (orphan_list a.os)) rows l.i [] h) ∙ length-append (up_to (stay (orphan_list a.os)) point_size rows l.i) (stay (orphan_list a.os) (row_in point_size a.points.now l.i)) in
-    (omega arith, l.invariant.1, omega arith, omega (arith, n, ap length g, l.invariant.3))
-
-pub loop-i-preserved : goal.loop-i-preserved
-loop-i-preserved c =
-    let a = c.args in
-    let l = c.loop-i in
-    let rows = rows_in point_size a.points.now in
-    let h : l.i < length rows = omega (arith, l.invariant.1, length_rows_in point_size a.points.now) in
-    let g = goes_so (orphan_list a.os) (row_in point_size a.points.now l.i) _ _ c.point_id-id.ensures c.is_orphan.ensures c.if-not-is_orphan.false in
-    let n = ap length (map_next (stay (orphan_list a.os)) rows l.i [] h) ∙ length-append (up_to (stay (orphan_list a.os)) point_size rows l.i) (stay (orphan_list a.os) (row_in point_size a.points.now l.i)) in
-    (omega arith, l.invariant.1, omega arith, omega (arith, n, ap length g, l.invariant.3))
+    ap length (rows_are point_size a.points.now _ c.as_chunks.ensures.front ∙ sym (all_stay a.os a.points.now (c.is_empty.ensures.0 c.if-is_empty.true)))
 
 pub returns : goal.returns
 returns c =
     let a = c.args in
-    let l = c.loop-i in
-    let h : length (rows_in point_size a.points.now) ≤ l.i = omega (arith, l.invariant.1, length_rows_in point_size a.points.now) in
-    l.invariant.3 ∙ ap length (map_all (stay (orphan_list a.os)) (rows_in point_size a.points.now) l.i h ∙ staying_is (orphan_list a.os) a.points.now)
+    let n = count_from_yields_List c.filter.result _ c.count.ensures.ran (YieldsList-from_filter _ (λ r. staying (orphan_list a.os) (row_id r)) (YieldsList-from_slice c.as_chunks.result.0.now cc) c.filter.ensures.closure (λ x b q k. search (rules, tests))) in
+    n ∙ ap length (staying_kept (orphan_list a.os) a.points.now _ (rows_are point_size a.points.now _ c.as_chunks.ensures.front))

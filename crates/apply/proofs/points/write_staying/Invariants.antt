@@ -1,5 +1,4 @@
 -- `apply::write_staying` meets its contract.
-use Rattle.std.proofs.Common.{length, ◌-◌, ◌/◌, ◌≤◌, ◌≡◌}
 use Rattle.apply.proofs.Turns.{stay}
 use Rattle.apply.proofs.Walks.{Walk}
 use Rattle.image.specs.Records.{point_size}
@@ -8,7 +7,4 @@ use Rattle.rows.specs.Rows.{rows_in}
 use Rattle.apply.proofs.points.write_staying.Given as goal
 
 abbrev pub invariant-loop-i : goal.invariant-loop-i
-invariant-loop-i l = (l.i ≤ l.n) × (l.n ≡ length l.points / point_size) × Walk (stay (orphan_list l.os)) point_size (rows_in point_size l.points) l.initial.out l.at l.from l.i l.out l.to
-
-abbrev pub decreases-loop-i : goal.decreases-loop-i
-decreases-loop-i l = l.n - l.i
+invariant-loop-i l = Walk (stay (orphan_list l.os)) point_size (rows_in point_size l.points) l.initial.out l.at l.from l.i l.out l.to

@@ -1,10 +1,10 @@
-use Rattle.std.proofs.Common.{rules}
+use Rattle.std.proofs.Common.{rules, tests}
 use Rattle.bernstein.proofs.KnotWalks.{roots_at_front_found, roots_at_front_refused, no_knots, search_first, out_of, passed, bracketed, all_searched}
 use Rattle.bernstein.proofs.level.between.Goals as goal
-use Rattle.bernstein.proofs.level.between.Goals.{then-not-no_sign_change+in-At, else-not-no_sign_change}
+use Rattle.bernstein.proofs.level.between.Goals.{then-not-no_sign_change+in-Some, else-not-no_sign_change}
 
-pub returns-then-knots-eq0 : goal.returns-then-knots-eq0
-returns-then-knots-eq0 c = let a = c.args in roots_at_front_found _ a.f.now a.z a.budget (no_knots a.c.now a.eps a.knots.now _ _ c.if-knots-eq0.true) (search rules)
+pub returns-then-is_empty : goal.returns-then-is_empty
+returns-then-is_empty c = let a = c.args in roots_at_front_found _ a.f.now a.z a.budget (no_knots a.c.now a.eps a.knots.now _ _ (search (rules, tests))) (search rules)
 
 pub loop-i-init : goal.loop-i-init
 loop-i-init c = let a = c.args in search_first a.c.now a.knots.now a.eps a.f.now a.z a.budget _ (search rules) c.requires c.evaluate-fl.ensures
@@ -19,8 +19,8 @@ loop-i-preserved c =
     let v = c.evaluate-fh.ensures in
     let n = c.no_sign_change.ensures in
     elim c.if-not-no_sign_change.branch [
-      | then-not-no_sign_change+in-At w ↦ bracketed _ _ _ _ _ _ _ _ _ _ _ _ s h _ v _ n _ _ _ _ _ _ w.bisect.ensures w.in-At.is w.if-not-no_sign_change.true w.f-is w.q-is w.left-is
-      | else-not-no_sign_change w ↦ passed _ _ _ _ _ _ _ _ _ _ _ _ s h _ v _ n _ _ _ w.if-not-no_sign_change.false w.f-is w.q-is w.left-is
+      | then-not-no_sign_change+in-Some w ↦ bracketed _ _ _ _ _ _ _ _ _ _ _ _ s h _ v _ n _ _ _ _ _ w.bisect.ensures w.in-Some.is w.if-not-no_sign_change.true w.f-is w.count-is w.left-is
+      | else-not-no_sign_change w ↦ passed _ _ _ _ _ _ _ _ _ _ _ _ s h _ v _ n _ _ _ w.if-not-no_sign_change.false w.f-is w.count-is w.left-is
     ]
 
 pub returns : goal.returns

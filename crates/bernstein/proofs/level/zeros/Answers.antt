@@ -3,13 +3,13 @@ use Rattle.bernstein.proofs.KnotWalks.{sieved, passed_by, all_sieved}
 use Rattle.bernstein.proofs.level.zeros.Goals as goal
 use Rattle.bernstein.proofs.level.zeros.Goals.{then-is_zero, else-is_zero}
 
-pub loop-i-init : goal.loop-i-init
-loop-i-init c = record { behind = search rules; within = search rules; room = search rules; same = refl; done = refl }
+pub loop-t-init : goal.loop-t-init
+loop-t-init c = record { behind = search rules; within = search rules; room = search rules; same = refl; done = refl }
 
-pub loop-i-preserved : goal.loop-i-preserved
-loop-i-preserved c =
-    let s = c.loop-i.invariant in
-    let h = c.loop-i-test.true in
+pub loop-t-preserved : goal.loop-t-preserved
+loop-t-preserved c =
+    let s = c.loop-t.invariant in
+    let h = c.loop-t-test.true in
     let v = c.evaluate.ensures in
     let b = c.is_zero.ensures in
     elim c.if-is_zero.branch [
@@ -18,4 +18,4 @@ loop-i-preserved c =
     ]
 
 pub returns : goal.returns
-returns c = all_sieved _ _ _ _ _ _ _ c.loop-i.invariant c.loop-i-test.false
+returns c = all_sieved _ _ _ _ _ _ _ c.loop-t.invariant c.loop-t-test.false

@@ -2,8 +2,8 @@ use Rattle.std.proofs.Common.{◌∙◌, sym}
 use Rattle.cuts.proofs.Ends.{past, in_ends}
 use Rattle.cuts.proofs.bounded.lies_on.Goals as goal
 
-pub returns-then-not-in_range : goal.returns-then-not-in_range
-returns-then-not-in_range c = past _ _ (sym c.in_range.ensures ∙ c.if-not-in_range.true)
+pub returns-then-in_range : goal.returns-then-in_range
+returns-then-in_range c = in_ends _ _ _ (sym c.in_range.ensures ∙ c.if-in_range.true) c.is_off.ensures
 
-pub returns : goal.returns
-returns c = in_ends _ _ _ (sym c.in_range.ensures ∙ c.if-not-in_range.false) c.is_off.ensures
+pub returns-else-in_range : goal.returns-else-in_range
+returns-else-in_range c = c.if-in_range.false ∙ past _ _ (sym c.in_range.ensures ∙ c.if-in_range.false)

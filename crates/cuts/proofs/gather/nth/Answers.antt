@@ -1,4 +1,4 @@
-use Rattle.cuts.specs.Columns.{crossing_at}
+use Rattle.cuts.specs.Crossings.{crossing_at}
 use Rattle.cuts.proofs.Among.{first_of_two, second_of_two}
 use Rattle.cuts.proofs.gather.nth.Goals as goal
 

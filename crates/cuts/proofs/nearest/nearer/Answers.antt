@@ -1,15 +1,11 @@
-use Rattle.std.proofs.Common.{◌∙◌, sym, arith}
-use Rattle.cuts.proofs.Passes.{turn_off, turn_first, turn_stays, turn_moves}
+use Rattle.cuts.proofs.Passes.{nearer_first, nearer_stays, nearer_moves}
 use Rattle.cuts.proofs.nearest.nearer.Goals as goal
 
-pub returns-then-not-wanted : goal.returns-then-not-wanted
-returns-then-not-wanted c = turn_off _ _ _ _ _ _ (sym c.wanted.ensures ∙ c.if-not-wanted.true)
+pub returns-in-Some : goal.returns-in-Some
+returns-in-Some c = nearer_stays _ _ c.in-Some.is _ c.before_in_order.ensures c.if-before_in_order-last.true
 
-pub returns-then-best-n : goal.returns-then-best-n
-returns-then-best-n c = turn_first _ _ _ _ _ _ (sym c.wanted.ensures ∙ c.if-not-wanted.false) (omega arith)
+pub returns-in_default : goal.returns-in_default
+returns-in_default c = nearer_moves _ _ c.in-Some.is _ c.before_in_order.ensures c.if-before_in_order-last.false
 
-pub returns-then-before_in_order-last : goal.returns-then-before_in_order-last
-returns-then-before_in_order-last c = turn_stays _ _ _ _ _ _ _ (sym c.wanted.ensures ∙ c.if-not-wanted.false) (omega arith) c.before_in_order.ensures c.if-before_in_order-last.true
-
-pub returns-else-before_in_order-last : goal.returns-else-before_in_order-last
-returns-else-before_in_order-last c = turn_moves _ _ _ _ _ _ _ (sym c.wanted.ensures ∙ c.if-not-wanted.false) (omega arith) c.before_in_order.ensures c.if-before_in_order-last.false
+pub returns-in_default-2 : goal.returns-in_default-2
+returns-in_default-2 c = nearer_first _ _ c.in_default.is

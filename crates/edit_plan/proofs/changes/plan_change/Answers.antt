@@ -18,7 +18,7 @@ returns-then-ids_taken-next c =
     let a = c.args in
     let t = c.ids_taken.ensures in
     let m : limits.ids < a.next + takes a.c.kind a.plan = omega (arith, t.0, t.1, c.if-ids_taken-next.true) in
-    c.change_for.ensures ∙ ap (λ b. change_for a.c a.k a.n a.plan (ite b a.next 0)) (sym (lt-leb _ _ m))
+    c.change_for.ensures ∙ ap (λ b. change_for a.c a.plan (ite b a.next 0)) (sym (lt-leb _ _ m))
 
 pub change_for-requires-2 : goal.change_for-requires-2
 change_for-requires-2 c = omega (arith, c.ids_taken.ensures.0, c.ids_taken.ensures.1)
@@ -28,4 +28,4 @@ returns c =
     let a = c.args in
     let t = c.ids_taken.ensures in
     let m : a.next + takes a.c.kind a.plan ≤ limits.ids = omega (arith, t.0, t.1, c.if-ids_taken-next.false) in
-    c.change_for-2.ensures ∙ ap (λ b. change_for a.c a.k a.n a.plan (ite b a.next 0)) (sym (le-leb _ _ m))
+    c.change_for-2.ensures ∙ ap (λ b. change_for a.c a.plan (ite b a.next 0)) (sym (le-leb _ _ m))

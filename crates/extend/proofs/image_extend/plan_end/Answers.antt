@@ -1,3 +1,4 @@
+use Rattle.std.proofs.lemmas.Result.{err_from_is_err_and}
 use Rattle.image.specs.Image.{drawing_of}
 use Rattle.hit_search.specs.Values.{support}
 use Rattle.extend.proofs.ExtendPlans.{end_used, end_stuck, end_by_nearest_hit, reached_stop, reached_best}
@@ -8,57 +9,57 @@ pub returns-then-used_by_other : goal.returns-then-used_by_other
 returns-then-used_by_other c =
     λ e h.
     let a = c.args in
-    let s = a.image.now in
+    let t = a.t.now in
+    let s = t.image.now in
     let d = drawing_of s in
-    let l = support a.a a.b a.atb in
-    let u = used_in s e c.curves_of-curves.result.now c.curves_of-curves.ensures a.id a.end c.used_by_other.ensures in
+    let l = support a.a a.b a.at_b in
+    let u = used_in s e t.curves.now t.own_curves a.id a.end c.used_by_other.ensures in
     record { plan = end_used d a.id a.at l a.end u c.if-used_by_other.true; place = tt }
 
-pub returns-then-k-point_count : goal.returns-then-k-point_count
-returns-then-k-point_count c =
-    λ e h.
-    let a = c.args in
-    let s = a.image.now in
-    let d = drawing_of s in
-    let l = support a.a a.b a.atb in
-    let u = used_in s e c.curves_of-curves.result.now c.curves_of-curves.ensures a.id a.end c.used_by_other.ensures in
-    absurd (end_there s e c.points_of-points.result.now c.points_of-points.ensures c.point_place-k.ensures c.point_count.ensures c.if-k-point_count.true h)
+pub returns-in_default : goal.returns-in_default
+returns-in_default c =
+    λ e h. let a = c.args in let t = a.t.now in absurd (end_there t.image.now e t.points.now t.own_points a.end _ c.point_place.ensures c.in_default.is h)
 
-pub returns-then-p : goal.returns-then-p
-returns-then-p c =
+pub returns-then-point_at : goal.returns-then-point_at
+returns-then-point_at c =
     λ e h.
     let a = c.args in
-    let s = a.image.now in
+    let t = a.t.now in
+    let s = t.image.now in
     let d = drawing_of s in
-    let l = support a.a a.b a.atb in
-    let u = used_in s e c.curves_of-curves.result.now c.curves_of-curves.ensures a.id a.end c.used_by_other.ensures in
-    let fixed = fixed_row s e c.points_of-points.result.now c.points_of-points.ensures c.point_place-k.ensures c.point_count.ensures c.if-k-point_count.false c.point_at-p.ensures in
-    record { plan = end_stuck d a.id a.at l a.end u c.if-used_by_other.false fixed c.if-p.true; place = tt }
+    let l = support a.a a.b a.at_b in
+    let u = used_in s e t.curves.now t.own_curves a.id a.end c.used_by_other.ensures in
+    let fixed = fixed_row s e t.points.now t.own_points a.end _ c.point_place.ensures c.in-Some.is c.point_at.ensures in
+    record { plan = end_stuck d a.id a.at l a.end u c.if-used_by_other.false fixed c.if-point_at.true; place = tt }
 
-pub returns-in-Stopped : goal.returns-in-Stopped
-returns-in-Stopped c =
+pub returns-in_err-nearest : goal.returns-in_err-nearest
+returns-in_err-nearest c =
     λ e h.
     let a = c.args in
-    let s = a.image.now in
+    let t = a.t.now in
+    let s = t.image.now in
     let d = drawing_of s in
-    let l = support a.a a.b a.atb in
-    let u = used_in s e c.curves_of-curves.result.now c.curves_of-curves.ensures a.id a.end c.used_by_other.ensures in
-    let fixed = fixed_row s e c.points_of-points.result.now c.points_of-points.ensures c.point_place-k.ensures c.point_count.ensures c.if-k-point_count.false c.point_at-p.ensures in
-    record {
-      plan = end_by_nearest_hit d a.id a.at l a.end u c.if-used_by_other.false fixed c.if-p.false c.from_line-line.ensures c.param.ensures c.point-foot.ensures (c.nearest_hit.ensures e) (reached_stop _ _ _ c.in-Stopped.is);
+    let l = support a.a a.b a.at_b in
+    let u = used_in s e t.curves.now t.own_curves a.id a.end c.used_by_other.ensures in
+    let fixed = fixed_row s e t.points.now t.own_points a.end _ c.point_place.ensures c.in-Some.is c.point_at.ensures in
+    let p = err_from_is_err_and c.from_residual.result c.from_residual.ensures.1 in
+    rw (p.1, p.2)
+    (record {
+      plan = end_by_nearest_hit d a.id a.at l a.end u c.if-used_by_other.false fixed c.if-point_at.false c.from_line-line.ensures c.param.ensures c.point-foot.ensures (c.nearest_hit.ensures e) (reached_stop _ _ c.in_err-nearest.was);
       place = tt;
-    }
+    })
 
-pub returns-in-Best : goal.returns-in-Best
-returns-in-Best c =
+pub returns : goal.returns
+returns c =
     λ e h.
     let a = c.args in
-    let s = a.image.now in
+    let t = a.t.now in
+    let s = t.image.now in
     let d = drawing_of s in
-    let l = support a.a a.b a.atb in
-    let u = used_in s e c.curves_of-curves.result.now c.curves_of-curves.ensures a.id a.end c.used_by_other.ensures in
-    let fixed = fixed_row s e c.points_of-points.result.now c.points_of-points.ensures c.point_place-k.ensures c.point_count.ensures c.if-k-point_count.false c.point_at-p.ensures in
+    let l = support a.a a.b a.at_b in
+    let u = used_in s e t.curves.now t.own_curves a.id a.end c.used_by_other.ensures in
+    let fixed = fixed_row s e t.points.now t.own_points a.end _ c.point_place.ensures c.in-Some.is c.point_at.ensures in
     record {
-      plan = end_by_nearest_hit d a.id a.at l a.end u c.if-used_by_other.false fixed c.if-p.false c.from_line-line.ensures c.param.ensures c.point-foot.ensures (c.nearest_hit.ensures e) (reached_best _ _ _ c.in-Best.is (c.plan_move.ensures.0 e));
-      place = moves_free d a.id a.atb a.end c.point_place-k.result c.plan_move.result c.plan_move.ensures.1 (free_row s e c.points_of-points.result.now c.points_of-points.ensures c.point_place-k.ensures c.point_count.ensures c.if-k-point_count.false c.point_at-p.ensures a.id u c.if-used_by_other.false c.if-p.false);
+      plan = end_by_nearest_hit d a.id a.at l a.end u c.if-used_by_other.false fixed c.if-point_at.false c.from_line-line.ensures c.param.ensures c.point-foot.ensures (c.nearest_hit.ensures e) (reached_best _ _ c.in_ok-nearest.was (c.plan_move.ensures.0 e));
+      place = moves_free d a.id a.at_b a.end _ c.plan_move.result c.plan_move.ensures.1 (free_row s e t.points.now t.own_points a.end _ c.point_place.ensures c.in-Some.is c.point_at.ensures a.id u c.if-used_by_other.false c.if-point_at.false);
     }

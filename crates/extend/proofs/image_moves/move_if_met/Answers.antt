@@ -1,17 +1,40 @@
--- `extend::move_if_met` meets its contract.
+use Rattle.std.proofs.Common.{sym, ap, refl, ◌∙◌}
+use Rattle.std.proofs.lemmas.Result.{err_from_is_err_and}
+use Rattle.refusal.specs.Refusals.{refusal_number}
+use Rattle.image.specs.Image.{drawing_of}
 use Rattle.apply.proofs.PlanNumbers.{vec_typed}
 use Rattle.extend.proofs.ImageMoves.{move_refused_by, answer_unmet, answer_pin_unmet, answer_met}
-use Rattle.image.specs.Image.{drawing_of}
 use Rattle.extend.proofs.image_moves.move_if_met.Goals as goal
 
-pub returns-then-number-ne0 : goal.returns-then-number-ne0
-returns-then-number-ne0 c = let a = c.args in ((vec_typed c.args.v _ c.well_formed.1.1.1.1.0).0, (vec_typed c.args.v _ c.well_formed.1.1.1.1.0).1, λ e all below alone. rw c.refused.ensures (move_refused_by (drawing_of a.image.now) a.k a.v a.pin a.out.now (c.move_refusal-number.ensures e) c.if-number-ne0.true))
+pub returns-in_err-move_refusal : goal.returns-in_err-move_refusal
+returns-in_err-move_refusal c =
+    let p = err_from_is_err_and c.from_residual.result c.from_residual.ensures.1 in
+    let a = c.args in
+    let t = a.t.now in
+    let s = t.image.now in
+    let v = vec_typed a.v _ c.well_formed.1.1.1.0 in
+    (v.0, v.1, λ e all below alone. rw (p.1, p.2) (move_refused_by (drawing_of s) a.k a.v a.pin _ a.out.now (sym (ap refusal_number c.in_err-move_refusal.was) ∙ c.move_refusal.ensures e)))
 
-pub returns-then-unmet-n : goal.returns-then-unmet-n
-returns-then-unmet-n c = ((vec_typed c.args.v _ c.well_formed.1.1.1.1.0).0, (vec_typed c.args.v _ c.well_formed.1.1.1.1.0).1, λ e all below alone. rw c.refused-then-unmet-n.ensures (answer_unmet c.args.image.now (λ i. (c.type_inv.image i).fits) c.args.id c.args.k c.args.v c.args.pin e all below alone (c.move_refusal-number.ensures e) c.if-number-ne0.false c.points_of.ensures c.point_at-p.ensures c.relations_of.ensures c.relation_count-n.ensures (c.first_unmet_after-unmet.ensures e) c.args.out.now c.if-unmet-n.true))
+pub returns-in-Some : goal.returns-in-Some
+returns-in-Some c =
+    let a = c.args in
+    let t = a.t.now in
+    let s = t.image.now in
+    let v = vec_typed a.v _ c.well_formed.1.1.1.0 in
+    (v.0, v.1, λ e all below alone. answer_unmet s t.bytes a.id a.k a.v a.pin e all below alone (c.move_refusal.ensures e) (ap refusal_number c.in_ok-move_refusal.was) t.own_points c.point_at-p.ensures t.own_relations refl (c.first_unmet_after.ensures e) a.out.now c.in-Some.is)
 
 pub returns-then-not-is_pin_met : goal.returns-then-not-is_pin_met
-returns-then-not-is_pin_met c = ((vec_typed c.args.v _ c.well_formed.1.1.1.1.0).0, (vec_typed c.args.v _ c.well_formed.1.1.1.1.0).1, λ e all below alone. rw c.refused-then-not-is_pin_met.ensures (answer_pin_unmet c.args.image.now (λ i. (c.type_inv.image i).fits) c.args.id c.args.k c.args.v c.args.pin e all below alone (c.move_refusal-number.ensures e) c.if-number-ne0.false c.points_of.ensures c.point_at-p.ensures c.relations_of.ensures c.relation_count-n.ensures (c.first_unmet_after-unmet.ensures e) c.if-unmet-n.false (c.is_pin_met.ensures e) c.args.out.now c.if-not-is_pin_met.true))
+returns-then-not-is_pin_met c =
+    let a = c.args in
+    let t = a.t.now in
+    let s = t.image.now in
+    let v = vec_typed a.v _ c.well_formed.1.1.1.0 in
+    (v.0, v.1, λ e all below alone. answer_pin_unmet s t.bytes a.id a.k a.v a.pin e all below alone (c.move_refusal.ensures e) (ap refusal_number c.in_ok-move_refusal.was) t.own_points c.point_at-p.ensures t.own_relations c.relation_count.ensures (c.first_unmet_after.ensures e) c.in_default.is (c.is_pin_met.ensures e) a.out.now c.if-not-is_pin_met.true)
 
 pub returns : goal.returns
-returns c = ((vec_typed c.args.v _ c.well_formed.1.1.1.1.0).0, (vec_typed c.args.v _ c.well_formed.1.1.1.1.0).1, λ e all below alone. answer_met c.args.image.now (λ i. (c.type_inv.image i).fits) c.args.id c.args.k c.args.v c.args.pin e all below alone (c.move_refusal-number.ensures e) c.if-number-ne0.false c.points_of.ensures c.point_at-p.ensures c.relations_of.ensures c.relation_count-n.ensures (c.first_unmet_after-unmet.ensures e) c.if-unmet-n.false (c.is_pin_met.ensures e) c.if-not-is_pin_met.false c.args.out.now _ _ (c.apply_move-a.ensures e))
+returns c =
+    let a = c.args in
+    let t = a.t.now in
+    let s = t.image.now in
+    let v = vec_typed a.v _ c.well_formed.1.1.1.0 in
+    (v.0, v.1, λ e all below alone. answer_met s t.bytes a.id a.k a.v a.pin e all below alone (c.move_refusal.ensures e) (ap refusal_number c.in_ok-move_refusal.was) t.own_points c.point_at-p.ensures t.own_relations refl (c.first_unmet_after.ensures e) c.in_default.is (c.is_pin_met.ensures e) c.if-not-is_pin_met.false a.out.now _ _ (c.apply_move.ensures e))

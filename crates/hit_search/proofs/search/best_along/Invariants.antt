@@ -1,10 +1,9 @@
-use Rattle.std.proofs.Common.{◌-◌}
-use Rattle.hit_search.specs.Values.{support, best_in}
-use Rattle.hit_search.proofs.NearestHit.{Weighing}
+use Rattle.std.proofs.Common.{◌≡◌}
+use Rattle.support.specs.Pieces.{zip_points}
+use Rattle.hit_search.specs.NearestHit.{best_of}
+use Rattle.hit_search.specs.Values.{support_in, best_in}
 use Rattle.hit_search.proofs.search.best_along.Given as goal
 
-abbrev pub invariant-loop-i : goal.invariant-loop-i
-invariant-loop-i l = Weighing (support l.a l.b l.atb) l.by l.hx l.hy l.n (best_in l.initial.now) l.i (best_in l.now)
-
-abbrev pub decreases-loop-i : goal.decreases-loop-i
-decreases-loop-i l = l.n - l.i
+-- the best of all is the best of what is left, after the best so far
+abbrev pub invariant-loop-x : goal.invariant-loop-x
+invariant-loop-x l = best_of (support_in l.line) l.by (best_in l.fn.best) (zip_points l.hx l.hy) ≡ best_of (support_in l.line) l.by (best_in l.nearest) (zip_points l.x-iterator.a.rest.now l.x-iterator.b.rest.now)

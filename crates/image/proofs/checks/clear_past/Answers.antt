@@ -1,14 +1,13 @@
-use Rattle.std.proofs.Common.{sym, ap, ◌∙◌, ℕ, eqb, eq-eqb, ne_eqb, arith}
-use Rattle.sketch.proofs.Walks.{every_fails, every_passes, every_done}
-use Rattle.image.specs.Records.{slots_of}
-use Rattle.image.proofs.RecordChecks.{slot_at, eight_slots}
+use Rattle.std.proofs.Common.{refl, ◌∙◌, ◌+◌, ◌*◌, ◌-◌, eqb, rules, tests}
+use Rattle.std.proofs.lemmas.Iterator.{YieldsList-from_range}
+use Rattle.std.proofs.lemmas.Iterator.Search.{all_from_yields_List}
+use Rattle.big_endian.specs.Fields.{field}
+use Rattle.image.proofs.Slots.{slots_past}
 use Rattle.image.proofs.checks.clear_past.Goals as goal
 
-pub returns-then-get4-ne0 : goal.returns-then-get4-ne0
-returns-then-get4-ne0 c = let l = c.loop-i in let r = c.args.r.now in sym (l.invariant ∙ every_fails (λ s. eqb s 0) (slots_of r) l.i 0 (rw (eight_slots r) (omega arith)) (ap (λ (n : ℕ). eqb n 0) (sym (c.get4.ensures ∙ slot_at r l.i (omega arith))) ∙ ne_eqb _ _ c.if-get4-ne0.true))
-
-pub loop-i-preserved : goal.loop-i-preserved
-loop-i-preserved c = let l = c.loop-i in let r = c.args.r.now in l.invariant ∙ every_passes (λ s. eqb s 0) (slots_of r) l.i 0 (rw (eight_slots r) (omega arith)) (ap (λ (n : ℕ). eqb n 0) (sym (c.get4.ensures ∙ slot_at r l.i (omega arith))) ∙ eq-eqb _ _ c.if-get4-ne0.false)
-
 pub returns : goal.returns
-returns c = let l = c.loop-i in let r = c.args.r.now in sym (l.invariant ∙ every_done (λ s. eqb s 0) (slots_of r) l.i (rw (eight_slots r) (omega arith)))
+returns c =
+    let r = c.args.r.now in
+    let n = c.args.n in
+    all_from_yields_List (λ i. eqb (field r (7 + i * 4) 4) 0) _ _ _ c.all.ensures.ran (YieldsList-from_range n 8 (8 - n) refl refl) (λ x b q k. search (rules, tests))
+    ∙ slots_past r (λ s. eqb s 0) n

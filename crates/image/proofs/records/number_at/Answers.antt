@@ -9,5 +9,5 @@ float_from_bits-result c = number_bits_lem _ refl (sym c.is_number.ensures ∙ c
 pub returns-then-is_number : goal.returns-then-is_number
 returns-then-is_number c = number_is _ _ c.get8-bits.ensures c.is_number.ensures c.if-is_number.true
 
-pub returns : goal.returns
-returns c = number_is_none _ _ c.get8-bits.ensures c.is_number.ensures c.if-is_number.false
+pub returns-else-is_number : goal.returns-else-is_number
+returns-else-is_number c = number_is_none _ _ c.get8-bits.ensures c.is_number.ensures c.if-is_number.false

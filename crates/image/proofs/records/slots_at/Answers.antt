@@ -1,6 +1,9 @@
-use Rattle.image.specs.Records.{ids_at}
+use Rattle.std.proofs.Common.{◌∙◌, ◌+◌, ◌*◌, rules}
+use Rattle.big_endian.specs.Fields.{field}
+use Rattle.image.proofs.Slots.{made, slots_made}
 use Rattle.image.proofs.records.slots_at.Goals as goal
 
 pub returns : goal.returns
-unfolding ids_at
-returns c = simp (c.get4-8.ensures, c.get4-7.ensures, c.get4-6.ensures, c.get4-5.ensures, c.get4-4.ensures, c.get4-3.ensures, c.get4-2.ensures, c.get4.ensures)
+returns c =
+    let r = c.args.r.now in
+    made _ _ (λ i. field r (7 + i * 4) 4) (λ i y q k. search rules) _ 8 c.from_fn.ensures.items ∙ slots_made r

@@ -5,12 +5,14 @@ use Rattle.image.specs.Encode.{encode_curve}
 use Rattle.image.specs.Records.{curve_size}
 use Rattle.big_endian.specs.Laws.{run_starts, run_puts, run_over}
 use Rattle.image.proofs.writer.write_curve.Goals as goal
+use Rattle.image.proofs.writer.write_curve.Goals.{then-n-lt-CURVE_SIZE-via-then-n-lt-CURVE_SIZE, then-n-lt-CURVE_SIZE-via-else-n-lt-CURVE_SIZE+then-n-at}
 
 pub returns-then-n-lt-CURVE_SIZE : goal.returns-then-n-lt-CURVE_SIZE
-returns-then-n-lt-CURVE_SIZE c = record_skipped c.args.buf.now c.args.at curve_size _ (length_curve c.args.c (omega arith)) (omega arith)
-
-pub returns-then-n-at : goal.returns-then-n-at
-returns-then-n-at c = record_skipped c.args.buf.now c.args.at curve_size _ (length_curve c.args.c (omega arith)) (omega arith)
+returns-then-n-lt-CURVE_SIZE c =
+    elim c.then-n-lt-CURVE_SIZE.branch [
+      | then-n-lt-CURVE_SIZE-via-then-n-lt-CURVE_SIZE w ↦ record_skipped c.args.buf.now c.args.at curve_size _ (length_curve c.args.c (omega arith)) (omega arith)
+      | then-n-lt-CURVE_SIZE-via-else-n-lt-CURVE_SIZE+then-n-at w ↦ record_skipped c.args.buf.now c.args.at curve_size _ (length_curve c.args.c (omega arith)) (omega arith)
+    ]
 
 pub returns : goal.returns
 unfolding encode_curve

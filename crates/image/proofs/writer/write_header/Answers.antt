@@ -6,18 +6,17 @@ use Rattle.image.specs.Image.{header_size}
 use Rattle.big_endian.specs.Laws.{run_starts, run_puts}
 use borrow.Author.Tests.{lt-leb}
 use Rattle.image.proofs.writer.write_header.Goals as goal
+use Rattle.image.proofs.writer.write_header.Goals.{then-np-gt512-via-then-np-gt512, then-np-gt512-via-else-np-gt512+then-nc-gt128, then-np-gt512-via-else-np-gt512+else-nc-gt128+then-nr-gt256, then-np-gt512-via-else-np-gt512+else-nc-gt128+else-nr-gt256+then-buf-lt-HEADER_SIZE}
 
 pub returns-then-np-gt512 : goal.returns-then-np-gt512
-returns-then-np-gt512 c = simp (lt-leb _ _ c.if-np-gt512.true)
-
-pub returns-then-nc-gt128 : goal.returns-then-nc-gt128
-returns-then-nc-gt128 c = simp (le-leb _ _ c.if-np-gt512.false, lt-leb _ _ c.if-nc-gt128.true)
-
-pub returns-then-nr-gt256 : goal.returns-then-nr-gt256
-returns-then-nr-gt256 c = simp (le-leb _ _ c.if-np-gt512.false, le-leb _ _ c.if-nc-gt128.false, lt-leb _ _ c.if-nr-gt256.true)
-
-pub returns-then-buf-lt-HEADER_SIZE : goal.returns-then-buf-lt-HEADER_SIZE
-returns-then-buf-lt-HEADER_SIZE c = rw (le-leb _ _ c.if-np-gt512.false, le-leb _ _ c.if-nc-gt128.false, le-leb _ _ c.if-nr-gt256.false) (record_skipped c.args.buf.now 0 header_size _ (length_header _ _ _ _) (omega arith))
+returns-then-np-gt512 c =
+    elim c.then-np-gt512.branch [
+      | then-np-gt512-via-then-np-gt512 w ↦ simp (lt-leb _ _ w.if-np-gt512.true)
+      | then-np-gt512-via-else-np-gt512+then-nc-gt128 w ↦ simp (le-leb _ _ w.if-np-gt512.false, lt-leb _ _ w.if-nc-gt128.true)
+      | then-np-gt512-via-else-np-gt512+else-nc-gt128+then-nr-gt256 w ↦ simp (le-leb _ _ w.if-np-gt512.false, le-leb _ _ w.if-nc-gt128.false, lt-leb _ _ w.if-nr-gt256.true)
+      | then-np-gt512-via-else-np-gt512+else-nc-gt128+else-nr-gt256+then-buf-lt-HEADER_SIZE w ↦
+          rw (le-leb _ _ w.if-np-gt512.false, le-leb _ _ w.if-nc-gt128.false, le-leb _ _ w.if-nr-gt256.false) (record_skipped c.args.buf.now 0 header_size _ (length_header _ _ _ _) (omega arith))
+    ]
 
 pub returns : goal.returns
 unfolding header

@@ -5,12 +5,14 @@ use Rattle.image.specs.Encode.{encode_relation}
 use Rattle.image.specs.Records.{relation_size}
 use Rattle.big_endian.specs.Laws.{run_starts, run_puts}
 use Rattle.image.proofs.writer.write_relation.Goals as goal
+use Rattle.image.proofs.writer.write_relation.Goals.{then-n-lt-RELATION_SIZE-via-then-n-lt-RELATION_SIZE, then-n-lt-RELATION_SIZE-via-else-n-lt-RELATION_SIZE+then-n-at}
 
 pub returns-then-n-lt-RELATION_SIZE : goal.returns-then-n-lt-RELATION_SIZE
-returns-then-n-lt-RELATION_SIZE c = record_skipped c.args.buf.now c.args.at relation_size _ (length_relation c.args.r) (omega arith)
-
-pub returns-then-n-at : goal.returns-then-n-at
-returns-then-n-at c = record_skipped c.args.buf.now c.args.at relation_size _ (length_relation c.args.r) (omega arith)
+returns-then-n-lt-RELATION_SIZE c =
+    elim c.then-n-lt-RELATION_SIZE.branch [
+      | then-n-lt-RELATION_SIZE-via-then-n-lt-RELATION_SIZE w ↦ record_skipped c.args.buf.now c.args.at relation_size _ (length_relation c.args.r) (omega arith)
+      | then-n-lt-RELATION_SIZE-via-else-n-lt-RELATION_SIZE+then-n-at w ↦ record_skipped c.args.buf.now c.args.at relation_size _ (length_relation c.args.r) (omega arith)
+    ]
 
 pub returns : goal.returns
 unfolding encode_relation

@@ -29,4 +29,4 @@ returns c =
     let w8 = run_puts a.buf.now 0 y_at 8 _ _ _ _ (omega arith) w7 c.put8-3.ensures in
     let t1 = le-leb _ _ c.if-m-lt1.false in
     let t2 = le-leb _ _ h in
-    record { number = rw (t1, t2); buffer = rw (t1, t2) (w8.is ∙ simp (append_assoc, c.operation_byte.ensures)) }
+    record { number = rw (t1, t2); buffer = rw (t1, t2) (w8.is ∙ simp (append_assoc, c.from.ensures, c.from-2.ensures, c.from-3.ensures, c.from-4.ensures, c.from-5.ensures)) }

@@ -1,14 +1,11 @@
 -- `mulkefi::mulkefi_roots` meets its contract.
-use Rattle.std.proofs.Common.{◌∙◌}
-use Rattle.bernstein.proofs.Answers.{refused_not_found}
+use Rattle.std.proofs.Common.{ap}
+use Rattle.bernstein.specs.Answers.{answer_in}
 use Rattle.mulkefi.proofs.RootsAnswer.{answered_found, answered_refused}
 use Rattle.mulkefi.proofs.polynomials.mulkefi_roots.Goals as goal
 
-pub returns-in_default-roots : goal.returns-in_default-roots
-returns-in_default-roots c = refused_not_found c.in_default-roots.is
-
 pub returns-in_default : goal.returns-in_default
-returns-in_default c = answered_refused _ _ _ _ _ c.roots-roots.ensures _ _ (c.in_default.is ∙ c.in-Refused.is)
+returns-in_default c = rw (c.from.ensures, c.number.ensures) (answered_refused _ _ _ _ _ c.roots-searched.ensures _ _ (ap answer_in c.unwrap_err.ensures))
 
 pub returns : goal.returns
-returns c = answered_found _ _ _ _ _ c.roots-roots.ensures _ _ c.in-Found.is
+returns c = answered_found _ _ _ _ _ c.roots-searched.ensures _ _ (ap answer_in c.in-Ok.is)

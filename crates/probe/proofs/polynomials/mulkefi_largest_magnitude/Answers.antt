@@ -1,8 +1,9 @@
+use Rattle.std.proofs.Common.{refl}
 use Rattle.float.proofs.LargestMagnitude.{magnitude_written_largest, magnitude_written_not_finite}
 use Rattle.probe.proofs.polynomials.mulkefi_largest_magnitude.Goals as goal
 
-pub returns-in-NotFinite : goal.returns-in-NotFinite
-returns-in-NotFinite c = magnitude_written_not_finite _ _ _ c.largest_magnitude.ensures _ c.in-NotFinite.is
+pub returns-in-Ok : goal.returns-in-Ok
+returns-in-Ok c = magnitude_written_largest _ _ _ c.in-Ok.ensures _ refl
 
-pub returns-in-Largest : goal.returns-in-Largest
-returns-in-Largest c = magnitude_written_largest _ _ _ c.largest_magnitude.ensures _ c.in-Largest.is
+pub returns-in-Err : goal.returns-in-Err
+returns-in-Err c = magnitude_written_not_finite _ _ _ c.in-Err.ensures _ refl

@@ -1,13 +1,11 @@
-use Rattle.std.proofs.Common.{◌∙◌}
-use Rattle.bernstein.proofs.Answers.{refused_not_found}
+use Rattle.std.proofs.Common.{refl}
 use Rattle.probe.proofs.RootsAnswer.{answered_found, answered_refused}
 use Rattle.probe.proofs.polynomials.mulkefi_roots.Goals as goal
 
-pub returns-in_default-roots : goal.returns-in_default-roots
-returns-in_default-roots c = refused_not_found c.in_default-roots.is
-
 pub returns-in_default : goal.returns-in_default
-returns-in_default c = answered_refused _ _ _ _ _ c.roots-roots.ensures _ _ (c.in_default.is ∙ c.in-Refused.is)
+returns-in_default c =
+    let s = rw c.unwrap_err-stopped.ensures at c.roots-roots.ensures in
+    rw (c.from.ensures, c.number.ensures) (answered_refused _ _ _ _ _ s _ _ refl)
 
 pub returns : goal.returns
-returns c = answered_found _ _ _ _ _ c.roots-roots.ensures _ _ c.in-Found.is
+returns c = answered_found _ _ _ _ _ c.in-Ok.ensures _ _ refl

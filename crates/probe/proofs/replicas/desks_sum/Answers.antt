@@ -1,16 +1,16 @@
--- `probe::replicas::desks_sum` meets its contract. The invariant: the sum of those so far.
-use Rattle.std.proofs.Common.{◌-◌, arith, rules}
+-- `probe::replicas::desks_sum` meets its contract.
+use Rattle.std.proofs.Common.{refl, arith, rules}
 use Rattle.probe.proofs.Sums.{none_yet, once_more, all_done}
 use Rattle.probe.proofs.replicas.desks_sum.Goals as goal
 
 pub loop-i-init : goal.loop-i-init
-loop-i-init c = (omega arith, search rules, none_yet _)
+loop-i-init c = (search rules, none_yet _)
 
-pub desk_adds-more-requires : goal.desk_adds-more-requires
-desk_adds-more-requires c = (c.requires, omega (arith, c.loop-i.invariant.1))
+pub desk_adds-sum-requires : goal.desk_adds-sum-requires
+desk_adds-sum-requires c = (c.requires, omega (arith, c.loop-i.invariant.0))
 
 pub loop-i-preserved : goal.loop-i-preserved
-loop-i-preserved c = (omega arith, search rules, once_more _ _ c.loop-i.invariant.2 c.desk_adds-more.ensures c.wrapping_add_u32-sum.ensures.value)
+loop-i-preserved c = (search rules, once_more _ _ c.loop-i.invariant.1 c.desk_adds-sum.ensures refl)
 
 pub returns : goal.returns
-returns c = all_done _ _ _ c.loop-i.invariant.0 (omega arith) c.loop-i.invariant.2
+returns c = all_done _ _ _ c.loop-i.auto.i-end c.loop-i-test.false c.loop-i.invariant.1

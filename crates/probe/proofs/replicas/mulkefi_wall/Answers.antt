@@ -1,9 +1,9 @@
-use Rattle.std.proofs.Common.{sym, arith, length-take-le}
-use Rattle.probe.proofs.ReplicaSums.{read_whole}
+use Rattle.std.proofs.Common.{ℕ, List, subst, rules}
+use Rattle.wall_program.specs.Program.{program_outcome, WritesOutcome}
+use Rattle.probe.proofs.ReplicaSums.{read_front}
 use Rattle.probe.proofs.replicas.mulkefi_wall.Goals as goal
 
-pub returns-then-input-le-INPUT : goal.returns-then-input-le-INPUT
-returns-then-input-le-INPUT c = read_whole c.args.input.now c.if-input-le-INPUT.true c.run_program.ensures
-
-pub slice_bounds-run_program-end : goal.slice_bounds-run_program-end
-slice_bounds-run_program-end c = sym (length-take-le 65536 c.args.input.now (omega arith))
+pub returns : goal.returns
+returns c =
+    let e = read_front c.args.input.now c.min.result (λ h. search rules) (λ h. search rules) in
+    subst (λ (l : List ℕ). WritesOutcome (program_outcome l) c.args.out.now c.run_program.new.out c.run_program.result) e c.run_program.ensures

@@ -5,7 +5,7 @@ pub returns-in-Zero : goal.returns-in-Zero
 returns-in-Zero c = crossed_none _ _ (cc)
 
 pub returns-in-One : goal.returns-in-One
-returns-in-One c = crossed_once _ _ c.in-One.p (cc)
+returns-in-One c = rw c.put_point.ensures (crossed_once _ _ c.in-One.p (cc))
 
 pub returns-in-Two : goal.returns-in-Two
-returns-in-Two c = crossed_twice _ _ c.in-Two.p c.in-Two.q (cc)
+returns-in-Two c = rw (c.put_point-in-Two-2.ensures, c.put_point-in-Two.ensures) (crossed_twice _ _ c.in-Two.p c.in-Two.q (cc))

@@ -1,15 +1,15 @@
-use Rattle.std.proofs.Common.{eq-eqb, ne_eqb}
+use Rattle.std.proofs.Common.{arith, ne_eqb}
 use Rattle.probe.specs.Shapes.{shape_from_numbers}
 use Rattle.probe.proofs.shapes.shape_from_numbers.Goals as goal
 
-pub returns-then-kind-eq-LINE : goal.returns-then-kind-eq-LINE
+pub returns-in-0 : goal.returns-in-0
 unfolding shape_from_numbers
-returns-then-kind-eq-LINE c = simp (c.from_line.ensures, c.new-q.ensures, c.new-p.ensures, eq-eqb _ _ c.if-kind-eq-LINE.true)
+returns-in-0 c = simp (c.from_line.ensures, c.new-q.ensures, c.new-p.ensures, c.in-0.is)
 
-pub returns-then-kind-eq-ARC : goal.returns-then-kind-eq-ARC
+pub returns-in-1 : goal.returns-in-1
 unfolding shape_from_numbers
-returns-then-kind-eq-ARC c = simp (c.from_arc.ensures, c.new.ensures, c.new-q.ensures, c.new-p.ensures, ne_eqb _ _ c.if-kind-eq-LINE.false, eq-eqb _ _ c.if-kind-eq-ARC.true)
+returns-in-1 c = simp (c.from_arc.ensures, c.new.ensures, c.new-q.ensures, c.new-p.ensures, c.in-1.is)
 
-pub returns : goal.returns
+pub returns-in_default : goal.returns-in_default
 unfolding shape_from_numbers
-returns c = simp (c.from_circle.ensures, c.new-p.ensures, ne_eqb _ _ c.if-kind-eq-LINE.false, ne_eqb _ _ c.if-kind-eq-ARC.false)
+returns-in_default c = simp (c.from_circle.ensures, c.new-p.ensures, ne_eqb c.args.kind 0 (omega arith), ne_eqb c.args.kind 1 (omega arith))

@@ -1,47 +1,46 @@
 -- `probe::mulkefi_relations_test` meets its contract.
-use Rattle.std.proofs.Common.{◌≡◌, ℕ, List, sym, refl, ◌∙◌, subst, rules}
-use Rattle.sketch_image.specs.declared.ImageRead.{ImageRead}
-use Rattle.sketch_image.specs.SketchImage.{ReadAnswer}
-use Rattle.sketch_image.proofs.Answers.{read_number, read_drawing}
-use Rattle.probe.specs.Probe.{altered}
-use Rattle.probe.specs.declared.Verdict.{Verdict}
-use Rattle.probe.specs.Relations.{UnmetAnswer, numbered, unread, tested, RelationsTested}
+use Rattle.std.proofs.Common.{◌≡◌, ℕ, List, refl, ◌∙◌, subst, rules}
+use Rattle.std.specs.Prelude.{Option, Ok}
+use Rattle.refusal.specs.Refusals.{number}
+use Rattle.sketch.specs.declared.Sketch.{Sketch}
+use Rattle.probe.specs.Probe.{AlteredRead}
+use Rattle.probe.specs.Relations.{Verdict, Refused, Met, Unmet, UnmetAnswer, verdict_of, numbered, unread, tested, RelationsTested}
 use Rattle.probe.proofs.UnmetAnswers.{place_below}
 use Rattle.probe.proofs.verdicts.mulkefi_relations_test.Goals as goal
 
 -- a verdict on the altered sketch, as a number
 judged :
-    (s : List ℕ) (next points curves relations : ℕ) (r : ImageRead) → ReadAnswer s r → r.refusal ≡ 0 → {v w : Verdict} → v ≡ w → UnmetAnswer (altered r.sketch next points curves relations) v
-    → RelationsTested s next points curves relations (numbered w)
-judged s next points curves relations r a z e u =
-    tested r.sketch _ (sym (read_number r s a.result_is) ∙ z) (read_drawing r s a.result_is z) (subst (UnmetAnswer (altered r.sketch next points curves relations)) e u) refl
+    (bytes : List ℕ) (next points curves relations : ℕ) (sk : Sketch) → AlteredRead bytes next points curves relations (Ok sk) → (v : Verdict) → UnmetAnswer sk v → {r : ℕ} → r ≡ numbered v
+    → RelationsTested bytes next points curves relations r
+judged bytes next points curves relations sk (s, i, w, e) v u q = tested s v i w (subst (λ (x : Sketch). UnmetAnswer x v) e u) q
 
-pub returns-then-r-ne0 : goal.returns-then-r-ne0
-returns-then-r-ne0 c =
-    let r = c.read-r in
-    let e = read_number r.result c.args.bytes.now r.ensures.result_is in
-    unread (λ z. c.if-r-ne0.true (e ∙ z)) e
+pub returns-in-Err : goal.returns-in-Err
+returns-in-Err c =
+    let (n, e) = c.in-Err.ensures in
+    unread n (c.from.ensures ∙ c.number.ensures ∙ e)
 
-pub overflow_cast-result-in-Unmet : goal.overflow_cast-result-in-Unmet
-overflow_cast-result-in-Unmet c =
-    let s = altered c.read-r.result.sketch c.args.next c.args.points c.args.curves c.args.relations in
-    let q = place_below s _ (subst (UnmetAnswer s) c.in-Unmet.is c.unmet.ensures) in
+pub returns-in-Ok-None : goal.returns-in-Ok-None
+unfolding numbered
+returns-in-Ok-None c =
+    let u = subst (λ (o : Option ℕ). UnmetAnswer c.in-Ok.sk (verdict_of (Ok o))) c.in-Ok-None.field-0-is c.in-Ok-None.ensures in
+    judged c.args.bytes.now _ _ _ _ c.in-Ok.sk c.in-Ok.ensures Met u refl
+
+pub overflow_cast-result : goal.overflow_cast-result
+overflow_cast-result c =
+    let q = place_below c.in-Ok.sk _ (subst (λ (o : Option ℕ). UnmetAnswer c.in-Ok.sk (verdict_of (Ok o))) c.in-Ok-Some.field-0-is c.in-Ok-Some.ensures) in
     search rules
 
 pub overflow_add-result : goal.overflow_add-result
 overflow_add-result c =
-    let s = altered c.read-r.result.sketch c.args.next c.args.points c.args.curves c.args.relations in
-    let q = place_below s _ (subst (UnmetAnswer s) c.in-Unmet.is c.unmet.ensures) in
+    let q = place_below c.in-Ok.sk _ (subst (λ (o : Option ℕ). UnmetAnswer c.in-Ok.sk (verdict_of (Ok o))) c.in-Ok-Some.field-0-is c.in-Ok-Some.ensures) in
     search rules
 
-pub returns-in-Refused : goal.returns-in-Refused
+pub returns-in-Ok-Some : goal.returns-in-Ok-Some
 unfolding numbered
-returns-in-Refused c = judged _ _ _ _ _ c.read-r.result c.read-r.ensures c.if-r-ne0.false c.in-Refused.is c.unmet.ensures
+returns-in-Ok-Some c =
+    let u = subst (λ (o : Option ℕ). UnmetAnswer c.in-Ok.sk (verdict_of (Ok o))) c.in-Ok-Some.field-0-is c.in-Ok-Some.ensures in
+    judged c.args.bytes.now _ _ _ _ c.in-Ok.sk c.in-Ok.ensures (Unmet c.in-Ok-Some.place) u refl
 
-pub returns-in-Met : goal.returns-in-Met
+pub returns-in-Err-unmet : goal.returns-in-Err-unmet
 unfolding numbered
-returns-in-Met c = judged _ _ _ _ _ c.read-r.result c.read-r.ensures c.if-r-ne0.false c.in-Met.is c.unmet.ensures
-
-pub returns-in-Unmet : goal.returns-in-Unmet
-unfolding numbered
-returns-in-Unmet c = judged _ _ _ _ _ c.read-r.result c.read-r.ensures c.if-r-ne0.false c.in-Unmet.is c.unmet.ensures
+returns-in-Err-unmet c = judged c.args.bytes.now _ _ _ _ c.in-Ok.sk c.in-Ok.ensures (Refused (number c.in-Err-unmet.refusal)) c.in-Err-unmet.ensures (c.from-in-Err-unmet.ensures ∙ c.number-in-Err-unmet.ensures)

@@ -7,18 +7,18 @@ pub returns-in-Coincident : goal.returns-in-Coincident
 returns-in-Coincident c = λ ps cs p w. c.close.ensures ∙ met_coincident _ cs _ c.in-Coincident.is (c.position_after.ensures ps p) (c.position_after-in-Coincident.ensures ps p)
 
 pub returns-in-PointOnCurve : goal.returns-in-PointOnCurve
-returns-in-PointOnCurve c = λ ps cs p w. c.on.ensures ∙ met_on_curve _ cs _ _ c.in-PointOnCurve.is (c.curve_data.ensures ps cs p w) (c.position_after-in-PointOnCurve.ensures ps p)
+returns-in-PointOnCurve c = λ ps cs p w. c.on.ensures ∙ met_on_curve _ cs _ _ c.in-PointOnCurve.is (c.whole_shape.ensures ps cs p w) (c.position_after-in-PointOnCurve.ensures ps p)
 
 pub returns-in-Collinear : goal.returns-in-Collinear
-returns-in-Collinear c = λ ps cs p w. c.is_collinear.ensures ∙ met_collinear _ cs _ _ _ c.in-Collinear.is (c.curve_data-in-Collinear.ensures ps cs p w) (c.curve_data-in-Collinear-2.ensures ps cs p w)
+returns-in-Collinear c = λ ps cs p w. c.is_collinear.ensures ∙ met_collinear _ cs _ _ _ c.in-Collinear.is (c.whole_shape-in-Collinear.ensures ps cs p w) (c.whole_shape-in-Collinear-2.ensures ps cs p w)
 
 pub returns-in-Equal : goal.returns-in-Equal
 returns-in-Equal c =
     λ ps cs p w. c.same.ensures ∙ rw (c.length_or_radius_of-in-Equal.ensures, c.length_or_radius_of.ensures)
-    (met_equal _ cs _ _ _ c.in-Equal.is (c.curve_data-s.ensures ps cs p w) (c.curve_data-t.ensures ps cs p w))
+    (met_equal _ cs _ _ _ c.in-Equal.is (c.whole_shape-s.ensures ps cs p w) (c.whole_shape-t.ensures ps cs p w))
 
 pub returns-in-Length : goal.returns-in-Length
-returns-in-Length c = λ ps cs p w. c.same-in-Length.ensures ∙ rw c.length_or_radius_of-in-Length.ensures (met_length _ cs _ _ c.in-Length.is (c.curve_data-s-in-Length.ensures ps cs p w))
+returns-in-Length c = λ ps cs p w. c.same-in-Length.ensures ∙ rw c.length_or_radius_of-in-Length.ensures (met_length _ cs _ _ c.in-Length.is (c.whole_shape-s-in-Length.ensures ps cs p w))
 
 pub returns-in-Distance : goal.returns-in-Distance
 returns-in-Distance c =
@@ -26,7 +26,7 @@ returns-in-Distance c =
     (met_distance _ cs _ c.in-Distance.is (c.position_after-a.ensures ps p) (c.position_after-b.ensures ps p))
 
 pub returns-in-Midpoint : goal.returns-in-Midpoint
-returns-in-Midpoint c = λ ps cs p w. c.is_midpoint.ensures ∙ met_midpoint _ cs _ _ c.in-Midpoint.is (c.position_after-in-Midpoint.ensures ps p) (c.curve_data-in-Midpoint.ensures ps cs p w)
+returns-in-Midpoint c = λ ps cs p w. c.is_midpoint.ensures ∙ met_midpoint _ cs _ _ c.in-Midpoint.is (c.position_after-in-Midpoint.ensures ps p) (c.whole_shape-in-Midpoint.ensures ps cs p w)
 
 pub returns-in-ArcLength : goal.returns-in-ArcLength
 returns-in-ArcLength c = λ ps cs p w. met_arc_length _ cs _ c.in-ArcLength.is

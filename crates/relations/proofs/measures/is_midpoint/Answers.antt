@@ -1,11 +1,16 @@
--- `relations::is_midpoint` meets its contract.
-use Rattle.relations.proofs.CurveMeasures.{whole_line, no_middle, never_close}
-use Rattle.relations.specs.Met.{line_midpoint}
+use Rattle.std.proofs.Common.{ap, sym, ◌∙◌}
+use Rattle.float.specs.Numbers.{½}
+use Rattle.geom.specs.Plane.{◌·ᵥ◌}
+use Rattle.geom.specs.declared.Vec2.{Vec2}
+use Rattle.relations.specs.Met.{close}
+use Rattle.relations.proofs.CurveMeasures.{never_close, line_middle, round_no_middle, none_no_middle}
 use Rattle.relations.proofs.measures.is_midpoint.Goals as goal
 
-pub returns-then-s-eq1 : goal.returns-then-s-eq1
-unfolding line_midpoint
-returns-then-s-eq1 c = simp (whole_line c.args.s c.if-s-eq1.true, c.close.ensures, c.scale.ensures, c.add.ensures)
+pub returns-in-Line : goal.returns-in-Line
+returns-in-Line c = c.close.ensures ∙ ap (close c.args.p) (c.mul.ensures ∙ ap (λ (v : Vec2). v ·ᵥ ½) c.add.ensures ∙ sym (line_middle c.in-Some.is c.in-Line.is))
 
-pub returns : goal.returns
-returns c = rw (no_middle c.args.s c.if-s-eq1.false) (never_close _)
+pub returns-in-Round : goal.returns-in-Round
+returns-in-Round c = never_close _ ∙ ap (close c.args.p) (sym (round_no_middle c.in-Some.is c.in-Round.is))
+
+pub returns-in-None : goal.returns-in-None
+returns-in-None c = never_close _ ∙ ap (close c.args.p) (sym (none_no_middle c.in-None.is))

@@ -9,8 +9,8 @@ float_from_bits-at c = subst T (sym (ap not c.requires.0)) tt
 pub float_from_bits-at-2 : goal.float_from_bits-at-2
 float_from_bits-at-2 c = subst T (sym (ap not c.requires.1)) tt
 
-pub returns-then-e-ne0 : goal.returns-then-e-ne0
-returns-then-e-ne0 c = message_declined c.args.replica c.args.m c.args.buffer.now _ _ c.edit_in_place-e.ensures c.if-e-ne0.true c.refuse.ensures
+pub returns-in-Err : goal.returns-in-Err
+returns-in-Err c = message_declined c.args.replica c.args.m c.args.buffer.now _ _ c.in-Err.ensures c.refuse.ensures
 
-pub returns : goal.returns
-returns c = message_applied c.args.replica c.args.m c.args.buffer.now _ _ c.edit_in_place-e.ensures c.if-e-ne0.false
+pub returns-in-Ok : goal.returns-in-Ok
+returns-in-Ok c = message_applied c.args.replica c.args.m c.args.buffer.now _ _ c.in-Ok.ensures

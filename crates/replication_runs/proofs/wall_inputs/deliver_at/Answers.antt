@@ -13,4 +13,4 @@ pub returns : goal.returns
 returns c =
     let a = c.args in
     λ entries desk mark start before order r.
-    ran_own mark start entries a.others.now before order a.run a.log.now desk a.wall.now r a.o c.wall_deliver-answer.result.replica _ c.if-n-o.false _ _ refl refl refl c.wall_deliver-answer.ensures
+    ran_own mark start entries a.others.now before order a.run a.log.now desk a.wall.now r a.o c.wall_deliver.result.replica _ c.if-n-o.false _ _ refl refl refl c.wall_deliver.ensures

@@ -1,15 +1,12 @@
-use Rattle.std.proofs.Common.{arith, sym, ◌∙◌, ◌*◌, ◌%◌, ◌≤◌, ◌<◌, get_or, mul-le-mul}
+use Rattle.std.proofs.Common.{subst, sym, ap, ◌∙◌, List, ℕ}
+use Rattle.image.specs.Image.{row_id}
+use Rattle.rows.specs.Rows.{RecordOf}
 use Rattle.rows.proofs.RecordById.{record_taken}
 use Rattle.rows.proofs.places.record_of.Goals as goal
 
-pub overflow_cast-at : goal.overflow_cast-at
-overflow_cast-at c = omega (arith, c.type_inv.near (c.args.id % 1024))
-
-pub overflow_mul-at : goal.overflow_mul-at
-overflow_mul-at c = let a = c.args in let i = get_or a.near.now (a.id % 1024) 0 in let w : i < 65536 = (c.type_inv.near (a.id % 1024)).fits in let m : i * a.size ≤ 65536 * 65536 = mul-le-mul {n₂ = 65536} {m₂ = 65536} (omega arith) c.requires.1 in record { fits = omega arith }
-
-pub overflow_add-end : goal.overflow_add-end
-overflow_add-end c = let a = c.args in let i = get_or a.near.now (a.id % 1024) 0 in let w : i < 65536 = (c.type_inv.near (a.id % 1024)).fits in let m : i * a.size ≤ 65536 * 65536 = mul-le-mul {n₂ = 65536} {m₂ = 65536} (omega arith) c.requires.1 in record { fits = omega arith }
-
-pub returns-then-get4-id : goal.returns-then-get4-id
-returns-then-get4-id c = let a = c.args in record_taken a.size a.t.now a.id (get_or a.near.now (a.id % 1024) 0) c.requires.0 (omega arith) (sym c.get4.ensures ∙ c.if-get4-id.true)
+pub returns-in-Some : goal.returns-in-Some
+returns-in-Some g c =
+    let a = c.args in
+    let w = c.in-Some.ensures.lookup.0 in
+    subst (λ (r : List ℕ). RecordOf g.row.SIZE a.t.now a.id r) (sym w.2)
+    (record_taken g.row.SIZE a.t.now a.id c.guess_of-at.result c.requires.0 w.1 (ap row_id (sym w.2) ∙ sym c.get4.ensures ∙ c.if-get4-id.true))

@@ -7,4 +7,4 @@ returns-in-Line c = simp (c.line_point.ensures, c.in-Line.is)
 
 pub returns-in-Round : goal.returns-in-Round
 unfolding point
-returns-in-Round c = simp (c.add.ensures, c.scale.ensures, c.heading.ensures, c.wrapped.ensures, c.in-Round.is)
+returns-in-Round c = simp (c.add.ensures, c.mul.ensures, c.heading.ensures, c.wrapped.ensures, c.in-Round.is)

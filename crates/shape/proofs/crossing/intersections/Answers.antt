@@ -1,18 +1,18 @@
 use Rattle.shape.specs.Intersections.{crossings}
 use Rattle.shape.proofs.crossing.intersections.Goals as goal
 
-pub returns-in-Line-other : goal.returns-in-Line-other
+pub returns-in-Line-Line : goal.returns-in-Line-Line
 unfolding crossings
-returns-in-Line-other c = simp (c.lines.ensures, c.from_points-in-Line-other.ensures, c.from_points.ensures, c.in-Line-other.is, c.in-Line.is)
+returns-in-Line-Line c = simp (c.lines.ensures, c.from_points-in-Line-Line.ensures, c.from_points.ensures, c.in-Line-Line.is-0, c.in-Line-Line.is-1)
 
-pub returns-in-Round-other : goal.returns-in-Round-other
+pub returns-in-Line-Round : goal.returns-in-Line-Round
 unfolding crossings
-returns-in-Round-other c = simp (c.line_and_round.ensures, c.normalized.ensures, c.from_points-in-Round-other.ensures, c.in-Round-other.is, c.in-Line.is)
+returns-in-Line-Round c = simp (c.line_and_round.ensures, c.normalized.ensures, c.from_points-in-Line-Round.ensures, c.in-Line-Round.is-0, c.in-Line-Round.is-1)
 
-pub returns-in-Line-other-2 : goal.returns-in-Line-other-2
+pub returns-in-Round-Line : goal.returns-in-Round-Line
 unfolding crossings
-returns-in-Line-other-2 c = simp (c.line_and_round-in-Line-other-2.ensures, c.normalized-in-Line-other-2.ensures, c.from_points-in-Line-other-2.ensures, c.in-Line-other-2.is, c.in-Round.is)
+returns-in-Round-Line c = simp (c.line_and_round-in-Round-Line.ensures, c.normalized-in-Round-Line.ensures, c.from_points-in-Round-Line.ensures, c.in-Round-Line.is-0, c.in-Round-Line.is-1)
 
-pub returns-in-Round-other-2 : goal.returns-in-Round-other-2
+pub returns-in-Round-Round : goal.returns-in-Round-Round
 unfolding crossings
-returns-in-Round-other-2 c = simp (c.rounds.ensures, c.in-Round-other-2.is, c.in-Round.is)
+returns-in-Round-Round c = simp (c.rounds.ensures, c.in-Round-Round.is-0, c.in-Round-Round.is-1)

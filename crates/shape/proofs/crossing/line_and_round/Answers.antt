@@ -7,27 +7,27 @@ returns-in_default c = simp c.in_default.is
 
 pub returns-then-h : goal.returns-then-h
 unfolding line_and_round by_sign
-returns-then-h c = simp (c.in-Unit.is, simp (c.dot-2.ensures, c.from_points-w.ensures, c.add-m.ensures, c.scale.ensures, c.dot.ensures, c.from_points.ensures) at c.if-h.true)
+returns-then-h c = simp (c.in-Some.is, simp (c.dot-2.ensures, c.from_points-w.ensures, c.add-m.ensures, c.mul.ensures, c.dot.ensures, c.from_points.ensures) at c.if-h.true)
 
 pub returns-then-h-2 : goal.returns-then-h-2
 unfolding line_and_round by_sign
-returns-then-h-2 c = simp (c.in-Unit.is, simp (c.dot-2.ensures, c.from_points-w.ensures, c.add-m.ensures, c.scale.ensures, c.dot.ensures, c.from_points.ensures) at c.if-h.false, simp (c.dot-2.ensures, c.from_points-w.ensures, c.add-m.ensures, c.scale.ensures, c.dot.ensures, c.from_points.ensures) at c.if-h-2.true, c.add-m.ensures, c.scale.ensures, c.dot.ensures, c.from_points.ensures)
+returns-then-h-2 c = simp (c.in-Some.is, simp (c.dot-2.ensures, c.from_points-w.ensures, c.add-m.ensures, c.mul.ensures, c.dot.ensures, c.from_points.ensures) at c.if-h.false, simp (c.dot-2.ensures, c.from_points-w.ensures, c.add-m.ensures, c.mul.ensures, c.dot.ensures, c.from_points.ensures) at c.if-h-2.true, c.add-m.ensures, c.mul.ensures, c.dot.ensures, c.from_points.ensures)
 
 pub returns : goal.returns
 unfolding line_and_round by_sign
 returns c =
     simp (
-      c.in-Unit.is,
-      simp (c.dot-2.ensures, c.from_points-w.ensures, c.add-m.ensures, c.scale.ensures, c.dot.ensures, c.from_points.ensures) at c.if-h.false,
-      simp (c.dot-2.ensures, c.from_points-w.ensures, c.add-m.ensures, c.scale.ensures, c.dot.ensures, c.from_points.ensures) at c.if-h-2.false,
+      c.in-Some.is,
+      simp (c.dot-2.ensures, c.from_points-w.ensures, c.add-m.ensures, c.mul.ensures, c.dot.ensures, c.from_points.ensures) at c.if-h.false,
+      simp (c.dot-2.ensures, c.from_points-w.ensures, c.add-m.ensures, c.mul.ensures, c.dot.ensures, c.from_points.ensures) at c.if-h-2.false,
       c.add.ensures,
       c.sub.ensures,
-      c.scale-k.ensures,
+      c.mul-k.ensures,
       c.sqrt.ensures,
       c.dot-2.ensures,
       c.from_points-w.ensures,
       c.add-m.ensures,
-      c.scale.ensures,
+      c.mul.ensures,
       c.dot.ensures,
       c.from_points.ensures,
     )

@@ -10,7 +10,7 @@ unfolding lines
 returns c =
     simp (
       c.add.ensures,
-      c.scale.ensures,
+      c.mul.ensures,
       c.cross.ensures,
       c.from_points.ensures,
       c.cross-k.ensures,

@@ -11,7 +11,7 @@ returns-then-h c = simp (simp (c.len-d.ensures, c.from_points-e.ensures) at c.if
 
 pub returns-then-h-2 : goal.returns-then-h-2
 unfolding rounds by_sign
-returns-then-h-2 c = simp (simp (c.len-d.ensures, c.from_points-e.ensures) at c.if-d.false, simp (c.len-d.ensures, c.from_points-e.ensures) at c.if-h.false, simp (c.len-d.ensures, c.from_points-e.ensures) at c.if-h-2.true, c.add-m.ensures, c.scale.ensures, c.len-d.ensures, c.from_points-e.ensures)
+returns-then-h-2 c = simp (simp (c.len-d.ensures, c.from_points-e.ensures) at c.if-d.false, simp (c.len-d.ensures, c.from_points-e.ensures) at c.if-h.false, simp (c.len-d.ensures, c.from_points-e.ensures) at c.if-h-2.true, c.add-m.ensures, c.mul.ensures, c.len-d.ensures, c.from_points-e.ensures)
 
 pub returns : goal.returns
 unfolding rounds by_sign
@@ -22,12 +22,12 @@ returns c =
       simp (c.len-d.ensures, c.from_points-e.ensures) at c.if-h-2.false,
       c.sub.ensures,
       c.add.ensures,
-      c.scale-k.ensures,
+      c.mul-k.ensures,
       c.sqrt.ensures,
       c.div.ensures,
       c.perp.ensures,
       c.add-m.ensures,
-      c.scale.ensures,
+      c.mul.ensures,
       c.len-d.ensures,
       c.from_points-e.ensures,
     )

@@ -1,9 +1,9 @@
 use Rattle.shape.specs.Measures.{on_circle}
 use Rattle.shape.proofs.measure.on_circle.Goals as goal
 
-pub returns-in-Unit : goal.returns-in-Unit
+pub returns-in-Some : goal.returns-in-Some
 unfolding on_circle
-returns-in-Unit c = simp (c.add.ensures, c.scale.ensures, c.in-Unit.is)
+returns-in-Some c = simp (c.add.ensures, c.mul.ensures, c.in-Some.is)
 
 pub returns-in-None : goal.returns-in-None
 unfolding on_circle

@@ -1,11 +1,10 @@
 -- `sketch::sort_at` meets its contract.
-use Rattle.std.proofs.Common.{sym, ◌∙◌}
-use lib.ListN.{get_or-eq_default}
-use Rattle.sketch.proofs.Bisection.{found_sort}
+use Rattle.sketch.proofs.Sorts.{sort_missing, sort_got}
 use Rattle.sketch.proofs.lookup.sort_at.Goals as goal
 
-pub returns-then-k-sorts : goal.returns-then-k-sorts
-returns-then-k-sorts c = λ e h. found_sort _ _ _ c.place_near-k.ensures h _ e
+pub returns-in_err-k : goal.returns-in_err-k
+returns-in_err-k c = λ e h. let a = c.args in rw c.from_residual.ensures (sort_missing a.id a.ids.now a.sorts.now h c.in_err-k.ensures)
 
-pub returns-else-k-sorts : goal.returns-else-k-sorts
-returns-else-k-sorts c = λ e h. sym (get_or-eq_default c.args.sorts.now 0 c.if-k-sorts.false) ∙ found_sort _ _ _ c.place_near-k.ensures h _ e
+pub returns : goal.returns
+returns c =
+    λ e h. let a = c.args in rw c.copied.ensures (sort_got a.id a.ids.now a.sorts.now h e c.in_ok-k.k c.in_ok-k.ensures c.get.result c.get.ensures.lookup.3)

@@ -1,21 +1,15 @@
-use Rattle.std.proofs.Common.{refl, sym, ◌∙◌}
-use Rattle.sketch_image.specs.declared.ImageRead.{ImageRead}
-use Rattle.sketch_image.proofs.Answers.{refused_by_lem, accepted_as, drawing_refused, drawing_accepted}
+use Rattle.std.proofs.Common.{sym}
+use Rattle.std.proofs.lemmas.Result.{err_from_is_err_and}
+use Rattle.sketch_image.proofs.Answers.{read_refused, read_accepted}
 use Rattle.sketch_image.proofs.reader.read.Goals as goal
 
-pub returns-then-fault-ne0 : goal.returns-then-fault-ne0
-returns-then-fault-ne0 c =
-    let s = c.args.s.now in
-    let r = c.refuse.result in
-    let o = refused_by_lem s c.image_fault-fault.ensures.number c.if-fault-ne0.true r c.refuse.ensures.0 in
-    record { result_is = o; drawing_is = drawing_refused s r o (λ h. c.if-fault-ne0.true (sym c.refuse.ensures.0 ∙ h)) c.refuse.ensures.2; sound = c.refuse.ensures.1 }
+pub returns-in_err-image_fault : goal.returns-in_err-image_fault
+returns-in_err-image_fault c =
+    let p = err_from_is_err_and c.from_residual.result c.from_residual.ensures.1 in
+    rw (p.1, p.2) (read_refused c.args.s.now c.in_err-image_fault.field-0.0 c.in_err-image_fault.ensures.number)
 
-pub decode_sketch-sketch-requires : goal.decode_sketch-sketch-requires
-decode_sketch-sketch-requires c = sym c.image_fault-fault.ensures.number ∙ c.if-fault-ne0.false
+pub decode_sketch-requires : goal.decode_sketch-requires
+decode_sketch-requires c = sym c.in_ok-image_fault.ensures.number
 
 pub returns : goal.returns
-returns c =
-    let s = c.args.s.now in
-    let r : ImageRead = record { sketch = c.decode_sketch-sketch.result; refusal = 0 } in
-    let o = accepted_as s c.image_fault-fault.ensures.number c.if-fault-ne0.false r refl c.decode_sketch-sketch.ensures.0 in
-    record { result_is = o; drawing_is = drawing_accepted s r o refl; sound = c.decode_sketch-sketch.ensures.1 }
+returns c = read_accepted c.args.s.now c.decode_sketch.result c.in_ok-image_fault.ensures.number c.decode_sketch.ensures

@@ -1,4 +1,4 @@
-use Rattle.std.proofs.Common.{length, ◌≤◌, ◌-◌, List, ◌≡◌, refl}
+use Rattle.std.proofs.Common.{List, refl}
 use Rattle.image.specs.Encode.{encode_point}
 use Rattle.image.specs.Records.{point_size}
 use Rattle.sketch.specs.declared.Point.{Point}
@@ -6,7 +6,4 @@ use Rattle.image.proofs.Tables.{Writing}
 use Rattle.sketch_image.proofs.writer.write_points.Given as goal
 
 abbrev pub invariant-loop-i : goal.invariant-loop-i
-invariant-loop-i l = (l.i ≤ l.n) × (length l.points ≡ 512) × Writing encode_point point_size (λ (l : List Point). l) (λ x. x) (λ l x. refl) l.initial.buf l.from l.points l.i l.buf
-
-abbrev pub decreases-loop-i : goal.decreases-loop-i
-decreases-loop-i l = l.n - l.i
+invariant-loop-i l = Writing encode_point point_size (λ (l : List Point). l) (λ x. x) (λ l x. refl) l.initial.buf l.from l.points l.i l.buf

@@ -9,4 +9,4 @@ returns-in_default c = let e = sym (c.normalized.ensures ∙ ap normalized c.fro
 
 pub returns : goal.returns
 unfolding endless_along
-returns c = let e = sym (c.normalized.ensures ∙ ap normalized c.from_points.ensures) ∙ c.in-Unit.is in simp (e, c.add.ensures, c.sub.ensures, c.scale-reach.ensures, c.add-m.ensures, c.scale.ensures, c.dot.ensures, c.from_points-2.ensures)
+returns c = let e = sym (c.normalized.ensures ∙ ap normalized c.from_points.ensures) ∙ c.in-Some.is in simp (e, c.add.ensures, c.sub.ensures, c.mul-reach.ensures, c.add-m.ensures, c.mul.ensures, c.dot.ensures, c.from_points-2.ensures)

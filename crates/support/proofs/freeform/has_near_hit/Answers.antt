@@ -1,15 +1,11 @@
-use Rattle.std.proofs.Common.{◌-◌, refl, sym, ◌∙◌, rules}
-use Rattle.support.proofs.Resolving.{near_this, near_next, near_none}
+use Rattle.std.proofs.Common.{◌∙◌, rules, tests}
+use Rattle.std.proofs.lemmas.Iterator.{YieldsList-from_slice, YieldsList-from_zip}
+use Rattle.std.proofs.lemmas.Iterator.Search.{any_from_yields_List}
+use Rattle.support.proofs.Resolving.{near, near_hits}
 use Rattle.support.proofs.freeform.has_near_hit.Goals as goal
 
-pub loop-i-init : goal.loop-i-init
-loop-i-init c = (search rules, refl)
-
-pub returns-then-dist2 : goal.returns-then-dist2
-returns-then-dist2 c = sym (near_this _ _ _ _ c.loop-i-test.true c.requires _ c.new.ensures _ c.dist2.ensures c.if-dist2.true) ∙ c.loop-i.invariant.1
-
-pub loop-i-preserved : goal.loop-i-preserved
-loop-i-preserved c = (search rules, near_next _ _ _ _ c.loop-i-test.true c.requires _ c.new.ensures _ c.dist2.ensures c.if-dist2.false ∙ c.loop-i.invariant.1)
-
 pub returns : goal.returns
-returns c = sym (near_none _ _ _ _ c.loop-i-test.false) ∙ c.loop-i.invariant.1
+returns c =
+    let q = c.args.q in
+    any_from_yields_List (near q) c.any.new.self _ _ c.any.ensures.ran (YieldsList-from_zip (YieldsList-from_slice c.args.xs.now cc) (YieldsList-from_slice c.args.ys.now cc)) (λ x b r k. search (rules, tests))
+    ∙ near_hits q c.args.xs.now c.args.ys.now

@@ -3,12 +3,14 @@ use Rattle.support.proofs.Answers.{met_refused, as_outcome}
 use Rattle.support.proofs.Curves.{front_count, bezier_controls, conic_controls}
 use Rattle.support.proofs.PieceCases.{short_across, short_up, roomy, of_shape, of_bezier, of_conic}
 use Rattle.support.proofs.search.hits.Goals as goal
+use Rattle.support.proofs.search.hits.Goals.{then-hx-lt-ROOM-via-then-hx-lt-ROOM, then-hx-lt-ROOM-via-else-hx-lt-ROOM+then-hy-lt-ROOM}
 
 pub returns-then-hx-lt-ROOM : goal.returns-then-hx-lt-ROOM
-returns-then-hx-lt-ROOM c = as_outcome (short_across _ _ _ _ c.if-hx-lt-ROOM.true) (met_refused _ _ _ _)
-
-pub returns-then-hy-lt-ROOM : goal.returns-then-hy-lt-ROOM
-returns-then-hy-lt-ROOM c = as_outcome (short_up _ _ _ _ c.if-hx-lt-ROOM.false c.if-hy-lt-ROOM.true) (met_refused _ _ _ _)
+returns-then-hx-lt-ROOM c =
+    elim c.then-hx-lt-ROOM.branch [
+      | then-hx-lt-ROOM-via-then-hx-lt-ROOM w ↦ as_outcome (short_across _ _ _ _ w.if-hx-lt-ROOM.true) (met_refused _ _ _ _)
+      | then-hx-lt-ROOM-via-else-hx-lt-ROOM+then-hy-lt-ROOM w ↦ as_outcome (short_up _ _ _ _ w.if-hx-lt-ROOM.false w.if-hy-lt-ROOM.true) (met_refused _ _ _ _)
+    ]
 
 pub slice_bounds-freeform_hits-end : goal.slice_bounds-freeform_hits-end
 slice_bounds-freeform_hits-end c = front_count c.at_most_8-k.result c.args.xs c.well_formed.1.1.1.0.1.0.1 c.at_most_8-k.ensures.1

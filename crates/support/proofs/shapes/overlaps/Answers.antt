@@ -4,12 +4,12 @@ use Rattle.support.proofs.Answers.{round_clear}
 use Rattle.support.proofs.shapes.overlaps.Goals as goal
 
 pub returns-in_default : goal.returns-in_default
-returns-in_default c = sym (round_clear _ _ _ _ _ _ _ c.in_default.is)
-
-pub returns-in_default-along : goal.returns-in_default-along
 unfolding overlaps
-returns-in_default-along c = rw c.in_default-along.is
+returns-in_default c = rw c.in_default.is-1
+
+pub returns-in_default-2 : goal.returns-in_default-2
+returns-in_default-2 c = sym (round_clear _ _ _ _ _ _ _ c.in_default.is-0)
 
 pub returns : goal.returns
 unfolding overlaps
-returns c = simp (c.in-Unit.is, c.in-Line.is, c.abs-second.ensures, c.cross-2.ensures, c.from_points-2.ensures, c.abs-first.ensures, c.cross.ensures, c.from_points.ensures)
+returns c = simp (c.in-Line-Some.is-0, c.in-Line-Some.is-1, c.abs-second.ensures, c.cross-2.ensures, c.from_points-2.ensures, c.abs-first.ensures, c.cross.ensures, c.from_points.ensures)

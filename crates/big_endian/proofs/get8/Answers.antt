@@ -1,0 +1,7 @@
+use Rattle.std.proofs.Common.{arith, lit<}
+use Rattle.big_endian.specs.Fields.{field}
+use Rattle.big_endian.proofs.get8.Goals as goal
+
+pub returns : goal.returns
+unfolding field
+returns c = let h = c.bytes_at.ensures in omega (arith, c.from_be_bytes.ensures, h 0 (lit< tt), h 1 (lit< tt), h 2 (lit< tt), h 3 (lit< tt), h 4 (lit< tt), h 5 (lit< tt), h 6 (lit< tt), h 7 (lit< tt))

@@ -1,5 +1,0 @@
-use Rattle.image.proofs.Floats.{number_test}
-use Rattle.image.proofs.checks.is_number.Goals as goal
-
-pub returns : goal.returns
-returns c = number_test c.args.bits

@@ -1,9 +1,0 @@
--- `written::holds_just` is safe and ends: the measure is the number of bytes that are left.
-use Rattle.std.proofs.Common.{◌-◌}
-use Rattle.replay.proofs.written.holds_just.Given as goal
-
-abbrev pub invariant-loop-i : goal.invariant-loop-i
-invariant-loop-i l = Unit {0}
-
-abbrev pub decreases-loop-i : goal.decreases-loop-i
-decreases-loop-i l = l.n - l.i
