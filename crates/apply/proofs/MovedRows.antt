@@ -7,7 +7,7 @@ use native.Mathlib.Omega.{arith}
 use lib.Dec.{leb, ltb, eqb}
 use lib.ListN.{length, take, drop, set, get_or, length-append, length-map, length-set}
 use lib.Seq.{take_all}
-use borrow.Author.Tests.{lt-ltb, le-ltb, le-leb, lt-leb, ltb-true, leb-true}
+use borrow.Author.Tests.{lt-ltb, le-ltb, le-leb, lt-leb, ltb-true, leb-true, eq-eqb, ne_eqb}
 use Rattle.big_endian.specs.Fields.{over, over_if_fits}
 use Rattle.big_endian.specs.Laws.{Bytes, over_nil}
 use Rattle.geom.specs.declared.Vec2.{Vec2}
@@ -45,6 +45,19 @@ use Rattle.apply.proofs.Images.{length_image, image_put, answered_refused}
 use Rattle.apply.proofs.Lifted.{Back, set_back, map_back, encode_rows, points_back, curves_back, relations_back, tables_within}
 
 -- ---- what a pin adds
+
+module _ {w : Pin} (p : ℕ) where
+  pub pinned_on : {c : ℕ} → w ≡ On c → 1 ≡ length (pinned_by w p)
+  unfolding pinned_by
+  pinned_on e = rw e
+
+  pub pinned_itself : {e : ℕ} → w ≡ At e → e ≡ p → 0 ≡ length (pinned_by w p)
+  unfolding pinned_by
+  pinned_itself {e} f h = rw (f, eq-eqb e p h)
+
+  pub pinned_at : {e : ℕ} → w ≡ At e → (e ≡ p → ⊥) → 1 ≡ length (pinned_by w p)
+  unfolding pinned_by
+  pinned_at {e} f h = rw (f, ne_eqb e p h)
 
 pub pinned_few : (w : Pin) (p : ℕ) → length (pinned_by w p) ≤ 1
 unfolding pinned_by

@@ -186,6 +186,16 @@ module _ (c : Curve) (w : CurveNumbers c) where
   change_numbers i (DivideTwo x y) v = halve_numbers x y i v.0 v.1
   change_numbers i (Move b x y) v = blank_numbers i
 
+module _ (h : Change) (w : ChangeNumbers h) where
+  points_new_lem : Each PointNumbers (points_new h)
+  points_new_lem = w.points
+
+  curves_new_lem : Each CurveNumbers (curves_new h)
+  curves_new_lem = w.curves
+
+  relations_new_lem : Each RelationNumber (relations_new h)
+  relations_new_lem = w.relations
+
 -- ---- the drawing
 
 each_at : {A : Type 0} (P : A → Type 0) (z : A) (l : List A) (k : ℕ) → k < length l → Each P l → P (get_or l k z)
@@ -197,9 +207,9 @@ module _ (d : Drawing) (w : Numbers d) where
   changed_numbers : (k : ℕ) (e : Extent) (os : List ℕ) (h : Change) → ChangeNumbers h → Numbers (changed_by d k e os h)
   changed_numbers k e os h v =
       record {
-        points = each_append PointNumbers (keep (λ p. staying os p.id) d.points) (points_new h) (each_keep PointNumbers (λ p. staying os p.id) d.points w.points) v.points;
-        curves = each_append CurveNumbers (set d.curves k h.kept) (curves_new h) (each_set CurveNumbers k d.curves h.kept v.kept w.curves) v.curves;
-        relations = each_append RelationNumber (concat_map (left_of e os) d.relations) (relations_new h) (each_all RelationNumber (left_of e os) RelationNumber (left_numbers e os) d.relations w.relations) v.relations;
+        points = each_append PointNumbers (keep (λ p. staying os p.id) d.points) (points_new h) (each_keep PointNumbers (λ p. staying os p.id) d.points w.points) (points_new_lem h v);
+        curves = each_append CurveNumbers (set d.curves k h.kept) (curves_new h) (each_set CurveNumbers k d.curves h.kept v.kept w.curves) (curves_new_lem h v);
+        relations = each_append RelationNumber (concat_map (left_of e os) d.relations) (relations_new h) (each_all RelationNumber (left_of e os) RelationNumber (left_numbers e os) d.relations w.relations) (relations_new_lem h v);
       }
 
   without_numbers : (k : ℕ) (e : Extent) (os : List ℕ) → Numbers (without_curve d k e os)

@@ -21,20 +21,23 @@ use Rattle.sketch.proofs.Lists.{keep_append, keep_twice, keep_same, keep_true}
 use Rattle.image.specs.Records.{point_size, curve_size, relation_size}
 use Rattle.image.specs.Image.{row_id}
 use Rattle.image.specs.Decode.{read_curve, read_relation}
-use Rattle.image.specs.Encode.{encode_relation}
+use Rattle.image.specs.Encode.{encode_relation, encode_point}
 use Rattle.image.proofs.Relations.{length_relation}
 use Rattle.rows.specs.Rows.{rows_in, row_in, curves_in}
 use Rattle.rows.proofs.Rows.{length_rows_in}
 use Rattle.edit_plan.specs.declared.Extent.{Extent}
 use Rattle.edit_plan.specs.declared.Orphans.{Orphans}
 use Rattle.edit_plan.specs.Tables.{uses, others}
-use Rattle.edit_plan.specs.Changes.{left_of, orphan_list, staying, unused_by}
+use Rattle.edit_plan.specs.Changes.{left_of, orphan_list, staying, unused_by, points_new, curves_new, relations_new}
 use Rattle.edit_plan.proofs.Loops.{single, keep_is}
 use Rattle.edit_plan.proofs.Unused.{uses_append, unused_in, unused_on, unused_past}
 use Rattle.edit_plan.proofs.Leaves.{among_append, or_false}
 use Rattle.apply.specs.Clauses.{row_bytes, concerned, left_row, staying_rows, TablesWithin}
 use Rattle.apply.proofs.RowRuns.{Long, rows_long, each_take, each_all, each_map}
 use Rattle.apply.proofs.Walks.{up_to}
+use Rattle.edit_plan.specs.declared.Change.{Change}
+use Rattle.sketch.specs.declared.Point.{Point}
+use Rattle.sketch.specs.declared.Relation.{Relation}
 
 pub at_most_one : {A : Type 0} (o : Option A) → length (option_to_list o) ≤ 1
 at_most_one None = omega arith
@@ -195,3 +198,30 @@ none_unused g i cs ps os h e =
     let z = h in
     z ∙ sym (ap (λ (x : List Curve). unused_by (others g x) ps) (sym (take-append-drop i cs))
     ∙ ap (λ (x : List Curve). unused_by x ps) (keep_append (λ (c : Curve). not (eqb g c.id)) (take i cs) (drop i cs)) ∙ none_left (others g (take i cs)) (others g (drop i cs)) ps (sym e ∙ z))
+
+-- ---- what a change adds
+
+module _ (h : Change) where
+  pub one_point : h.second_point ≡ None → map encode_point (points_new h) ≡ encode_point h.point ∷ []
+  one_point e = rw e
+
+  pub two_points : {q : Point} → h.second_point ≡ Some q → map encode_point (points_new h) ≡ encode_point h.point ∷ encode_point q ∷ []
+  two_points e = rw e
+
+  pub no_curve_lem : h.added ≡ None → curves_new h ≡ []
+  no_curve_lem e = rw e
+
+  pub one_curve : {c : Curve} → h.added ≡ Some c → curves_new h ≡ c ∷ []
+  one_curve e = rw e
+
+  pub one_relation : h.second_relation ≡ None → h.third_relation ≡ None → relations_new h ≡ h.relation ∷ []
+  one_relation e f = rw (e, f)
+
+  pub two_relations : {s : Relation} → h.second_relation ≡ Some s → h.third_relation ≡ None → relations_new h ≡ h.relation ∷ s ∷ []
+  two_relations e f = rw (e, f)
+
+  pub three_relations : {s t : Relation} → h.second_relation ≡ Some s → h.third_relation ≡ Some t → relations_new h ≡ h.relation ∷ s ∷ t ∷ []
+  three_relations e f = rw (e, f)
+
+  pub relations_more : {s : Relation} → h.second_relation ≡ Some s → 2 ≤ length (relations_new h)
+  relations_more {s} e = rw e (omega arith)

@@ -6,7 +6,7 @@ use Prim.Native.Nat.{ℕ, suc, ◌+◌, ◌≤◌, ◌<◌}
 use native.Mathlib.Numerals.{add-one}
 use native.Mathlib.Omega.{arith}
 use lib.ListN.{length, take, drop, get_or, set, length-set, drop_of_length-le}
-use lib.Seq.{drop-cons, take-suc-set, length-take-le}
+use lib.Seq.{drop-cons, take-suc-set, length-take-le, take_at}
 use lib.Ieee.{Float, nan}
 use Rattle.bernstein.specs.Evaluate.{evaluate_of}
 use Rattle.bernstein.specs.Bisect.{same_sign, bisect_of}
@@ -15,7 +15,22 @@ use Rattle.bernstein.specs.Clauses.{list_of, RootsAtFront}
 use Rattle.bernstein.specs.declared.Bisected.{Bisected}
 use Rattle.bernstein.specs.Answers.{Found, Refused}
 use Rattle.std.specs.Prelude.{Option, Some, None}
-use Rattle.bernstein.proofs.Lists.{pushed}
+use Rattle.bernstein.proofs.Lists.{pushed, front_all}
+
+-- ---- the two ends
+
+pub ends_put : (d ts k : List Float) (i : ℕ) (a b : Float) → k ≡ take i ts ++ drop i d → i ≡ length ts → length ts + 1 < length k
+    → take (length ts + 2) (set (set k (length ts) a) (length ts + 1) b) ≡ ts ++ (a ∷ b ∷ [])
+ends_put d ts k i a b e h g =
+    let n = length ts in
+    let g₀ : n < length k = omega arith in
+    let g₁ : n + 1 < length (set k n a) = rw length-set g in
+    let q : k ≡ ts ++ drop n d = front_all d ts k i e h in
+    let q₂ : n + 2 ≡ suc (n + 1) = omega arith in
+    rw q₂ (take-suc-set (set k n a) (n + 1) b g₁
+    ∙ ap (λ (l : List Float). l ++ (b ∷ [])) (ap (λ (j : ℕ). take j (set k n a)) (add-one n) ∙ take-suc-set k n a g₀)
+    ∙ append_assoc (take n k) (a ∷ []) (b ∷ [])
+    ∙ ap (λ (l : List Float). l ++ (a ∷ b ∷ [])) (ap (take n) q ∙ take_at ts (drop n d) n refl))
 
 -- ---- zeros
 

@@ -1,9 +1,10 @@
 -- Laws of big-endian numbers, each over the width, and of runs of bytes written over a list.
-use Rattle.std.specs.Prelude.{◌≡◌, refl, List, [], ◌∷◌, ◌++◌, ℕ, zero, suc, ◌+◌, ◌-◌, ◌*◌, ◌/◌, ◌%◌, ◌^◌, ◌≤◌, ◌<◌, length, take, drop, get_or}
-use Rattle.std.proofs.Common.{sym, ap, ◌∙◌, append_assoc, append-nil, add-zero, add-suc, add_assoc, add-mul, mul_assoc, mul_comm, pow-suc, div-one, div-add-mod', div-lt_iff_lt-mul, arith, lit<, length-append, length-drop, take-append-drop, take-suc, get_or-drop, length-take-le, take_at, take_all, drop-drop, take-add, get_or-append-add, le-leb}
+use Rattle.std.specs.Prelude.{◌≡◌, refl, List, [], ◌∷◌, ◌++◌, ℕ, zero, suc, ◌+◌, ◌-◌, ◌*◌, ◌/◌, ◌%◌, ◌^◌, ◌≤◌, ◌<◌, length, take, drop, get_or, set}
+use Rattle.std.proofs.Common.{sym, ap, ◌∙◌, append_assoc, append-nil, add-zero, add-suc, add_assoc, add-mul, mul_assoc, mul_comm, pow-suc, div-one, div-add-mod', div-lt_iff_lt-mul, add-one, arith, lit<, length-append, length-drop, take-append-drop, take-suc, get_or-drop, length-take-le, take_at, take_all, drop-drop, take-add, get_or-append-add, le-leb}
 use Rattle.std.proofs.Math.Nat.{pow-zero, div-div-eq-div-mul}
 use Rattle.std.proofs.Math.Arith.{digits_lt, digits_div, digits_mod}
 use Rattle.std.proofs.Math.ListN.{get_or-append}
+use Rattle.std.proofs.lemmas.List.{set_split}
 use Rattle.std.proofs.Math.Seq.{drop-append-add}
 use Rattle.std.proofs.lemmas.Bool.{lt-leb}
 use borrow.Rule.Slice.PartMut.{put_mid}
@@ -144,6 +145,10 @@ unfolding over
 length_over l at b h =
     let k : at ≤ length l = omega arith in
     simp (length-append, length-drop) (rw (length-take-le at l k) (omega arith))
+
+pub over_one : (l : List ℕ) (at x : ℕ) → at < length l → set l at x ≡ over l at (x ∷ [])
+unfolding over
+over_one l at x h = rw (set_split l at x h, add-one)
 
 -- ---- the same, or nothing
 

@@ -22,7 +22,7 @@ unfoldable better : Bool → Cut → List Cut → List Cut
 better last k [] = k ∷ []
 better last k (f ∷ l) = cond (beq (before k.t f.t) last) (f ∷ []) (k ∷ [])
 
-end_none : (last : Bool) → end_of last [] ≡ []
+pub end_none : (last : Bool) → end_of last [] ≡ []
 unfolding end_of last_one first_one
 end_none true = refl
 end_none false = refl

@@ -21,10 +21,7 @@ use Rattle.cuts.specs.Lists.{any}
 use Rattle.cuts.specs.Bounded.{on_bounded}
 use Rattle.cuts.specs.Cuts.{mk_cut, found_near, cuts_here, cut_step}
 use Rattle.cuts.proofs.Ends.{and_false}
-
-or_true : (a : Bool) → a || true ≡ true
-or_true true = refl
-or_true false = refl
+use Rattle.cuts.proofs.Rows.{or_true}
 
 -- ---- the search among the cuts
 

@@ -1,6 +1,7 @@
 -- The laws of applying that other crates cite.
 pub mod Every
 pub mod Tables
+pub mod Arms
 pub mod Leaves
 pub mod Rooms
 pub mod Loops

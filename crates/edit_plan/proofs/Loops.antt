@@ -1,13 +1,14 @@
 -- For the code: what a test leaves is `concat_map` (and `keep`); a place is a look-up; a store at the place of an id is `map`. Assumes nothing.
 use mathlib.Core.Path.{◌≡◌, refl, ap, sym, ◌∙◌}
-use mathlib.Core.Bool.{Bool, true, false}
+use mathlib.Core.Bool.{Bool, true, false, ◌||◌}
 use mathlib.Core.List.{List, [], ◌∷◌, ◌++◌, map}
 use mathlib.Core.Option.{some}
-use Prim.Native.Nat.{ℕ, zero, suc, ◌≤◌, ◌<◌}
+use Prim.Native.Nat.{ℕ, zero, suc, ◌≤◌, ◌<◌, ◌+◌}
 use native.Mathlib.Omega.{arith}
+use native.Mathlib.Numerals.{add-one}
 use lib.Dec.{eqb}
-use lib.ListN.{length, take, get_or, set, length-take}
-use lib.Seq.{get_or-take, take-set-lt}
+use lib.ListN.{length, take, get_or, set, length-take, drop, drop_of_length-le}
+use lib.Seq.{get_or-take, take-set-lt, drop-cons}
 use borrow.Author.Tests.{eq-eqb, ne_eqb}
 use Rattle.std.proofs.lemmas.Bool.Decides.{nat_tests}
 use Rattle.std.specs.List.{list_any}
@@ -40,6 +41,22 @@ keep_is f (a ∷ l) = go (f a) (keep_is f l)
     go false h = h
 
 -- ---- a search
+
+module _ (p n i : ℕ) (l : List ℕ) where
+  pub among_next : i < n → i < length l → among p (drop i (take n l)) ≡ (eqb p (get_or l i 0) || among p (drop (i + 1) (take n l)))
+  among_next h k =
+      let e : i < length (take n l) = rw length-take (omega arith) in
+      rw (add-one, drop-cons (take n l) i 0 e, get_or-take n l i 0 h)
+
+  pub among_end : n ≤ i → among p (drop i (take n l)) ≡ false
+  among_end h =
+      let e : length (take n l) ≤ i = rw length-take (omega arith) in
+      rw (drop_of_length-le (take n l) e)
+
+  pub among_past : length l ≤ i → among p (drop i (take n l)) ≡ false
+  among_past h =
+      let e : length (take n l) ≤ i = rw length-take (omega arith) in
+      rw (drop_of_length-le (take n l) e)
 
 eqb_flip : (a b : ℕ) → eqb a b ≡ eqb b a
 eqb_flip a b = grind (arith, nat_tests)

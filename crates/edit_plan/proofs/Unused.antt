@@ -4,11 +4,12 @@ use mathlib.Core.Bool.{Bool, true, false, not, ◌&&◌, ◌||◌}
 use mathlib.Core.List.{List, [], ◌∷◌, ◌++◌, append_assoc, append-nil}
 use Prim.Native.Nat.{ℕ, ◌+◌, ◌<◌}
 use native.Mathlib.Numerals.{add-one}
+use native.Mathlib.Omega.{arith}
 use lib.Dec.{eqb}
 use lib.ListN.{length, take, get_or}
 use lib.Seq.{take-suc}
 use borrow.Author.Tests.{eq-eqb, ne_eqb}
-use Rattle.std.specs.Prelude.{option_to_list}
+use Rattle.std.specs.Prelude.{option_to_list, Option, Some, None, is_some}
 use Rattle.sketch.specs.declared.Curve.{Curve}
 use Rattle.sketch.specs.Lists.{ite, keep}
 use Rattle.sketch.specs.Lookup.{among}
@@ -70,3 +71,12 @@ pub orphans_kept : (f : ℕ → Bool) (o : Orphans) → keep f (option_to_list o
 orphans_kept f o =
     ap (λ t. keep f (option_to_list o.first) ++ t) (sym (keep_append f (option_to_list o.second) (option_to_list o.third)))
     ∙ sym (keep_append f (option_to_list o.first) (option_to_list o.second ++ option_to_list o.third))
+
+pub none_go : (o : Orphans) → (is_some o.first || is_some o.second) || is_some o.third ≡ false → orphan_list o ≡ []
+none_go o h = go o.first o.second o.third h
+  where
+    go : (a b c : Option ℕ) → (is_some a || is_some b) || is_some c ≡ false → option_to_list a ++ (option_to_list b ++ option_to_list c) ≡ []
+    go None None None e = refl
+    go (Some a) b c e = let z : ◌≡◌ {A = ℕ} 0 1 = cc in absurd (omega arith)
+    go None (Some b) c e = let z : ◌≡◌ {A = ℕ} 0 1 = cc in absurd (omega arith)
+    go None None (Some c) e = let z : ◌≡◌ {A = ℕ} 0 1 = cc in absurd (omega arith)

@@ -1,10 +1,9 @@
 -- Laws of big-endian fields that no code needs today, kept for readers: fields by halves, single bytes, bytes written or left, and turned bytes.
 use Rattle.std.specs.Prelude.{◌≡◌, refl, List, [], ◌∷◌, ℕ, zero, suc, ◌+◌, ◌*◌, ◌/◌, ◌%◌, ◌^◌, ◌≤◌, ◌<◌, length, get_or, set}
-use Rattle.std.proofs.Common.{sym, ap, ◌∙◌, add-one, arith, length-set}
+use Rattle.std.proofs.Common.{sym, ap, ◌∙◌, arith, length-set}
 use Rattle.std.proofs.Math.ListN.{get_or-eq_default}
-use Rattle.std.proofs.lemmas.List.{set_split}
 use Rattle.big_endian.specs.Fields.{field, bytes, over, over_if_fits}
-use Rattle.big_endian.specs.Laws.{length_bytes, bytes_split, over_fits, over_not, Run, run_over}
+use Rattle.big_endian.specs.Laws.{length_bytes, bytes_split, over_one, over_fits, over_not, Run, run_over}
 
 -- eight bytes as one number, the lowest first
 abbrev pub from_le_bytes : ℕ → ℕ → ℕ → ℕ → ℕ → ℕ → ℕ → ℕ → ℕ
@@ -36,12 +35,6 @@ field_past s at zero h = refl
 field_past s at (suc n) h =
     let k : length s ≤ at + n = omega arith in
     rw (field_past s at n h, get_or-eq_default s 0 k)
-
--- ---- one element set
-
-pub over_one : (l : List ℕ) (at x : ℕ) → at < length l → set l at x ≡ over l at (x ∷ [])
-unfolding over
-over_one l at x h = rw (set_split l at x h, add-one)
 
 -- ---- a number written: its low byte, its low bytes, or nothing where they don't fit
 

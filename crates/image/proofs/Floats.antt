@@ -1,12 +1,13 @@
 -- Floats in range and their bits.
 use mathlib.Core.Path.{◌≡◌, refl, sym, ap, ◌∙◌, subst}
-use mathlib.Core.Bool.{Bool, true, false, not, ◌&&◌}
+use mathlib.Core.Bool.{Bool, true, false, not, ◌&&◌, true≢false}
 use Prim.Native.Nat.{ℕ, ◌%◌}
 use native.Mathlib.Omega.{arith}
 use mathlib.Core.List.{List}
 use lib.Dec.{T, leb}
-use lib.Ieee.{Float, nan, inf, fin, le, lt, eq, is_nan, of_bits, to_bits, nan_bits, neg, binary64}
+use lib.Ieee.{Float, nan, inf, fin, le, lt, eq, is_nan, of_bits, to_bits, nan_bits, neg, binary64, ne}
 use lib.Ieee.Bits.{to_bits-of_bits, nan_bits_is, nan_bits_above}
+use lib.Ieee.Compare.{differs_from_itself, nan_differs}
 use Rattle.big_endian.specs.Fields.{field}
 use Rattle.big_endian.specs.Laws.{Bytes, field_lt}
 use Rattle.sketch.specs.Valid.{ok_coordinate, ok_radius, ok_rho, ok_measure}
@@ -74,3 +75,15 @@ number_test b = rw (nan_bits_above binary64 b) (leb_ltb (b % 0x8000_0000_0000_00
 -- bits that were tested may become a float
 pub number_bits_lem : (n : ℕ) {b : ℕ} → n ≡ b → not (nan_bits binary64 b) ≡ true → T (not (nan_bits binary64 n))
 number_bits_lem n e h = subst T (sym h ∙ ap (λ (k : ℕ). not (nan_bits binary64 k)) (sym e)) tt
+
+-- what differs from itself has the bits of the NaN
+pub nan_bits_lem : (x : Float) → ne x x ≡ true → 0x7ff8_0000_0000_0000 ≡ to_bits binary64 x
+unfolding to_bits
+nan_bits_lem x h = rw (differs_from_itself x (subst T (sym h) tt))
+
+-- what equals itself is a number
+pub same_number : (x : Float) → ne x x ≡ false → T (not (is_nan x))
+unfolding is_nan
+same_number nan h = absurd (true≢false (sym nan_differs ∙ h))
+same_number (inf s) h = tt
+same_number (fin s m e) h = tt

@@ -7,7 +7,7 @@ use native.Mathlib.Omega.{arith}
 use native.Mathlib.Numerals.{add-one}
 use lib.ListN.{length, drop, get_or}
 use lib.Dec.{eqb, leb}
-use lib.Ieee.{Float}
+use lib.Ieee.{Float, nan_bits, binary64}
 use borrow.Author.Tests.{eq-eqb, ne_eqb, eqb-true, eqb-false, le-leb, lt-leb}
 use Rattle.big_endian.specs.Fields.{field}
 use Rattle.big_endian.specs.Laws.{field_split}
@@ -17,6 +17,12 @@ use Rattle.sketch.specs.Valid.{ok_coordinate, ok_number, ok_radius, ok_rho, in_s
 use Rattle.image.specs.Records.{float_at, slots_of, ids_at, used_slots, curve_fields, kind_of, curve_of}
 use Rattle.image.specs.Image.{good_point, good_curve}
 use Rattle.image.specs.Clauses.{good_as}
+use Rattle.image.proofs.Floats.{Rejects, nan_fails}
+
+-- ---- numbers: bits that are no number's are out of range, whatever the range
+
+pub out_of_range : (ok : Float → Bool) → Rejects ok → (r : List ℕ) (at : ℕ) {n : ℕ} {t : Bool} → n ≡ field r at 8 → t ≡ not (nan_bits binary64 n) → t ≡ false → false ≡ ok (float_at r at)
+out_of_range ok e r at f g h = sym (nan_fails ok e (field r at 8) (ap (λ (k : ℕ). not (nan_bits binary64 k)) (sym f) ∙ sym g ∙ h))
 
 -- ---- points
 

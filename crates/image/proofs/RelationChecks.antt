@@ -20,23 +20,23 @@ module _ (r : List ℕ) where
   good_by k = relation_fields k (field r 5 4) (field r 9 8) && ok_relation (relation_by k (field r 1 4) (field r 5 4) (float_at r 9))
 
   module _ {v : ℕ} (e : v ≡ field r 9 8) where
-    bare_1 : eqb v 0 ≡ good_by 1
+    pub bare_1 : eqb v 0 ≡ good_by 1
     unfolding relation_fields relation_by ok_relation
     bare_1 = simp (e, and-true)
 
-    bare_2 : eqb v 0 ≡ good_by 2
+    pub bare_2 : eqb v 0 ≡ good_by 2
     unfolding relation_fields relation_by ok_relation
     bare_2 = simp (e, and-true)
 
-    bare_3 : eqb v 0 ≡ good_by 3
+    pub bare_3 : eqb v 0 ≡ good_by 3
     unfolding relation_fields relation_by ok_relation
     bare_3 = simp (e, and-true)
 
-    bare_4 : eqb v 0 ≡ good_by 4
+    pub bare_4 : eqb v 0 ≡ good_by 4
     unfolding relation_fields relation_by ok_relation
     bare_4 = simp (e, and-true)
 
-    bare_7 : eqb v 0 ≡ good_by 7
+    pub bare_7 : eqb v 0 ≡ good_by 7
     unfolding relation_fields relation_by ok_relation
     bare_7 = simp (e, and-true)
 
@@ -60,15 +60,15 @@ module _ (r : List ℕ) where
     measured_6 = e
 
     module _ {b : ℕ} (f : b ≡ field r 5 4) where
-      measured_5 : (eqb b 0 && t) ≡ good_by 5
+      pub measured_5 : (eqb b 0 && t) ≡ good_by 5
       unfolding relation_fields relation_by ok_relation
       measured_5 = simp (e, f, and-true)
 
-      measured_8 : (eqb b 0 && t) ≡ good_by 8
+      pub measured_8 : (eqb b 0 && t) ≡ good_by 8
       unfolding relation_fields relation_by ok_relation
       measured_8 = simp (e, f, and-true)
 
-      measured_9 : (eqb b 0 && t) ≡ good_by 9
+      pub measured_9 : (eqb b 0 && t) ≡ good_by 9
       unfolding relation_fields relation_by ok_relation
       measured_9 = simp (e, f, and-true)
 
@@ -136,6 +136,14 @@ module _ (r : List ℕ) where
       pub is_midpoint : k ≡ 7 → relation_of r ≡ Midpoint a b
       unfolding relation_by
       is_midpoint h = rw (← e, h, f, g)
+
+      pub is_arc_length : k ≡ 8 → relation_of r ≡ ArcLength a (float_at r 9)
+      unfolding relation_by
+      is_arc_length h = rw (← e, h, f)
+
+      pub is_arc_sweep : (k ≡ 1 → ⊥) → (k ≡ 2 → ⊥) → (k ≡ 3 → ⊥) → (k ≡ 4 → ⊥) → (k ≡ 5 → ⊥) → (k ≡ 6 → ⊥) → (k ≡ 7 → ⊥) → (k ≡ 8 → ⊥) → relation_of r ≡ ArcSweep a (float_at r 9)
+      unfolding relation_by
+      is_arc_sweep h1 h2 h3 h4 h5 h6 h7 h8 = rw (← e, ne_eqb k 1 h1, ne_eqb k 2 h2, ne_eqb k 3 h3, ne_eqb k 4 h4, ne_eqb k 5 h5, ne_eqb k 6 h6, ne_eqb k 7 h7, ne_eqb k 8 h8, f)
 
     -- what is left
     pub is_arc : {a : ℕ} → a ≡ field r 1 4 → (k ≡ 1 → ⊥) → (k ≡ 2 → ⊥) → (k ≡ 3 → ⊥) → (k ≡ 4 → ⊥) → (k ≡ 5 → ⊥) → (k ≡ 6 → ⊥) → (k ≡ 7 → ⊥)

@@ -2,7 +2,7 @@
 use mathlib.Core.Path.{◌≡◌, refl, sym, ap, ◌∙◌}
 use mathlib.Core.Bool.{Bool, true, false, ◌&&◌}
 use mathlib.Core.List.{List, [], ◌∷◌, ◌++◌, map, map-append, append_assoc, append-nil}
-use Prim.Native.Nat.{ℕ, zero, suc, ◌+◌, ◌*◌, ◌≤◌, ◌<◌}
+use Prim.Native.Nat.{ℕ, zero, suc, ◌+◌, ◌*◌, ◌≤◌, ◌<◌, ◌-◌}
 use native.Mathlib.Nat.{suc-mul, add-mul, one-mul}
 use native.Mathlib.Numerals.{add-one}
 use native.Mathlib.Omega.{arith}
@@ -193,6 +193,24 @@ module _ {A S : Type 0} (enc : A → List ℕ) (size : ℕ) (seen : List S → L
         so_long = rw (t, lx);
         same_long = rw r (length_over l from (a ++ x) (omega arith));
       }
+
+-- the range of a slice where a row lies is the row at its place
+pub row_part : (size n : ℕ) (s : List ℕ) (from i : ℕ) → i < n → take (from + i * size + size - (from + i * size)) (drop (from + i * size) s) ≡ get_or (rows_at size n s from) i []
+row_part size n s from i h =
+    let e : from + i * size + size - (from + i * size) ≡ size = omega arith in
+    rw e (sym (row_at size n s from i h))
+
+-- what holds of every entry of a table holds of the one at a place
+pub every_at : {A : Type 0} (f : A → Bool) (l : List A) (n i : ℕ) (none : A) → every f (take n l) ≡ true → i < n → i < length l → f (get_or l i none) ≡ true
+every_at f [] n i none h p q = absurd (omega arith)
+every_at f (a ∷ l) zero i none h p q = absurd (omega arith)
+every_at f (a ∷ l) (suc n) zero none h p q = (and_both (f a) _ h).0
+every_at f (a ∷ l) (suc n) (suc i) none h p q = every_at f l n i none (and_both (f a) _ h).1 (omega arith) (omega arith)
+
+pub every_row : (f : List ℕ → Bool) (rows : List (List ℕ)) (i : ℕ) → every f rows ≡ true → i < length rows → f (get_or rows i []) ≡ true
+every_row f rows i h q =
+    let t : take (length rows) rows ≡ rows = take_all (length rows) rows (omega arith) in
+    every_at f rows (length rows) i [] (rw t h) q q
 
 pub every_map : {A B : Type 0} (f : B → Bool) (g : A → B) (l : List A) → every f (map g l) ≡ every (λ a. f (g a)) l
 every_map f g [] = refl

@@ -7,6 +7,7 @@ mod operations;
 
 pub use layout::{MARK_SIZE, MESSAGE_SIZE};
 pub use messages::{read_message, write_message};
+pub use operations::operation_of;
 use sketch::Id;
 
 // The version that is read and written.

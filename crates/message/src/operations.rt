@@ -1,6 +1,6 @@
 // Operations and their numbers.
 ghost use Rattle.std.specs.Prelude.{◌≡◌};
-ghost use Rattle.message.specs.Message.{operation_byte, operation_numbered};
+ghost use Rattle.message.specs.Message.{operation_byte, operation_numbered, operation_of};
 
 use crate::Operation;
 use refusal::Refusal;
@@ -19,6 +19,13 @@ impl TryFrom<u32> for Operation {
             _ => Err(Refusal::BadOperation),
         }
     }
+}
+
+// The operation that a number means, an extend where it means none: for callers that refuse such numbers themselves, or never have one.
+pub fn operation_of(number: u32) -> Operation
+    ensures { result ≡ operation_of number }
+{
+    Operation::try_from(number).unwrap_or(Operation::Extend)
 }
 
 impl From<Operation> for u64 {

@@ -118,16 +118,15 @@ module _ (s : List ℕ) (b : Bytes s) (k : ℕ) (e : I.image_fault s ≡ 0) (bel
         curve_count_lem : (s : List ℕ) (e : I.image_fault s ≡ 0) → length (I.drawing_of s).curves ≡ I.curve_count s
         curve_count_lem s e = sym (ap length (curves_in_lem s e)) ∙ curves_count s e
 
-  planned_refused : {planned : PlanResult} (why : Refusal) (l : List ℕ) → planned ≡ Refused (number why) → Placeless (number why) → PlanEdited d k planned l l (answer_of (Err why))
+  pub planned_refused : {planned : PlanResult} {n : ℕ} (l : List ℕ) → planned ≡ Refused n → PlanEdited d k planned l l (refused_at n 0)
   unfolding apply_planned
-  planned_refused {planned} why l h low =
-      let n : ℕ = number why in
+  planned_refused {planned} {n} l h =
       let o : apply_planned all_met limits d c.id planned ≡ refused n = ap (apply_planned all_met limits d c.id) h in
-      rw (without_place why low) (record {
+      record {
         written = refused_outcome n 0 o;
         sound = λ d' removed a. not_accepted o a;
         no_place = refl;
-      })
+      }
 
   pub planned_accepted : {planned : PlanResult} {plan : Plan} {before after : List ℕ} {r : ImageAnswer} → planned ≡ Accepted plan → PlanEdited d k (Accepted plan) before after r → PlanEdited d k planned before after r
   planned_accepted {before = before} {after = after} {r = r} h w = subst (λ (x : PlanResult). PlanEdited d k x before after r) (sym h) w
@@ -167,7 +166,7 @@ module _ (s : List ℕ) (b : Bytes s) (k : ℕ) (e : I.image_fault s ≡ 0) (bel
     cut_refused op ne {planned} h why q l =
         let o : apply_planned all_met limits d c.id planned ≡ refused (number why) = ap (apply_planned all_met limits d c.id) q in
         let low : Placeless (number why) = (cut_number d c.id p op ne (number why) (plan_is op all_met ∙ ap (apply_planned all_met limits d c.id) (sym h) ∙ o)).1 in
-        cut_edited op ne h (planned_refused why l q low)
+        cut_edited op ne h (rw (without_place why low) (planned_refused l q))
 
     pub trim_refused : {op : Operation} {planned : PlanResult} → op ≡ Trim → planned ≡ trim_curve d p c (shape_of d.points c.kind) → (why : Refusal) → planned ≡ Refused (number why) → (l : List ℕ) → EditWritten op s c.id p l l (answer_of (Err why))
     unfolding plan_on_curve

@@ -68,7 +68,7 @@ other_number CountAbove h e = omega arith
 other_number Foreign h e = omega arith
 
 module _ (e : ImageAnswer) (out b : List ℕ) where
-  front_refused : (e.refusal ≡ 0 → ⊥) → FrontReplaced e out b b e
+  pub front_refused : (e.refusal ≡ 0 → ⊥) → FrontReplaced e out b b e
   front_refused z = record { when_refused = λ y. (refl, refl); when_short = λ y. absurd (z y); when_put = λ y. absurd (z y) }
 
   pub front_short : e.refusal ≡ 0 → length b < e.size → {r : ImageAnswer} → r ≡ refused_at 25 0 → FrontReplaced e out b b r

@@ -4,7 +4,7 @@ ghost use Rattle.mulkefi.specs.Calls.{mk_edit_by_number, DeskCallWritten};
 use crate::AnswerField;
 use crate::buffers::{refusal_answer, write_answer};
 use message::{EditNumber, Mark, Operation};
-use replication::{Replica, desk_edit, first_fault};
+use replication::{Replica, desk_edit, first_refusal};
 use rows::front;
 use sketch::Id;
 use window::{WINDOW_SIZE, Window};
@@ -32,7 +32,7 @@ pub extern "C" fn mulkefi_desk_edit(
         Ok(operation) => operation,
         Err(refusal) => {
             let image = front(&buffer[..], len);
-            return u32::from(first_fault(image, refusal).number());
+            return u32::from(first_refusal(image, refusal).number());
         }
     };
     let replica = Replica {

@@ -1,7 +1,7 @@
 -- The curves of an image by their records: one by its place or its id, and whether one is freeform. Assumes nothing.
 use mathlib.Core.Path.{◌≡◌, refl, sym, ap, subst, ◌∙◌}
 use mathlib.Core.Bool.{Bool, true, false, not, ◌&&◌}
-use mathlib.Core.List.{List}
+use mathlib.Core.List.{List, [], ◌∷◌}
 use mathlib.Core.Option.{some, none}
 use Prim.Native.Nat.{ℕ, suc, ◌+◌, ◌≤◌, ◌<◌}
 use native.Mathlib.Numerals.{add-one}
@@ -13,6 +13,7 @@ use Rattle.geom.specs.declared.Vec2.{Vec2}
 use Rattle.shape.specs.declared.Shape.{Shape}
 use Rattle.shape.specs.Measures.{point}
 use Rattle.sketch.specs.declared.Curve.{Curve}
+use Rattle.sketch.specs.contracts.CurveKind as K
 use Rattle.sketch.specs.Lists.{every}
 use Rattle.sketch.specs.Blanks.{no_curve}
 use Rattle.sketch.specs.Lookup.{FoundAt}
@@ -33,6 +34,10 @@ use Rattle.planning.specs.Planning.{PlanResult, no_freeform, trim_curve, split_c
 use Rattle.planning.specs.ImagePlans.{PinIn, TrimIn, SplitIn}
 use Rattle.planning.specs.ImageContracts.{PinnedPointIn, FreeformIn, TrimsIn, SplitsIn}
 use Rattle.planning.proofs.TrimSplitPlans.{place_is}
+use Rattle.sketch.specs.declared.CurveKind.{CurveKind}
+use Rattle.sketch.specs.declared.CurveKind.TheVariants.{Line, Arc, Circle, Bezier, Conic}
+use types.Run.{OneOf, miss}
+use denote.Enum.Declared.{tag_of}
 
 -- ---- one by its place, or by its id
 
@@ -70,6 +75,28 @@ pub place_in : (s : List ℕ) (sh : Shape) (k : Cut) {q : Vec2} {w : Pin} → q 
 place_in s sh k h f = λ e. place_is (drawing_of s) sh k h (f e)
 
 -- ---- freeform curves
+
+abbrev freeform : List ℕ
+freeform = 3 ∷ 4 ∷ []
+
+abbrev analytic : List ℕ
+analytic = 0 ∷ 1 ∷ 2 ∷ []
+
+pub is_freeform : (k : CurveKind) → OneOf freeform (tag_of K.the_type k) → true ≡ eqb (sort_of k) 3
+unfolding sort_of
+is_freeform (Line a b) h = absurd (miss freeform 0 tt h)
+is_freeform (Arc c a b) h = absurd (miss freeform 1 tt h)
+is_freeform (Circle c r) h = absurd (miss freeform 2 tt h)
+is_freeform (Bezier n) h = refl
+is_freeform (Conic a p b rho) h = refl
+
+pub is_analytic : (k : CurveKind) → OneOf analytic (tag_of K.the_type k) → false ≡ eqb (sort_of k) 3
+unfolding sort_of
+is_analytic (Line a b) h = refl
+is_analytic (Arc c a b) h = refl
+is_analytic (Circle c r) h = refl
+is_analytic (Bezier n) h = absurd (miss analytic 3 tt h)
+is_analytic (Conic a p b rho) h = absurd (miss analytic 4 tt h)
 
 abbrev plain : Curve → Bool
 plain c = not (eqb (sort_of c.kind) 3)

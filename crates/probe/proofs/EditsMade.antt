@@ -33,11 +33,11 @@ place_whole op sk t p f r a =
 -- what is accepted is refused by a buffer that is too short alone
 pub wrote_number : (d : Drawing) (gone : Removed) {before later : List ℕ} {n : ℕ} → Wrote (accepted d gone) before later n → (n ≡ 0) ⊎ (n ≡ 25)
 unfolding guard number_of
-wrote_number d gone {before} {later} {n} w = go (leb (12 + drawing_size d) (length before)) w.number
+wrote_number d gone {before} {later} {n} w = number_of_lem (leb (12 + drawing_size d) (length before)) w.number
   where
-    go : (b : Bool) → n ≡ number_of (guard b 25 (accepted d gone)) → (n ≡ 0) ⊎ (n ≡ 25)
-    go true e = inl e
-    go false e = inr e
+    number_of_lem : (b : Bool) → n ≡ number_of (guard b 25 (accepted d gone)) → (n ≡ 0) ⊎ (n ≡ 25)
+    number_of_lem true e = inl e
+    number_of_lem false e = inr e
 
 -- ---- no edit
 

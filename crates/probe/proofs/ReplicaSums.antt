@@ -31,6 +31,7 @@ use Rattle.replication.proofs.StartCases.{good_size}
 use Rattle.replication.proofs.Steps.{Holding, ready_by, desk_step_lem, wall_step_lem}
 use Rattle.probe.specs.Edits.{with_place, repeated}
 use Rattle.probe.specs.Replicas.{image_state, desk_tally, desk_adds, wall_tally}
+use Rattle.wall_program.specs.Program.{program_outcome, WritesOutcome}
 
 -- a place within the limit stands whole above the number
 with_place_lem : (n place j p q : ℕ) → n ≡ j → place ≡ p → p ≤ limits.relations → q ≡ n + place % 65536 * 65536 → q ≡ with_place j p
@@ -152,6 +153,9 @@ pub desk_read :
 desk_read s count op t x y times e q = q ∙ ap (λ o. repeated times (desk_adds o t x y (image_state s count))) e
 
 -- ---- the wall's program looks at 65,536 bytes
+
+pub read_whole : (s : List ℕ) {before later : List ℕ} {n : ℕ} → length s ≤ 65536 → WritesOutcome (program_outcome s) before later n → WritesOutcome (program_outcome (take 65536 s)) before later n
+read_whole s {before} {later} {n} h w = subst (λ (l : List ℕ). WritesOutcome (program_outcome l) before later n) (sym (take_all 65536 s h)) w
 
 pub read_front : (s : List ℕ) (m : ℕ) → (length s ≤ 65536 → m ≡ length s) → (65536 ≤ length s → m ≡ 65536) → take m s ≡ take 65536 s
 read_front s m short long = go (leb (length s) 65536) refl

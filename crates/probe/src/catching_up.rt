@@ -35,8 +35,8 @@ pub extern "C" fn mulkefi_catch_up_repeated(
     let mut messages = [0u8; WINDOW_SIZE];
     let mut sum = 0u32;
     for i in 0..times {
-        let more = mulkefi_catch_up(window, count, mark, wall, &mut messages);
-        sum = sum.wrapping_add(more);
+        let caught_up = window::catch_up(window, count, mark, wall, &mut messages);
+        sum = sum.wrapping_add(number_of(caught_up));
     }
     sum
 }

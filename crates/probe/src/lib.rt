@@ -44,7 +44,11 @@ pub extern "C" fn mulkefi_image_test(bytes: &[u8]) -> u32
 fn copy_image(bytes: &[u8], out: &mut [u8]) -> Result<(), Refusal>
     ensures { ImageCopied bytes.now out.old out.new (refusal_number result) }
 {
-    sketch_image::write(sketch_image::read(bytes)?, out)
+    // The sketch is taken out by `match`: `?` would make one copy more.
+    match sketch_image::read(bytes) {
+        Ok(sk) => sketch_image::write(sk, out),
+        Err(refusal) => Err(refusal),
+    }
 }
 
 // Reads an image and writes it again.

@@ -1,2 +1,3 @@
 -- The laws that the proofs of `replay` share.
 pub mod Totals
+pub mod Rejoined

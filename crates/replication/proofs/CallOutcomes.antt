@@ -57,6 +57,15 @@ module _ (s : List ℕ) {n : ℕ} (k : ℕ) where
 pub first_of : (s : List ℕ) {image : List ℕ} (k : ℕ) {n : ℕ} → image ≡ s → n ≡ first_fault image k → n ≡ first_fault s k
 first_of s k e f = f ∙ ap (λ (t : List ℕ). first_fault t k) e
 
+-- with nothing given it is the image's
+pub first_fault_own : (s : List ℕ) {n : ℕ} → n ≡ first_fault s 0 → n ≡ I.image_fault s
+unfolding guard_number
+first_fault_own s e = e ∙ go (I.image_fault s)
+  where
+    go : (k : ℕ) → guard_number (eqb k 0) k 0 ≡ k
+    go zero = refl
+    go (suc k) = rw (ne_eqb (suc k) 0 (λ z. omega arith))
+
 -- an image's own number comes with no place
 pub placeless_own : (s : List ℕ) {n : ℕ} → n ≡ I.image_fault s → Placeless n
 placeless_own s e = placeless_below (omega (arith, e, image_fault_low s))

@@ -4,7 +4,7 @@ use mathlib.Core.Bool.{Bool, true, false, not, ◌&&◌}
 use Prim.Native.Nat.{ℕ}
 use native.Mathlib.Omega.{arith}
 use lib.Dec.{T}
-use lib.Ieee.{Float, nan, inf, fin, of_bits, fits, is_nan, nan_bits, binary64}
+use lib.Ieee.{Float, nan, inf, fin, of_bits, fits, is_nan, nan_bits, binary64, div}
 use lib.Ieee.Bits.{of_bits-fits, nan_bits_is}
 use Rattle.sketch.specs.Drawing.{Drawing, limits}
 use Rattle.sketch.specs.Valid.{ok_coordinate}
@@ -17,6 +17,9 @@ use Rattle.planning.specs.Planning.{PlanResult, guard_plan}
 use Rattle.extend.specs.ExtendAnswer.{apply_planned}
 use Rattle.modify.specs.Edits.{edit_of}
 use Rattle.replication.specs.Protocol.{Edit, is_pick, edit}
+use Rattle.sketch.proofs.Bools.{and_both}
+use Rattle.sketch_geometry.proofs.Found.{no_number}
+use borrow.Author.Tests.{not-true}
 
 -- ---- picks
 
@@ -41,6 +44,13 @@ is_pick_lem a b = go (fits binary64 (of_bits binary64 a)) (fits binary64 (of_bit
 -- a parameter is one of binary64
 pub pick_of : (x y : Float) → fits binary64 x ≡ true → fits binary64 y ≡ true → is_pick (record { x = x; y = y }) ≡ true
 pick_of x y p q = rw (p, q)
+
+-- the test of both coordinates' bits
+pub both_numbers : (a b : ℕ) {p q t : Bool} → p ≡ not (nan_bits binary64 a) → q ≡ not (nan_bits binary64 b) → (p && q) ≡ t → (not (nan_bits binary64 a) && not (nan_bits binary64 b)) ≡ t
+both_numbers a b e f h = rw (← e, ← f) h
+
+pub both_false : (a b : ℕ) → (not (nan_bits binary64 a) && not (nan_bits binary64 b)) ≡ true → (nan_bits binary64 a ≡ false) × (nan_bits binary64 b ≡ false)
+both_false a b h = let (p, q) = and_both (not (nan_bits binary64 a)) (not (nan_bits binary64 b)) h in (not-true (nan_bits binary64 a) p, not-true (nan_bits binary64 b) q)
 
 -- one coordinate whose bits are a NaN's
 pub first_nan : (a b : ℕ) → not (nan_bits binary64 a) ≡ false → (not (nan_bits binary64 a) && not (nan_bits binary64 b)) ≡ false
@@ -72,6 +82,10 @@ nan_of b h = go (of_bits binary64 b) (sym (nan_bits_is binary64 b)) (nan_bits bi
     go (inf s) e false q h = let z : ◌≡◌ {A = ℕ} 0 1 = cc in absurd (omega arith)
     go (fin s m k) e true q h = let z : ◌≡◌ {A = ℕ} 0 1 = cc in absurd (omega arith)
     go (fin s m k) e false q h = let z : ◌≡◌ {A = ℕ} 0 1 = cc in absurd (omega arith)
+
+-- as 0 / 0
+pub nan_computed : (b : ℕ) → not (nan_bits binary64 b) ≡ false → div binary64 (of_bits binary64 0) (of_bits binary64 0) ≡ of_bits binary64 b
+nan_computed b h = no_number ∙ nan_of b h
 
 -- as the library's NaN
 pub nan_constant : (b : ℕ) → not (nan_bits binary64 b) ≡ false → of_bits binary64 9221120237041090560 ≡ of_bits binary64 b

@@ -3,7 +3,7 @@ ghost use Rattle.std.specs.Prelude.{◌≡◌};
 ghost use Rattle.replication.specs.Transitions.{memory, DeskEdits, desk_call};
 ghost use Rattle.replication.specs.Clauses.{desk_refusing};
 
-use crate::refusals::first_fault;
+use crate::refusals::first_refusal;
 use crate::{DeskTransition, Replica};
 use geom::Vec2;
 use message::{MAX_EDIT_NUMBER, MESSAGE_SIZE, Message, Operation};
@@ -38,11 +38,11 @@ pub fn desk_edit<'a>(
 {
     if message.len() < MESSAGE_SIZE {
         let image = front(&buffer[..], replica.size);
-        return refuse(replica, window, first_fault(image, Refusal::ShortBuffer));
+        return refuse(replica, window, first_refusal(image, Refusal::ShortBuffer));
     }
     if MAX_EDIT_NUMBER <= replica.count {
         let image = front(&buffer[..], replica.size);
-        return refuse(replica, window, first_fault(image, Refusal::IdsSpent));
+        return refuse(replica, window, first_refusal(image, Refusal::IdsSpent));
     }
     let at = Vec2 { x, y };
     let edited = match modify::edit_in_place(operation, buffer, replica.size, curve, at) {

@@ -12,7 +12,7 @@ pub use desk::desk_edit;
 use edit_plan::Removed;
 use message::{EditNumber, Mark};
 use refusal::Refusal;
-pub use refusals::{first_fault, test_image};
+pub use refusals::{first_fault, first_refusal, test_image};
 pub use starting::start;
 pub use wall::{is_number, wall_deliver};
 use window::Window;

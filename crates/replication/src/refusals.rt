@@ -15,11 +15,21 @@ pub fn test_image(image: &[u8]) -> Result<(), Refusal>
 }
 
 // What an image is refused by, or else the refusal given.
-pub fn first_fault(image: &[u8], refusal: Refusal) -> Refusal
+pub fn first_refusal(image: &[u8], refusal: Refusal) -> Refusal
     ensures { number result ≡ first_fault image.now (number refusal) }
 {
     match test_image(image) {
         Ok(()) => refusal,
         Err(own) => own,
+    }
+}
+
+// The number that an image is refused by, or else the number given.
+pub fn first_fault(image: &[u8], number: u8) -> u8
+    ensures { result ≡ first_fault image.now number }
+{
+    match test_image(image) {
+        Ok(()) => number,
+        Err(own) => own.number(),
     }
 }

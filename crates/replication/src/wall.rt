@@ -5,7 +5,7 @@ ghost use Rattle.std.specs.Float.Ieee.{nan_bits};
 ghost use Rattle.replication.specs.Transitions.{memory, WallDelivers, wall_call};
 ghost use Rattle.replication.specs.Clauses.{wall_refusing, OldAnswered, MessageApplied, DeliversMessage};
 
-use crate::refusals::{first_fault, test_image};
+use crate::refusals::{first_refusal, test_image};
 use crate::{Delivered, Replica, WallTransition};
 use geom::Vec2;
 use message::Message;
@@ -78,11 +78,11 @@ fn deliver_message(replica: Replica, buffer: &mut [u8], m: Message) -> WallTrans
     }
     if m.number - replica.count != 1 {
         let image = front(&buffer[..], replica.size);
-        return refuse(replica, first_fault(image, Refusal::Ahead));
+        return refuse(replica, first_refusal(image, Refusal::Ahead));
     }
     if !is_number(m.x) || !is_number(m.y) {
         let image = front(&buffer[..], replica.size);
-        return refuse(replica, first_fault(image, Refusal::BadPick));
+        return refuse(replica, first_refusal(image, Refusal::BadPick));
     }
     apply_message(replica, buffer, m)
 }
@@ -95,7 +95,7 @@ pub fn wall_deliver(replica: Replica, buffer: &mut [u8], bytes: &[u8]) -> WallTr
     match message::read_message(bytes, replica.mark) {
         Err(refusal) => {
             let image = front(&buffer[..], replica.size);
-            refuse(replica, first_fault(image, refusal))
+            refuse(replica, first_refusal(image, refusal))
         }
         Ok(m) => deliver_message(replica, buffer, m),
     }

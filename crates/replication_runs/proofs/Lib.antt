@@ -1,7 +1,6 @@
 -- What is proved of a run of desk and wall.
 pub mod WallLives
 pub mod WallInputs
-pub mod Operations
 pub mod DeskCalls
 pub mod RunOrder
 pub mod RunBoth

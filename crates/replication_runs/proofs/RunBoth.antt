@@ -36,6 +36,12 @@ use Rattle.replication_runs.proofs.RunOrder.{fed_is, log_after}
 
 -- ---- room
 
+pub room_short : (size room : ℕ) → room < max_room → false ≡ has_room size room
+room_short size room h = rw (lt-leb max_room room h)
+
+pub room_enough : (size room : ℕ) → max_room ≤ room → leb (size / call_size) ((room - max_room) / message_size) ≡ has_room size room
+room_enough size room h = rw (le-leb max_room room h)
+
 room_is : (size room : ℕ) → has_room size room ≡ true → message_size * (size / call_size) + max_room ≤ room
 room_is size room e = go (leb max_room room) refl (leb (size / call_size) ((room - max_room) / message_size)) refl e
   where
@@ -53,6 +59,15 @@ last_false false = refl
 module _ (image : List ℕ) (mark : ℕ) (entries order others before desk wall : List ℕ) where
   abbrev has_all : Bool
   has_all = has_room (length entries) (length before) && (holds_any (length desk) && holds_any (length wall))
+
+  -- the three rooms, tested from the left
+  pub rooms_of : {a t : Bool} → a ≡ has_room (length entries) (length before) → (a && holds_any (length desk) && holds_any (length wall)) ≡ t → has_all ≡ t
+  rooms_of e h =
+      and_assoc (has_room (length entries) (length before)) (holds_any (length desk)) (holds_any (length wall)) ∙ sym (ap (λ (x : Bool). x && holds_any (length desk) && holds_any (length wall)) e) ∙ h
+    where
+      and_assoc : (x y z : Bool) → (x && (y && z)) ≡ (x && y && z)
+      and_assoc true y z = refl
+      and_assoc false y z = refl
 
   -- one of the three is too short, or none
   pub short_log : has_room (length entries) (length before) ≡ false → has_all ≡ false

@@ -9,7 +9,7 @@ ghost use Rattle.replication_runs.specs.Clauses.{LogFits, RunsOn};
 
 use crate::Run;
 use big_endian::{get1, get4, get8};
-use message::{MESSAGE_SIZE, Operation};
+use message::{MESSAGE_SIZE, operation_of};
 use replication::{DeskTransition, Replica, desk_edit, is_number};
 use sketch::ID_SIZE;
 use window::Window;
@@ -47,8 +47,7 @@ fn desk_edit_at<'a>(
     requires { at + call_size ≤ length entries.now }
     ensures { DeskEdits (memory replica buffer.old) window.bytes (record { edit = edit_at entries.now at; before = out.old; after = out.new; left = memory result.replica buffer.new; window = result.window.bytes; reply = desk_reply_of result.reply }) }
 {
-    let number = u32::from(get1(entries, at));
-    let operation = Operation::try_from(number).unwrap_or(Operation::Extend);
+    let operation = operation_of(u32::from(get1(entries, at)));
     let x = coordinate(get8(entries, at + X_AT));
     let y = coordinate(get8(entries, at + Y_AT));
     desk_edit(

@@ -10,7 +10,7 @@ use crate::{Run, RunResult};
 use image::MAX_IMAGE_SIZE;
 use message::{MESSAGE_SIZE, Mark};
 use refusal::Refusal;
-use replication::{first_fault, start};
+use replication::{first_refusal, start};
 use window::Window;
 
 // The largest room that a call's byte can hold.
@@ -83,7 +83,7 @@ pub fn run_both<'a>(
         || desk.len() < MAX_IMAGE_SIZE
         || wall.len() < MAX_IMAGE_SIZE
     {
-        return Err(first_fault(image, Refusal::ShortBuffer));
+        return Err(first_refusal(image, Refusal::ShortBuffer));
     }
     let primary = start(image, mark, 0, desk)?;
     let second = start(image, mark, 0, wall)?;

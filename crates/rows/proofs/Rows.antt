@@ -4,14 +4,15 @@ use mathlib.Core.List.{List, [], ◌∷◌}
 use Prim.Native.Nat.{ℕ, zero, suc, ◌+◌, ◌*◌, ◌-◌, ◌/◌, ◌≤◌, ◌<◌}
 use native.Mathlib.Nat.{suc-mul, add-mul, one-mul, mul-le-mul_right, div-mul-le_self, mul-div_cancel}
 use native.Mathlib.Omega.{arith}
-use lib.ListN.{length, take, drop, get_or, length-map, length-drop, get_or-eq_default}
-use lib.Seq.{drop-drop, get_or-take, get_or-drop, length-take-le}
+use lib.ListN.{length, take, drop, get_or, length-map, length-drop, get_or-eq_default, drop_of_length-le}
+use lib.Seq.{drop-drop, get_or-take, get_or-drop, length-take-le, take_all}
 use Rattle.std.specs.Simd.{first_chunks}
 use Rattle.big_endian.specs.Fields.{field, part}
 use Rattle.sketch.proofs.Facts.{get_or_mapped}
 use Rattle.image.specs.Image.{rows_at, row_id}
 use Rattle.image.proofs.Tables.{length_rows, row_at}
 use Rattle.rows.specs.Rows.{rows_in, row_in, ids_in}
+use Rattle.sketch.specs.Drawing.{id_size}
 
 module _ (size : ℕ) (t : List ℕ) where
   pub length_rows_in : length (rows_in size t) ≡ length t / size
@@ -54,6 +55,25 @@ pub chunks : (size : ℕ) (t : List ℕ) → first_chunks size (length t / size)
 unfolding rows_in
 chunks size t = chunks_at size (length t / size) t 0
 
+-- ---- a part as a range: past the end, the rest, or all of it
+
+pub part_past : (s : List ℕ) (at n : ℕ) → length s ≤ at → take (length s - length s) (drop (length s) s) ≡ part s at n
+part_past s at n h =
+    let w : length s ≤ length s = omega arith in
+    let a : drop (length s) s ≡ [] = drop_of_length-le s w in
+    let b : drop at s ≡ [] = drop_of_length-le s h in
+    rw (a, b) (take_nil (length s - length s) ∙ sym (take_nil n))
+  where
+    take_nil : (k : ℕ) → take {A = ℕ} k [] ≡ []
+    take_nil zero = refl
+    take_nil (suc k) = refl
+
+pub part_rest : (s : List ℕ) (at n : ℕ) → length s - at ≤ n → take (length s - at) (drop at s) ≡ part s at n
+part_rest s at n h = take_all (length s - at) (drop at s) (rw length-drop (omega arith)) ∙ sym (take_all n (drop at s) (rw length-drop h))
+
+pub part_taken : (s : List ℕ) (at n : ℕ) → take (at + n - at) (drop at s) ≡ part s at n
+part_taken s at n = let e : at + n - at ≡ n = omega arith in rw e
+
 -- ---- ids
 
 pub field_part : (s : List ℕ) (at n m : ℕ) → m ≤ n → field (part s at n) 0 m ≡ field s at m
@@ -63,6 +83,10 @@ field_part s at n (suc m) h =
     let z : 0 + m ≡ m = omega arith in
     let k : m < n = omega arith in
     rw (field_part s at n m (omega arith), z, get_or-take n (drop at s) m 0 k, get_or-drop at s m 0)
+
+-- an id's bytes, taken out of a table, spell what they spelled in it
+pub id_taken : (t : List ℕ) (at : ℕ) → field (take (at + id_size - at) (drop at t)) 0 id_size ≡ field t at id_size
+id_taken t at = ap (λ (l : List ℕ). field l 0 id_size) (part_taken t at id_size) ∙ field_part t at id_size id_size (omega arith)
 
 -- the id of the row at a place
 pub id_in : (size : ℕ) (t : List ℕ) (i : ℕ) → i < length t / size → get_or (ids_in size t) i 0 ≡ row_id (row_in size t i)

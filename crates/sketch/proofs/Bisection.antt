@@ -4,6 +4,7 @@ use mathlib.Core.List.{List}
 use Prim.Native.Nat.{ℕ, ◌≤◌, ◌<◌}
 use native.Mathlib.Omega.{arith}
 use lib.ListN.{length, get_or, get_or-eq_default}
+use lib.Dec.{ltb}
 use Rattle.std.specs.Prelude.{Option, Some, None, Result, Ok, Err, is_some, IfOk}
 use Rattle.std.proofs.Common.{Ordering}
 use Rattle.std.specs.declared.cmp.Ordering.TheVariants.{Equal}
@@ -16,12 +17,19 @@ use Rattle.std.proofs.lemmas.List.Sorted.{searched}
 use Rattle.sketch.specs.Lookup.{among, Ascends, Found, FoundAt, sort_among}
 use Rattle.sketch.proofs.Ascent.{order, among_at, among_nowhere, sort_at_lem, sort_nowhere}
 use Rattle.sketch.proofs.Bools.{at_most_or_above}
+use borrow.Author.Tests.{lt-ltb, le-ltb}
 
 -- a place where the id stands is an answer, however it was come by
 pub found_here : (id : ℕ) (ids : List ℕ) (r : ℕ) → r < length ids → get_or ids r 0 ≡ id → Found id ids r
 found_here id ids r q e = record { within = omega arith; here = λ u. e; nowhere = λ a u. absurd (omega arith) }
 
 module _ (id : ℕ) (ids : List ℕ) (r : ℕ) (f : Found id ids r) (h : Ascends ids) where
+  pub found_among_lem : ltb r (length ids) ≡ among id ids
+  found_among_lem =
+      at_most_or_above (length ids) r
+      (λ q. rw (le-ltb r (length ids) q) (sym (f.nowhere h (omega arith))))
+      (λ q. rw (lt-ltb r (length ids) q) (sym (among_at id ids r q (f.here q))))
+
   pub found_sort : (ss : List ℕ) → length ids ≡ length ss → get_or ss r 0 ≡ sort_among id ids ss
   found_sort ss e =
       at_most_or_above (length ids) r

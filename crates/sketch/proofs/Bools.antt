@@ -61,3 +61,6 @@ too_high {i} {n} false c h = refl
 
 pub between : {l i n : ℕ} {c t : Bool} → l < i → i < n → c ≡ t → (ltb l i && ltb i n && c) ≡ t
 between {l} {i} {n} h k e = rw (lt-ltb l i h, lt-ltb i n k) e
+
+pub joined : {a b c d : Bool} → a ≡ c → b ≡ d → (a && b) ≡ (c && d)
+joined e f = cc

@@ -5,6 +5,7 @@ pub mod Ascent
 pub mod Bisection
 pub mod Walks
 pub mod CurveCases
+pub mod RelationCases
 pub mod Facts
 pub mod Sorts
 pub mod Sketches

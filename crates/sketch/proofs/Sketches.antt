@@ -1,12 +1,12 @@
 -- The fault of a sketch from the tests of its counts, of its next id and of each of its tables.
-use mathlib.Core.Path.{◌≡◌, sym, ◌∙◌}
-use mathlib.Core.Bool.{Bool, true, false, ◌&&◌}
+use mathlib.Core.Path.{◌≡◌, sym, ◌∙◌, refl}
+use mathlib.Core.Bool.{Bool, true, false, ◌&&◌, not, ◌||◌}
 use mathlib.Core.List.{List, map}
 use Prim.Native.Nat.{ℕ, ◌≤◌, ◌<◌}
 use native.Mathlib.Omega.{arith}
 use lib.ListN.{length, take, length-take, length-map}
-use lib.Dec.{leb}
-use borrow.Author.Tests.{leb-true, le-leb, lt-leb}
+use lib.Dec.{leb, ltb}
+use borrow.Author.Tests.{leb-true, le-leb, lt-leb, ltb-false}
 use Rattle.sketch.specs.declared.Point.{Point}
 use Rattle.sketch.specs.declared.Curve.{Curve}
 use Rattle.sketch.specs.declared.Sketch.{Sketch}
@@ -16,8 +16,25 @@ use Rattle.sketch.specs.Drawing.{view, limits, point_ids, curve_ids}
 use Rattle.sketch.specs.Valid.{ok_point, ok_curve, sound_curve, has_point, points_fault, curves_fault, relations_fault, counts_fit, sketch_fault}
 use Rattle.sketch.specs.Facts.{Sized, Valid}
 use Rattle.sketch.specs.Columns.{sorts_of, shapes_fault, PointsChecked, CurvesChecked, RelationsChecked}
-use Rattle.sketch.proofs.Bools.{all_three}
+use Rattle.sketch.proofs.Bools.{all_three, or_left_false, or_right_false, leb_ltb}
 use Rattle.sketch.proofs.Facts.{guard_number_none, none_guard_number, table_first, table_later, table_ascends, curves_by_column, relations_by_columns, fault_valid, valid_fault}
+
+-- ---- three counts against three limits
+
+module _ (a b c x y z : ℕ) where
+  none_over : ltb x a || ltb y b || ltb z c ≡ false → (a ≤ x) × (b ≤ y) × (c ≤ z)
+  none_over h =
+      let u = or_left_false (ltb x a || ltb y b) (ltb z c) h in
+      (ltb-false x a (or_left_false (ltb x a) (ltb y b) u), ltb-false y b (or_right_false (ltb x a) (ltb y b) u), ltb-false z c (or_right_false (ltb x a || ltb y b) (ltb z c) h))
+
+  some_over : ltb x a || ltb y b || ltb z c ≡ true → (leb a x && leb b y && leb c z) ≡ false
+  some_over h = rw (leb_ltb a x, leb_ltb b y, leb_ltb c z) (go (ltb x a) (ltb y b) (ltb z c) h)
+    where
+      go : (u v w : Bool) → u || v || w ≡ true → (not u && not v && not w) ≡ false
+      go true v w e = refl
+      go false true w e = refl
+      go false false true e = refl
+      go false false false e = sym e
 
 -- ---- counts within their limits
 

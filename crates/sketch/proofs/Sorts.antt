@@ -14,7 +14,7 @@ use Rattle.sketch.specs.declared.Sort.{Sort}
 use Rattle.sketch.specs.declared.Sort.TheVariants.{Line, Round, Freeform}
 use Rattle.sketch.specs.contracts.SortPartialEq as Equal
 use Rattle.sketch.specs.Lookup.{Ascends, FoundAt, sort_among}
-use Rattle.sketch.specs.Sorts.{sort_number, sort_number_of}
+use Rattle.sketch.specs.Sorts.{number_of, sort_number_of}
 use Rattle.sketch.proofs.Ascent.{sort_at_lem, sort_nowhere}
 use Rattle.sketch.proofs.Facts.{get_or_mapped}
 
@@ -63,16 +63,16 @@ same_sort (Some Freeform) (Some Freeform) = refl
 
 -- ---- the sort at a place
 
-module _ (id : ℕ) (ids : List ℕ) (sorts : List Sort) (h : Ascends ids) where
-  pub sort_missing : FoundAt id ids None → 0 ≡ sort_among id ids (map sort_number sorts)
-  sort_missing f = sym (sort_nowhere id ids (map sort_number sorts) (f h))
+module _ {A : Type 0} (number : A → ℕ) (id : ℕ) (ids : List ℕ) (sorts : List A) (h : Ascends ids) where
+  pub sort_missing : FoundAt id ids None → 0 ≡ sort_among id ids (map number sorts)
+  sort_missing f = sym (sort_nowhere id ids (map number sorts) (f h))
 
   module _ (e : length ids ≡ length sorts) (k : ℕ) (f : FoundAt id ids (Some k)) where
-    pub sort_there : (d : Sort) → sort_number (get_or sorts k d) ≡ sort_among id ids (map sort_number sorts)
-    sort_there d = sym (sort_at_lem id ids (map sort_number sorts) k h f.0 f.1 ∙ get_or_mapped sort_number 0 d sorts k (omega arith))
+    pub sort_there : (d : A) → number (get_or sorts k d) ≡ sort_among id ids (map number sorts)
+    sort_there d = sym (sort_at_lem id ids (map number sorts) k h f.0 f.1 ∙ get_or_mapped number 0 d sorts k (omega arith))
 
     -- as `get` tells it
-    pub sort_got : (g : Option (Bor Sort)) → MatchOption g (length sorts ≤ k) (λ x. (k < length sorts) × HoldsAt (λ y. x.now ≡ y) sorts k)
-        → sort_number_of (option_copied g) ≡ sort_among id ids (map sort_number sorts)
+    pub sort_got : (g : Option (Bor A)) → MatchOption g (length sorts ≤ k) (λ x. (k < length sorts) × HoldsAt (λ y. x.now ≡ y) sorts k)
+        → number_of number (option_copied g) ≡ sort_among id ids (map number sorts)
     sort_got None m = absurd (omega arith)
-    sort_got (Some x) m = ap sort_number (m.1 Line) ∙ sort_there Line
+    sort_got (Some x) m = ap number (m.1 x.now) ∙ sort_there x.now

@@ -6,7 +6,7 @@ use Prim.Native.Nat.{ℕ, ◌+◌, ◌≤◌, ◌<◌}
 use native.Mathlib.Numerals.{add-one}
 use native.Mathlib.Omega.{arith}
 use lib.ListN.{length, take, drop, get_or, set, length-take, length-set, drop_of_length-le}
-use lib.Seq.{slice-cons, take-suc, take-suc-set}
+use lib.Seq.{slice-cons, take-suc, take-suc-set, drop-cons}
 use lib.Dec.{ltb}
 use Rattle.std.specs.List.{list_all}
 use Rattle.sketch.specs.Lists.{every, guard_number}
@@ -17,6 +17,21 @@ use Rattle.sketch.specs.Valid.{table_fault, list_fault}
 pub every_by_all : {A : Type 0} (f : A → Bool) (l : List A) → every f l ≡ list_all f l
 every_by_all f [] = refl
 every_by_all f (a ∷ l) = ap (λ t. f a && t) (every_by_all f l)
+
+-- ---- a test of every entry, from the i-th on
+
+module _ {A : Type 0} (f : A → Bool) (l : List A) (i : ℕ) where
+  every_next : (d : A) → i < length l → every f (drop i l) ≡ (f (get_or l i d) && every f (drop (i + 1) l))
+  every_next d h = rw (add-one, drop-cons l i d h)
+
+  pub every_fails : (d : A) → i < length l → f (get_or l i d) ≡ false → every f (drop i l) ≡ false
+  every_fails d h e = every_next d h ∙ rw e
+
+  pub every_passes : (d : A) → i < length l → f (get_or l i d) ≡ true → every f (drop i l) ≡ every f (drop (i + 1) l)
+  every_passes d h e = every_next d h ∙ rw e
+
+  pub every_done : length l ≤ i → every f (drop i l) ≡ true
+  every_done h = rw (drop_of_length-le l h)
 
 -- ---- the first broken rule of a table's records
 

@@ -1,9 +1,9 @@
 // Look-ups by id in columns of ids that rise.
-ghost use Rattle.std.specs.Prelude.{◌≡◌, length, map};
-ghost use Rattle.sketch.specs.Sorts.{sort_number, sort_number_of};
+ghost use Rattle.std.specs.Prelude.{◌≡◌, ℕ, length, map};
+ghost use Rattle.sketch.specs.Sorts.{number_of};
 ghost use Rattle.sketch.specs.Lookup.{FoundAt, Ascends, among, sort_among, noted};
 
-use crate::{Id, Sort};
+use crate::Id;
 
 // The place of an id among ids that rise, by bisection.
 pub fn place(ids: &[Id], id: Id) -> Option<usize>
@@ -44,9 +44,9 @@ pub fn has<'a>(ids: &'a [Id], near: &'a [u16], id: Id) -> bool
     place_near(ids, near, id).is_some()
 }
 
-// The sort of the curve with an id, given the curves' ids, which rise, and their sorts.
-pub fn sort_at<'a>(ids: &'a [Id], near: &'a [u16], sorts: &'a [Sort], id: Id) -> Option<Sort>
-    ensures { length ids.now ≡ length sorts.now → Ascends ids.now → sort_number_of result ≡ sort_among id ids.now (map sort_number sorts.now) }
+// The sort of the curve with an id, given the curves' ids, which rise, and their sorts, by name or by number.
+pub fn sort_at<'a, T: Copy>(ids: &'a [Id], near: &'a [u16], sorts: &'a [T], id: Id) -> Option<T>
+    ensures { (number : T → ℕ) → length ids.now ≡ length sorts.now → Ascends ids.now → number_of number result ≡ sort_among id ids.now (map number sorts.now) }
 {
     let k = place_near(ids, near, id)?;
     sorts.get(k).copied()

@@ -92,6 +92,12 @@ module _ (o : HitsResult) (qx qy : List Float) (r : Answer) (w : HitsAtFront o q
     pub hits_fit_Y : k ≤ length qy
     hits_fit_Y = omega (arith, hits_count_Y, length-take k qy)
 
+    pub hits_room_X : (n : ℕ) → length qx ≡ n → n ≤ 28 → (hx : List Float) → 28 ≤ length hx → length (take k qx) ≤ length hx
+    hits_room_X n same few hx room = omega (arith, hits_count_X, hits_fit_X)
+
+    pub hits_room_Y : (n : ℕ) → length qy ≡ n → n ≤ 28 → (hy : List Float) → 28 ≤ length hy → length (take k qy) ≤ length hy
+    hits_room_Y n same few hy room = omega (arith, hits_count_Y, hits_fit_Y)
+
     pub met_all : (hx hy laterX laterY : List Float) → laterX ≡ take k qx ++ drop k hx → laterY ≡ take k qy ++ drop k hy → HitsWritten o hx hy laterX laterY (Found k b)
     met_all hx hy laterX laterY ex ey =
         record { answer = sym e ∙ w.answer; across = ex ∙ rw (front_x, same_count); up = ey ∙ rw (front_y, same_count) }

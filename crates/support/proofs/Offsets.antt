@@ -1,7 +1,7 @@
 -- Laws of the walks that make the polynomial. Assumes nothing.
 use mathlib.Core.Path.{◌≡◌, refl, sym, ◌∙◌, ap}
 use mathlib.Core.List.{List, [], ◌∷◌, ◌++◌, map, append-nil}
-use mathlib.Core.Bool.{Bool, ◌&&◌}
+use mathlib.Core.Bool.{Bool, ◌&&◌, true, false}
 use Prim.Native.Nat.{ℕ, ◌+◌, ◌≤◌, ◌<◌}
 use native.Mathlib.Numerals.{add-one}
 use native.Mathlib.Omega.{arith}
@@ -77,6 +77,16 @@ small a = lt a 1e-28
 
 abbrev pub tiny : Float → Bool
 tiny x = small (abs x)
+
+module _ (c : List Float) (i : ℕ) where
+  pub not_tiny : i < length c → tiny (get_or c i nan) ≡ false → every tiny (drop i c) ≡ false
+  not_tiny h e = rw (drop-cons c i nan h, e)
+
+  pub tiny_too : i < length c → tiny (get_or c i nan) ≡ true → every tiny (drop (i + 1) c) ≡ every tiny (drop i c)
+  tiny_too h e = rw (drop-cons c i nan h, e, add-one)
+
+  pub all_tiny : length c ≤ i → every tiny (drop i c) ≡ true
+  all_tiny h = rw (drop_of_length-le c h)
 
 pub every_is : {A : Type 0} (f : A → Bool) (l : List A) → list_all f l ≡ every f l
 every_is f [] = refl

@@ -31,6 +31,7 @@ fn copy_due(window: &[u8], wall: EditNumber, n: EditNumber, out: &mut [u8])
 
 // Writes every message of a desk's window after a wall's count, up to the desk's count, in order to the front of `out`. Refused are a wall's
 // count above the desk's, one whose next message has left the window, and a buffer too short for the messages due: then the buffer is left.
+#[inline(always)]
 #[tactic(auto, using(crate::proofs::CatchingUp::length_due), unfolding(sketch::specs::Lists::guard_number))]
 pub fn catch_up(
     window: &[u8],

@@ -6,10 +6,10 @@ use Rattle.replication.proofs.Picks.{pick_of}
 use Rattle.replication.proofs.desk.desk_edit.Goals as goal
 
 pub returns-then-message-lt-MESSAGE_SIZE : goal.returns-then-message-lt-MESSAGE_SIZE
-returns-then-message-lt-MESSAGE_SIZE c = desk_short c.args.replica c.args.window c.args.buffer.now _ c.args.message.now c.if-message-lt-MESSAGE_SIZE.true (first_of _ 25 c.front-image.ensures c.first_fault.ensures) c.refuse.ensures
+returns-then-message-lt-MESSAGE_SIZE c = desk_short c.args.replica c.args.window c.args.buffer.now _ c.args.message.now c.if-message-lt-MESSAGE_SIZE.true (first_of _ 25 c.front-image.ensures c.first_refusal.ensures) c.refuse.ensures
 
 pub returns-then-replica-ge-MAX_EDIT_NUMBER : goal.returns-then-replica-ge-MAX_EDIT_NUMBER
-returns-then-replica-ge-MAX_EDIT_NUMBER c = desk_full c.args.replica c.args.window c.args.buffer.now _ c.args.message.now c.if-message-lt-MESSAGE_SIZE.false c.if-replica-ge-MAX_EDIT_NUMBER.true (first_of _ 23 c.front-image-then-replica-ge-MAX_EDIT_NUMBER.ensures c.first_fault-then-replica-ge-MAX_EDIT_NUMBER.ensures) c.refuse-then-replica-ge-MAX_EDIT_NUMBER.ensures
+returns-then-replica-ge-MAX_EDIT_NUMBER c = desk_full c.args.replica c.args.window c.args.buffer.now _ c.args.message.now c.if-message-lt-MESSAGE_SIZE.false c.if-replica-ge-MAX_EDIT_NUMBER.true (first_of _ 23 c.front-image-then-replica-ge-MAX_EDIT_NUMBER.ensures c.first_refusal-then-replica-ge-MAX_EDIT_NUMBER.ensures) c.refuse-then-replica-ge-MAX_EDIT_NUMBER.ensures
 
 pub returns-in-Err : goal.returns-in-Err
 returns-in-Err c = desk_declined c.args.replica c.args.window c.args.buffer.now _ c.args.message.now c.if-message-lt-MESSAGE_SIZE.false c.if-replica-ge-MAX_EDIT_NUMBER.false (pick_of _ _ c.well_formed.1.1.1.1.1.0.1 c.well_formed.1.1.1.1.1.1.0.1) _ _ c.in-Err.ensures c.refuse-in-Err.ensures

@@ -1,5 +1,5 @@
 -- `replication::first_fault` meets its contract.
-use Rattle.std.proofs.Common.{refl}
+use Rattle.std.proofs.Common.{refl, ◌∙◌}
 use Rattle.replication.proofs.CallOutcomes.{nonzero, first_own, first_given}
 use Rattle.replication.proofs.refusals.first_fault.Goals as goal
 
@@ -7,4 +7,4 @@ pub returns-in-Ok : goal.returns-in-Ok
 returns-in-Ok c = first_given _ _ c.in-Ok.ensures refl
 
 pub returns-in-Err : goal.returns-in-Err
-returns-in-Err c = first_own _ _ c.in-Err.ensures (nonzero _)
+returns-in-Err c = c.number.ensures ∙ first_own _ _ c.in-Err.ensures (nonzero _)

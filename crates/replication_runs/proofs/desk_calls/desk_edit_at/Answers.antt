@@ -1,8 +1,5 @@
 -- `replication_runs::desk_calls::desk_edit_at` meets its contract.
 use Rattle.std.proofs.Common.{ap, ◌∙◌}
-use Rattle.std.specs.Result.{result_unwrap_or}
-use Rattle.message.specs.declared.Operation.TheVariants.{Extend}
-use Rattle.replication_runs.proofs.Operations.{or_extend}
 use Rattle.replication.proofs.Steps.{same_edit}
 use Rattle.replication.specs.Transitions.{memory}
 use Rattle.message.specs.Message.{operation_of}
@@ -12,7 +9,7 @@ use Rattle.replication_runs.proofs.desk_calls.desk_edit_at.Goals as goal
 pub returns : goal.returns
 returns c =
     same_edit (memory c.args.replica c.args.buffer.now) _ _ _ _ _ _ _ _
-    (c.unwrap_or-operation.ensures ∙ ap (λ r. result_unwrap_or r Extend) c.try_from.ensures ∙ or_extend _ ∙ ap operation_of (c.from-number.ensures ∙ c.get1.ensures))
+    (c.operation_of-operation.ensures ∙ ap operation_of (c.from.ensures ∙ c.get1.ensures))
     c.get4.ensures
     (c.coordinate-x.ensures ∙ ap (of_bits binary64) c.get8.ensures)
     (c.coordinate-y.ensures ∙ ap (of_bits binary64) c.get8-2.ensures)

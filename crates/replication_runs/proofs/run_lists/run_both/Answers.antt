@@ -15,7 +15,7 @@ returns-then-not-has_room c =
       | then-not-has_room-via-else-not-has_room+then-desk-lt-MAX_IMAGE_SIZE w ↦ short_desk a.image.now a.mark a.entries.now a.order.now a.others.now a.log.now a.desk.now a.wall.now w.if-desk-lt-MAX_IMAGE_SIZE.true
       | then-not-has_room-via-else-not-has_room+else-desk-lt-MAX_IMAGE_SIZE+then-wall-lt-MAX_IMAGE_SIZE w ↦ short_wall a.image.now a.mark a.entries.now a.order.now a.others.now a.log.now a.desk.now a.wall.now w.if-wall-lt-MAX_IMAGE_SIZE.true
     ])
-    _ c.first_fault.ensures
+    _ c.first_refusal.ensures
 
 pub returns-in_err-primary : goal.returns-in_err-primary
 returns-in_err-primary c =

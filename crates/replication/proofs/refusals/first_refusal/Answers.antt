@@ -1,0 +1,10 @@
+-- `replication::first_refusal` meets its contract.
+use Rattle.std.proofs.Common.{refl}
+use Rattle.replication.proofs.CallOutcomes.{nonzero, first_own, first_given}
+use Rattle.replication.proofs.refusals.first_refusal.Goals as goal
+
+pub returns-in-Ok : goal.returns-in-Ok
+returns-in-Ok c = first_given _ _ c.in-Ok.ensures refl
+
+pub returns-in-Err : goal.returns-in-Err
+returns-in-Err c = first_own _ _ c.in-Err.ensures (nonzero _)
