@@ -3,14 +3,16 @@
 import http.client
 import json
 import re
-import subprocess
-import threading
+
+from service import Service
 
 ADDRESS = re.compile(r"http://([\d.]+):(\d+)")
+# Seconds until it tells its address, and for one request.
+PATIENCE = 10
 
 
 class ServerError(Exception):
-    """The server does not start, or does not answer what it must."""
+    """The server does not answer what it must."""
 
 
 class ServedHall:
@@ -18,7 +20,7 @@ class ServedHall:
 
     def __init__(self, program):
         self.program = program
-        self.process = None
+        self.service = None
         self.port = 0
 
     def __enter__(self):
@@ -30,35 +32,20 @@ class ServedHall:
 
     def start(self):
         """Starts it on a free port, or on the one that it had."""
-        self.process = subprocess.Popen(
-            [self.program, "serve", "--port", str(self.port)],
-            stdout=subprocess.PIPE, stderr=subprocess.STDOUT, text=True)
-        told = []
-        for line in self.process.stdout:
-            told.append(line.strip())
-            if found := ADDRESS.search(line):
-                self.host, self.port = found[1], int(found[2])
-                threading.Thread(target=self.process.stdout.read, daemon=True).start()
-                return
-        self.end()
-        raise ServerError(f"{self.program} serve told no address: {' '.join(told) or 'nothing'}")
+        self.service = Service([self.program, "serve", "--port", str(self.port)], ADDRESS, PATIENCE)
+        self.host, self.port = self.service.ready[1], int(self.service.ready[2])
 
     def end(self):
-        if self.process:
-            self.process.terminate()
-            try:
-                self.process.wait(10)
-            except subprocess.TimeoutExpired:
-                self.process.kill()
-                self.process.wait()
-            self.process = None
+        if self.service:
+            self.service.end()
+            self.service = None
 
     @property
     def address(self):
         return f"http://{self.host}:{self.port}/"
 
     def get(self, path):
-        connection = http.client.HTTPConnection(self.host, self.port, timeout=10)
+        connection = http.client.HTTPConnection(self.host, self.port, timeout=PATIENCE)
         try:
             connection.request("GET", path)
             answer = connection.getresponse()

@@ -19,6 +19,7 @@ import radio_tests
 import look_tests
 from hall_page import Failure, HallPage
 from served_hall import ServedHall, ServerError
+from service import NotReady
 from webdriver import Browser, Missing, WebDriverError, find_browser
 
 ROOT = Path(__file__).resolve().parents[4]
@@ -86,7 +87,7 @@ def main(arguments):
     end_orderly()
     try:
         return run_with(str(program.resolve()), paths)
-    except (Failure, ServerError, WebDriverError, OSError) as error:
+    except (Failure, NotReady, ServerError, WebDriverError, OSError) as error:
         print(f"the hall was not tried to its end: {error}")
         return 1
 

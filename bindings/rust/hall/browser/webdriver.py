@@ -6,17 +6,22 @@ import json
 import os
 import re
 import shutil
-import subprocess
 import tempfile
-import threading
 import time
+
+from service import NotReady, Service
 
 BROWSERS = ("chromium", "chromium-browser", "google-chrome")
 DRIVER = "chromedriver"
 ELEMENT = "element-6066-11e4-a52e-4f735466cecf"
 STARTED = re.compile(r"started successfully on port (\d+)")
-# Seconds for one request; the first of them starts the browser.
+# Seconds until the driver is ready, and for one request.
 PATIENCE = 60
+# Seconds that the driver gives a browser to start, after which it ends it, and for the request that waits for that.
+BROWSER_START = 180
+START_PATIENCE = BROWSER_START + PATIENCE
+# On a busy machine a browser's first start may take longer still; the next finds its files read.
+STARTS = 2
 
 
 class Missing(Exception):
@@ -48,13 +53,19 @@ class Browser:
         self.folder = None
 
     def __enter__(self):
-        try:
-            self.start_driver()
-            self.start_session()
-        except BaseException:
-            self.__exit__()
-            raise
-        return self
+        for start in range(1, STARTS + 1):
+            try:
+                self.start_driver()
+                self.start_session()
+                return self
+            except (NotReady, OSError, http.client.HTTPException, WebDriverError) as error:
+                self.__exit__()
+                if start == STARTS:
+                    raise
+                print(f"the browser is started again: {error}", flush=True)
+            except BaseException:
+                self.__exit__()
+                raise
 
     def __exit__(self, *_):
         try:
@@ -64,29 +75,14 @@ class Browser:
             pass  # The driver is ended in any case, and the browser with it.
         finally:
             if self.driver:
-                self.driver.terminate()
-                try:
-                    self.driver.wait(10)
-                except subprocess.TimeoutExpired:
-                    self.driver.kill()
-                    self.driver.wait()
-                self.driver.stdout.close()
+                self.driver.end()
             if self.folder:
                 remove(self.folder)
+            self.driver = self.session = self.folder = None
 
     def start_driver(self):
-        self.driver = subprocess.Popen(
-            [self.paths[1], "--port=0"],
-            stdout=subprocess.PIPE, stderr=subprocess.DEVNULL, text=True)
-        self.port = None
-        for line in self.driver.stdout:
-            if found := STARTED.search(line):
-                self.port = int(found[1])
-                break
-        if self.port is None:
-            raise WebDriverError("chromedriver ended before it told its port")
-        # What it writes later is read, so that it never waits for a reader.
-        threading.Thread(target=self.driver.stdout.read, daemon=True).start()
+        self.driver = Service([self.paths[1], "--port=0"], STARTED, PATIENCE)
+        self.port = int(self.driver.ready[1])
 
     def start_session(self):
         self.folder = tempfile.mkdtemp(prefix="hall-browser-")
@@ -95,17 +91,18 @@ class Browser:
                      f"--user-data-dir={self.folder}"]
         if os.geteuid() == 0:
             arguments += ["--no-sandbox", "--disable-dev-shm-usage"]
-        options = {"binary": self.paths[0], "args": arguments}
+        options = {"binary": self.paths[0], "args": arguments, "browserStartupTimeout": BROWSER_START * 1000}
         capabilities = {
             "browserName": "chrome",
             "goog:chromeOptions": options,
             "goog:loggingPrefs": {"browser": "ALL", "performance": "ALL"},
         }
-        answer = self.request("POST", "/session", {"capabilities": {"alwaysMatch": capabilities}})
+        wanted = {"capabilities": {"alwaysMatch": capabilities}}
+        answer = self.request("POST", "/session", wanted, START_PATIENCE)
         self.session = answer["sessionId"]
 
-    def request(self, method, path, body=None):
-        connection = http.client.HTTPConnection("127.0.0.1", self.port, timeout=PATIENCE)
+    def request(self, method, path, body=None, patience=PATIENCE):
+        connection = http.client.HTTPConnection("127.0.0.1", self.port, timeout=patience)
         try:
             content = None if body is None else json.dumps(body)
             connection.request(method, path, content, {"Content-Type": "application/json"})
