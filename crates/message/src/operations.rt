@@ -21,7 +21,7 @@ impl TryFrom<u32> for Operation {
     }
 }
 
-// The operation that a number means, an extend where it means none: for callers that refuse such numbers themselves, or never have one.
+// The operation that a number means, an extend where it means none. Who has to refuse such a number goes by `try_from`.
 pub fn operation_of(number: u32) -> Operation
     ensures { result ≡ operation_of number }
 {

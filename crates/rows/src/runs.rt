@@ -2,7 +2,7 @@
 ghost use Rattle.std.specs.Prelude.{◌≡◌, ◌≤◌, length};
 ghost use Rattle.big_endian.specs.Fields.{over, over_if_fits};
 
-// Copies all of `run` to the front of `out`, by index: `copy_from_slice` becomes a call of memmove, for which no library of a host's is asked.
+// Copies all of `run` to the front of `out`, byte by byte: `copy_from_slice` would become a call of memmove, which hosts are not asked for.
 fn copy_to_front(run: &[u8], out: &mut [u8])
     requires { length run.now ≤ length out.old }
     ensures { out.new ≡ over out.old 0 run.now }

@@ -14,7 +14,7 @@ use Rattle.sketch.specs.declared.Sort.{Sort}
 use Rattle.sketch.specs.declared.Sort.TheVariants.{Line, Round, Freeform}
 use Rattle.sketch.specs.contracts.SortPartialEq as Equal
 use Rattle.sketch.specs.Lookup.{Ascends, FoundAt, sort_among}
-use Rattle.sketch.specs.Sorts.{number_of, sort_number_of}
+use Rattle.sketch.specs.Sorts.{number_or_zero, sort_number_of}
 use Rattle.sketch.proofs.Ascent.{sort_at_lem, sort_nowhere}
 use Rattle.sketch.proofs.Facts.{get_or_mapped}
 
@@ -73,6 +73,6 @@ module _ {A : Type 0} (number : A → ℕ) (id : ℕ) (ids : List ℕ) (sorts : 
 
     -- as `get` tells it
     pub sort_got : (g : Option (Bor A)) → MatchOption g (length sorts ≤ k) (λ x. (k < length sorts) × HoldsAt (λ y. x.now ≡ y) sorts k)
-        → number_of number (option_copied g) ≡ sort_among id ids (map number sorts)
+        → number_or_zero number (option_copied g) ≡ sort_among id ids (map number sorts)
     sort_got None m = absurd (omega arith)
     sort_got (Some x) m = ap number (m.1 x.now) ∙ sort_there x.now

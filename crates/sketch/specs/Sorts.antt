@@ -9,10 +9,9 @@ sort_number Round = 2
 sort_number Freeform = 3
 
 -- a sort's number, whatever stands for sorts; 0 stands for no curve
-abbrev pub number_of : {A : Type 0} → (A → ℕ) → Option A → ℕ
-number_of number None = 0
-number_of number (Some s) = number s
+abbrev pub number_or_zero : {A : Type 0} → (A → ℕ) → Option A → ℕ
+number_or_zero number None = 0
+number_or_zero number (Some s) = number s
 
 abbrev pub sort_number_of : Option Sort → ℕ
-sort_number_of None = 0
-sort_number_of (Some s) = sort_number s
+sort_number_of s = number_or_zero sort_number s

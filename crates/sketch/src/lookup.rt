@@ -1,6 +1,6 @@
 // Look-ups by id in columns of ids that rise.
 ghost use Rattle.std.specs.Prelude.{◌≡◌, ℕ, length, map};
-ghost use Rattle.sketch.specs.Sorts.{number_of};
+ghost use Rattle.sketch.specs.Sorts.{number_or_zero};
 ghost use Rattle.sketch.specs.Lookup.{FoundAt, Ascends, among, sort_among, noted};
 
 use crate::Id;
@@ -46,7 +46,7 @@ pub fn has<'a>(ids: &'a [Id], near: &'a [u16], id: Id) -> bool
 
 // The sort of the curve with an id, given the curves' ids, which rise, and their sorts, by name or by number.
 pub fn sort_at<'a, T: Copy>(ids: &'a [Id], near: &'a [u16], sorts: &'a [T], id: Id) -> Option<T>
-    ensures { (number : T → ℕ) → length ids.now ≡ length sorts.now → Ascends ids.now → number_of number result ≡ sort_among id ids.now (map number sorts.now) }
+    ensures { (number : T → ℕ) → length ids.now ≡ length sorts.now → Ascends ids.now → number_or_zero number result ≡ sort_among id ids.now (map number sorts.now) }
 {
     let k = place_near(ids, near, id)?;
     sorts.get(k).copied()

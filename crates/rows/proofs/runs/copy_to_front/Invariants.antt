@@ -1,4 +1,4 @@
-use Rattle.std.proofs.Common.{◌≡◌, ◌≤◌, length}
+use Rattle.std.proofs.Common.{◌≤◌, length}
 use Rattle.rows.proofs.RunBytes.{Copying}
 use Rattle.rows.proofs.runs.copy_to_front.Given as goal
 
