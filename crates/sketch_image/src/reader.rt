@@ -34,9 +34,6 @@ const NO_RELATION: RelationSlot = RelationSlot {
     relation: Relation::Coincident(0, 0),
 };
 
-// The tables are filled out of line, as is the sketch from them: where all that is in one function, each table is made several times,
-// and for a refusal too.
-#[inline(never)]
 fn read_points(points: &[u8], n: usize) -> [Point; 512]
     requires { (n ≤ 512) × (n ≡ length (points_in points.now)) }
     ensures { take n result ≡ points_in points.now }
@@ -48,7 +45,6 @@ fn read_points(points: &[u8], n: usize) -> [Point; 512]
     slots
 }
 
-#[inline(never)]
 fn read_curves(curves: &[u8], n: usize) -> [Curve; 128]
     requires { (n ≤ 128) × (n ≡ length (curves_in curves.now)) }
     ensures { take n result ≡ curves_in curves.now }
@@ -60,7 +56,6 @@ fn read_curves(curves: &[u8], n: usize) -> [Curve; 128]
     slots
 }
 
-#[inline(never)]
 fn read_relations(relations: &[u8], n: usize) -> [RelationSlot; 256]
     requires { (n ≤ 256) × (n ≡ length (relations_in relations.now)) }
     ensures { map (λ t. t.relation) (take n result) ≡ relations_in relations.now }
@@ -74,7 +69,7 @@ fn read_relations(relations: &[u8], n: usize) -> [RelationSlot; 256]
     slots
 }
 
-// The sketch that a good image encodes.
+// The sketch that a good image encodes. It is made out of line: in one function with the test, its tables are made for a refusal too.
 #[inline(never)]
 fn decode_sketch(s: &[u8]) -> Sketch
     requires { image_fault s.now ≡ 0 }
