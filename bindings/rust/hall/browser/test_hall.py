@@ -20,7 +20,7 @@ import look_tests
 from hall_page import Failure, HallPage
 from served_hall import ServedHall, ServerError
 from service import NotReady
-from webdriver import Browser, Missing, WebDriverError, find_browser
+from webdriver import Browser, BrowserLost, Missing, WebDriverError, find_browser
 
 ROOT = Path(__file__).resolve().parents[4]
 PROGRAM = ROOT / "bindings/rust/target/release/hall"
@@ -42,6 +42,8 @@ def fault_of(test, page):
         return f"the browser's console has {told}" if told else None
     except Failure as failure:
         return str(failure)
+    except BrowserLost:
+        raise
     except Exception:
         return traceback.format_exc()
 
@@ -87,12 +89,22 @@ def main(arguments):
     end_orderly()
     try:
         return run_with(str(program.resolve()), paths)
-    except (Failure, NotReady, ServerError, WebDriverError, OSError) as error:
+    except (BrowserLost, Failure, NotReady, ServerError, WebDriverError, OSError) as error:
         print(f"the hall was not tried to its end: {error}")
         return 1
 
 
 def run_with(program, paths):
+    """Runs all tests, once more where the browser is lost, which tells nothing of the page, and answers the
+    status to end with."""
+    try:
+        return run_once(program, paths)
+    except BrowserLost as lost:
+        print(f"tried again in another browser: {lost}", flush=True)
+        return run_once(program, paths)
+
+
+def run_once(program, paths):
     """Starts the server and the browser, runs all tests, and answers the status to end with."""
     with ServedHall(program) as hall, Browser(paths) as browser:
         page = HallPage(browser, hall)

@@ -20,12 +20,14 @@ PATIENCE = 60
 # Seconds that the driver gives a browser to start, after which it ends it, and for the request that waits for that.
 BROWSER_START = 180
 START_PATIENCE = BROWSER_START + PATIENCE
-# On a busy machine a browser's first start may take longer still; the next finds its files read.
-STARTS = 2
 
 
 class Missing(Exception):
     """There is no browser, or no driver of it."""
+
+
+class BrowserLost(Exception):
+    """The browser or its driver did not start, or did not answer in time."""
 
 
 class WebDriverError(Exception):
@@ -53,35 +55,31 @@ class Browser:
         self.folder = None
 
     def __enter__(self):
-        for start in range(1, STARTS + 1):
-            try:
-                self.start_driver()
-                self.start_session()
-                return self
-            except (NotReady, OSError, http.client.HTTPException, WebDriverError) as error:
-                self.__exit__()
-                if start == STARTS:
-                    raise
-                print(f"the browser is started again: {error}", flush=True)
-            except BaseException:
-                self.__exit__()
-                raise
+        try:
+            self.start_driver()
+            self.start_session()
+        except BaseException:
+            self.__exit__()
+            raise
+        return self
 
     def __exit__(self, *_):
         try:
             if self.session:
                 self.request("DELETE", f"/session/{self.session}")
-        except (OSError, http.client.HTTPException, WebDriverError):
+        except (BrowserLost, WebDriverError):
             pass  # The driver is ended in any case, and the browser with it.
         finally:
             if self.driver:
                 self.driver.end()
             if self.folder:
                 remove(self.folder)
-            self.driver = self.session = self.folder = None
 
     def start_driver(self):
-        self.driver = Service([self.paths[1], "--port=0"], STARTED, PATIENCE)
+        try:
+            self.driver = Service([self.paths[1], "--port=0"], STARTED, PATIENCE)
+        except NotReady as error:
+            raise BrowserLost(str(error)) from error
         self.port = int(self.driver.ready[1])
 
     def start_session(self):
@@ -98,8 +96,10 @@ class Browser:
             "goog:loggingPrefs": {"browser": "ALL", "performance": "ALL"},
         }
         wanted = {"capabilities": {"alwaysMatch": capabilities}}
-        answer = self.request("POST", "/session", wanted, START_PATIENCE)
-        self.session = answer["sessionId"]
+        try:
+            self.session = self.request("POST", "/session", wanted, START_PATIENCE)["sessionId"]
+        except WebDriverError as error:
+            raise BrowserLost(str(error)) from error
 
     def request(self, method, path, body=None, patience=PATIENCE):
         connection = http.client.HTTPConnection("127.0.0.1", self.port, timeout=patience)
@@ -108,6 +108,8 @@ class Browser:
             connection.request(method, path, content, {"Content-Type": "application/json"})
             answer = connection.getresponse()
             value = json.loads(answer.read())["value"]
+        except (OSError, http.client.HTTPException) as error:
+            raise BrowserLost(f"{method} {path}: {error}") from error
         finally:
             connection.close()
         if answer.status != 200:
