@@ -103,7 +103,7 @@ pub extern "C" fn mulkefi_sketch_test(
     ensures { SketchTested bytes.now next points curves relations result }
 {
     match read_altered(bytes, next, points, curves, relations) {
-        Ok(sk) => number_of(sketch::fault(sk)),
+        Ok(sk) => number_of(sketch::sketch_fault(&sk)),
         Err(refusal) => u32::from(refusal.number()),
     }
 }

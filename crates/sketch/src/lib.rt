@@ -6,7 +6,7 @@ mod validity;
 mod values;
 
 pub use lookup::{has, note, place, place_near, sort_at};
-pub use validity::fault;
+pub use validity::{fault, sketch_fault};
 pub use values::{coordinate_ok, measure_ok, radius_ok, rho_ok};
 
 // Ids of points and curves.

@@ -319,11 +319,11 @@ fn counts_fit(sk: &Sketch) -> bool
     sk.npoints <= 512 && sk.ncurves <= 128 && sk.nrelations <= 256
 }
 
-// Whether an image gives a sketch, or how its image would be refused.
-pub fn fault(sk: Sketch) -> Result<(), Refusal>
-    ensures { refusal_number result ≡ sketch_fault sk }
+// Whether an image gives a sketch, or how its image would be refused. The sketch is lent, since a copy of it takes as long as a small one's test.
+pub fn sketch_fault(sk: &Sketch) -> Result<(), Refusal>
+    ensures { refusal_number result ≡ sketch_fault sk.now }
 {
-    if !counts_fit(&sk) {
+    if !counts_fit(sk) {
         return Err(Refusal::BadCount);
     }
     if sk.next < 1 {
@@ -333,5 +333,12 @@ pub fn fault(sk: Sketch) -> Result<(), Refusal>
     let mut ids: [Id; 512] = [0; 512];
     let mut near = [0u16; 1024];
     points_fault(points, sk.next, &mut ids, &mut near)?;
-    shapes_fault(&sk, &ids[..points.len()], &near)
+    shapes_fault(sk, &ids[..points.len()], &near)
+}
+
+// The same of a sketch that is handed over.
+pub fn fault(sk: Sketch) -> Result<(), Refusal>
+    ensures { refusal_number result ≡ sketch_fault sk }
+{
+    sketch_fault(&sk)
 }

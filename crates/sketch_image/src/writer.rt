@@ -46,7 +46,7 @@ fn write_relations(buf: &mut [u8], from: usize, relations: &[RelationSlot])
 pub fn write(sk: Sketch, buf: &mut [u8]) -> Result<(), Refusal>
     ensures { ImageWritten sk buf.old buf.new (refusal_number result) }
 {
-    sketch::fault(sk)?;
+    sketch::sketch_fault(&sk)?;
     let np = sk.npoints;
     let nc = sk.ncurves;
     let nr = sk.nrelations;

@@ -6,7 +6,7 @@ use Rattle.probe.proofs.mulkefi_sketch_test.Goals as goal
 pub returns-in-Ok : goal.returns-in-Ok
 returns-in-Ok c =
     let (s, i, v, e) = c.in-Ok.ensures in
-    tested s i v (c.number_of.ensures ∙ c.fault.ensures ∙ ap sketch_fault e)
+    tested s i v (c.number_of.ensures ∙ c.sketch_fault.ensures ∙ ap sketch_fault e)
 
 pub returns-in-Err : goal.returns-in-Err
 returns-in-Err c =
