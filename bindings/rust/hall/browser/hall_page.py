@@ -200,7 +200,7 @@ class HallPage:
         self.expect_text("desk-count", str(desk))
 
     def expect_level(self):
-        """The wall comes level with the desk by itself."""
+        """The wall comes level by itself with the count that the desk has come to."""
         until(lambda: self.hall.state()["alike"],
               lambda: f"the wall stays behind by {self.hall.state()['behind']}")
         self.expect_alike()

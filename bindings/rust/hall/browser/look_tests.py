@@ -94,6 +94,7 @@ def pieces_cut_away_are_dashed(page):
         expect(page.count_pixels(canvas, AWAY, 20) == 0, f"red at the {canvas} before anything is cut")
     page.choose("trim")
     page.touch((60, 45))
+    page.expect_counts(1)
     page.expect_level()
     for canvas in ("desk", "wall"):
         def dashes():
@@ -222,6 +223,7 @@ def picture(page):
         page.touch(place)
     page.choose("extend")
     page.touch((30, 24))
+    page.expect_counts(4)
     page.expect_level()
     missed = page.hall.state()["radio"]["missed"]
     page.browser.click("#door")
